@@ -1,0 +1,5 @@
+pub mod Causes
+pub mod Cut
+pub mod Name
+pub mod Path
+pub mod Order

@@ -1,0 +1,41 @@
+//! The words that every other crate speaks: texts, names, paths, modes, digests and lists of them.
+//!
+//! A value of one of these types has been read: a [`Name`] is a name by the rule of names, a [`Path`] is within its
+//! limits, a [`Mode`] is one. Contracts see each as its bytes, its names or its number. Every crate of the repository
+//! stands on this one.
+#![tactic(auto)]
+
+mod cut;
+mod digest;
+mod list;
+mod memory;
+mod mode;
+mod name;
+mod order;
+mod path;
+#[cfg(test)]
+mod tests;
+mod text;
+mod which;
+
+pub use cut::cut_at;
+pub use digest::Digest;
+pub use list::ListOf;
+pub use memory::OutOfMemory;
+pub use mode::Mode;
+pub use name::{Name, NameErr};
+pub use path::{Path, PathErr};
+pub use text::Text;
+pub use which::Which;
+
+/// A list of names.
+pub type Names = ListOf<Name>;
+
+/// A list of paths.
+pub type Paths = ListOf<Path>;
+
+/// A list of texts, each the line of a text.
+pub type Lines = ListOf<Text>;
+
+/// A list of texts, each a word of a command.
+pub type Words = ListOf<Text>;

@@ -1,0 +1,109 @@
+ghost use Rattle.std.specs.Prelude.{◌≡◌, ◌↔◌, IsTrue, IfOk};
+ghost use Rattle.std.specs.List.{AllPass};
+ghost use Rattle.ext_text.specs.Name.{IsName, ReadsName, is_name_byte};
+
+use crate::memory::OutOfMemory;
+use std::alloc::{AllocError, Global};
+use std::marker::Model;
+use std::str;
+use thiserror::Error;
+
+/// The most bytes of a name.
+const MOST_BYTES: usize = 255;
+
+/// Why bytes are no name.
+#[derive(Clone, Copy, Debug, PartialEq, Eq, Error)]
+pub enum NameErr {
+    /// A growth was refused.
+    #[error("out of memory")]
+    OutOfMemory,
+    /// The bytes are no name.
+    #[error("not a name")]
+    BadName,
+}
+
+impl From<AllocError> for NameErr {
+    ghost use Rattle.std.specs.Prelude.{◌≡◌};
+    ghost use Rattle.ext_text.specs.declared.name.NameErr.TheVariants as errors;
+
+    ghost from_gives = { λ _ e. e ≡ errors.OutOfMemory };
+
+    fn from(_refused: AllocError) -> NameErr {
+        NameErr::OutOfMemory
+    }
+}
+
+/// The name of an entry: 1 to 255 bytes of UTF-8 without `/` and without control bytes, neither `.` nor `..`.
+/// Contracts see it as its bytes.
+#[derive(Debug, Drop)]
+pub struct Name {
+    bytes: Vec<u8>,
+}
+
+impl Model for Name {
+    ghost use Rattle.std.specs.Prelude.{ℕ, List};
+    ghost use Rattle.ext_text.specs.Name.{IsName};
+
+    ghost Value = { List ℕ };
+
+    ghost view = { λ n. n.bytes.items };
+
+    ghost invariant = { λ n. IsName n.bytes.items };
+}
+
+// No control byte and no `/`.
+fn is_name_byte(byte: u8) -> bool
+    ensures { result ≡ is_name_byte byte }
+{
+    byte >= b' ' && byte != 0x7F && byte != b'/'
+}
+
+// The rule of names.
+fn is_name(bytes: &[u8]) -> bool
+    ensures { IsTrue result ↔ IsName bytes.now }
+{
+    !bytes.is_empty()
+        && bytes.len() <= MOST_BYTES
+        && bytes != b".".as_slice()
+        && bytes != b"..".as_slice()
+        && bytes.iter().all(|byte| is_name_byte(*byte))
+        && str::from_utf8(bytes).is_ok()
+}
+
+impl Name {
+    /// The name of these bytes.
+    ///
+    /// # Errors
+    /// `BadName` exactly where the bytes are empty, more than 255, `.` or `..`, hold a `/`, a byte below 0x20 or 0x7F,
+    /// or are no UTF-8; `OutOfMemory`.
+    pub fn read(alloc: Global, bytes: &[u8]) -> Result<Name, NameErr>
+        ensures { ReadsName bytes.now result }
+    {
+        if !is_name(bytes) {
+            return Err(NameErr::BadName);
+        }
+        Ok(Name {
+            bytes: Vec::from_slice(alloc, bytes)?,
+        })
+    }
+
+    /// The bytes.
+    pub fn bytes(&self) -> &[u8]
+        ensures same { result.now ≡ self.now }
+        ensures name { IsName self.now }
+    {
+        self.bytes.as_slice()
+    }
+
+    /// An equal name.
+    ///
+    /// # Errors
+    /// Want of memory alone.
+    pub fn copy(&self) -> Result<Name, OutOfMemory>
+        ensures { IfOk result (λ copy. copy ≡ self.now) }
+    {
+        Ok(Name {
+            bytes: self.bytes.clone()?,
+        })
+    }
+}
