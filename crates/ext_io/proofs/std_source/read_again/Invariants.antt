@@ -1,0 +1,6 @@
+use Rattle.std.specs.Io.KnownBytes.{Keeps}
+use Rattle.ext_io.proofs.std_source.read_again.Given as goal
+
+-- no interrupted call has taken anything
+abbrev pub invariant-tries : goal.invariant-tries
+invariant-tries g l = Keeps (g.R.Read.remaining l.initial.reader) (g.R.Read.remaining l.reader)

@@ -1,0 +1,23 @@
+-- One call of a source in memory, exactly: what it answers, and the whole source after it.
+use Rattle.std.specs.Prelude.{◌≡◌, ℕ, min, length, drop, Contains, Result, Ok, Err}
+use Rattle.ext_io.specs.Count.{next_count}
+use Rattle.ext_io.specs.SourceView.{SourceView}
+
+-- the source after a call that gave n bytes
+abbrev pub source_after : SourceView → ℕ → SourceView
+source_after old n = record old { left = drop n old.left; calls = next_count old.calls }
+
+-- the source after a call that failed
+abbrev pub source_failed : SourceView → SourceView
+source_failed old = record old { calls = next_count old.calls; faults = next_count old.faults }
+
+-- the number of this call is in the list of those that fail
+abbrev pub SourceFails : SourceView → Type 0
+SourceFails old = Contains old.fails (next_count old.calls)
+
+-- a call with room for so many bytes: it fails exactly where it is listed, and gives as many bytes as there are, at most
+-- a piece and at most the room
+abbrev pub Reads : {E : Type 0} → SourceView → SourceView → ℕ → Result ℕ E → Type 0
+Reads old new room (Ok n) =
+    (¬ SourceFails old) × (n ≡ min (min old.piece room) (length old.left)) × (new ≡ source_after old n)
+Reads old new room (Err _) = SourceFails old × (new ≡ source_failed old)

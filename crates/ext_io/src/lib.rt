@@ -1,0 +1,32 @@
+//! The streams of the outside: where bytes are read from, and where they are written to.
+//!
+//! A [`Source`] and a [`Sink`] may tell contracts what is left of them and what was written, and each counts its faults,
+//! so that no answer blames a device that did nothing wrong. [`read_to_end`] and [`write_all`] are the two loops that the
+//! program is made of: they lose no byte, repeat none, and say of each refusal what was taken before it. [`MemorySource`]
+//! and [`MemorySink`] serve tests, [`StdSource`] and [`StdSink`] the program. The crates that read commands and packs,
+//! and those that write replies, stand on this one.
+#![tactic(auto)]
+
+mod failed;
+mod memory_sink;
+mod memory_source;
+mod sink;
+mod source;
+mod std_sink;
+mod std_source;
+#[cfg(test)]
+mod tests;
+mod whole;
+
+use ext_text::ListOf;
+pub use failed::Failed;
+pub use memory_sink::MemorySink;
+pub use memory_source::MemorySource;
+pub use sink::Sink;
+pub use source::Source;
+pub use std_sink::StdSink;
+pub use std_source::StdSource;
+pub use whole::{ReadErr, read_to_end, write_all};
+
+/// Numbers of calls of a device, counted from 1: the calls that fail.
+pub type Calls = ListOf<u64>;
