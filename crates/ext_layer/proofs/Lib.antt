@@ -1,0 +1,6 @@
+pub mod Fronts
+pub mod Verdicts
+pub mod Places
+pub mod Advance
+pub mod Showing
+pub mod Trees

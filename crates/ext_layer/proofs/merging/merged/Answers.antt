@@ -1,0 +1,12 @@
+use Rattle.std.proofs.Common.{arith}
+use Rattle.ext_layer.proofs.Advance.{advance_calls, rest_sorted}
+use Rattle.ext_layer.proofs.merging.merged.Goals as goal
+
+pub place_of-place-requires : goal.place_of-place-requires
+place_of-place-requires g c = rest_sorted c.uppers.from c.args.lower.now c.split_at.result.1.now c.requires.lower c.split_at.ensures.back
+
+pub uppers-preserved : goal.uppers-preserved
+uppers-preserved g c = record {
+  within = omega (arith, c.split_at.ensures.back_len, c.split_at-in-uppers.ensures.back_len, c.place_of-place.ensures.within, c.hidden_behind.ensures.within);
+  joined = advance_calls c.args.upper.now c.args.lower.now c.uppers.merged.items c.uppers.from c.laid_over.result c.requires.upper c.requires.lower c.uppers-test.true c.item-item.is c.split_at.ensures.back c.split_at-in-uppers.ensures.front c.split_at-in-uppers.ensures.back c.in_ok-append.ensures c.in_ok-push.ensures.items c.place_of-place.ensures.count c.laid_over.ensures c.hidden_behind.ensures.count c.uppers.invariant.joined;
+}

@@ -1,0 +1,3 @@
+pub mod Layered
+pub mod Verdicts
+pub mod Items

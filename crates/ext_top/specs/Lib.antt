@@ -1,0 +1,5 @@
+pub mod Words
+pub mod Refusals
+pub mod Statuses
+pub mod Layering
+pub mod Run

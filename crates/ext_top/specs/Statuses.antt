@@ -1,0 +1,13 @@
+-- The numbers of the statuses, with which the process ends.
+use Rattle.std.specs.Prelude.{ℕ}
+use Rattle.ext_top.specs.declared.status.Status.{Status}
+use Rattle.ext_top.specs.declared.status.Status.TheVariants.{Done, Refused, Usage, ReadFault, WriteFault, OutOfMemory, TooLong}
+
+abbrev pub status_number : Status → ℕ
+status_number Done = 0
+status_number (Refused refusal) = 1
+status_number (Usage place) = 2
+status_number ReadFault = 3
+status_number WriteFault = 4
+status_number OutOfMemory = 7
+status_number TooLong = 10

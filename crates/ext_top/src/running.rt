@@ -1,0 +1,83 @@
+ghost use Rattle.std.specs.Prelude.{◌≤◌};
+ghost use Rattle.ext_top.specs.Run.{AnswersSource, Completes, Runs, RunsLayer, streams};
+
+use crate::layering::layer_reply;
+use crate::status::Status;
+use crate::words::usage_of;
+use ext_io::{ReadErr, Sink, Source, read_to_end, write_all};
+use ext_text::{OutOfMemory, Text, Words};
+use std::alloc::Global;
+
+/// The most bytes of a source.
+const MOST_SOURCE: usize = 16_777_216;
+
+/// Runs the command that the words are, over a source and a sink.
+///
+/// The one command is `layer`: the source is a row of tree texts, the host first, and the text of the layered tree is
+/// written, each later tree above the earlier ones. The source is read to its end first, and for 16,777,217 bytes at the
+/// most. A source that is no row of tree texts, or whose layered tree has more than 262,144 entries, is refused, and the
+/// refusal's line is written.
+///
+/// Each status comes exactly where `Runs` says so; where no count rose and the source is within its limit, it is `Done`,
+/// `Refused` or `OutOfMemory`.
+pub fn run<S: Source, K: Sink>(alloc: Global, words: &Words, source: &mut S, sink: &mut K) -> Status
+    ensures runs { Runs words.now
+        (streams (S.left source.old) (S.faults source.old) (K.written sink.old) (K.faults sink.old))
+        (streams (S.left source.new) (S.faults source.new) (K.written sink.new) (K.faults sink.new)) result }
+    ensures complete { Completes words.now
+        (streams (S.left source.old) (S.faults source.old) (K.written sink.old) (K.faults sink.old))
+        (streams (S.left source.new) (S.faults source.new) (K.written sink.new) (K.faults sink.new)) result }
+    ensures read_count { S.faults source.old ≤ S.faults source.new }
+    ensures write_count { K.faults sink.old ≤ K.faults sink.new }
+{
+    run_words(alloc, words, source, sink)
+}
+
+// The run, by its status alone.
+fn run_words<S: Source, K: Sink>(
+    alloc: Global,
+    words: &Words,
+    source: &mut S,
+    sink: &mut K,
+) -> Status
+    ensures runs { Runs words.now
+        (streams (S.left source.old) (S.faults source.old) (K.written sink.old) (K.faults sink.old))
+        (streams (S.left source.new) (S.faults source.new) (K.written sink.new) (K.faults sink.new)) result }
+    ensures read_count { S.faults source.old ≤ S.faults source.new }
+    ensures write_count { K.faults sink.old ≤ K.faults sink.new }
+{
+    match usage_of(words) {
+        Some(place) => Status::Usage { place },
+        None => run_layer(alloc, source, sink),
+    }
+}
+
+// The run of `layer`.
+fn run_layer<S: Source, K: Sink>(alloc: Global, source: &mut S, sink: &mut K) -> Status
+    ensures runs { RunsLayer
+        (streams (S.left source.old) (S.faults source.old) (K.written sink.old) (K.faults sink.old))
+        (streams (S.left source.new) (S.faults source.new) (K.written sink.new) (K.faults sink.new)) result }
+    ensures read_count { S.faults source.old ≤ S.faults source.new }
+    ensures write_count { K.faults sink.old ≤ K.faults sink.new }
+{
+    match read_to_end(alloc, source, MOST_SOURCE) {
+        Ok(text) => answer(alloc, text, sink),
+        Err(ReadErr::OutOfMemory) => Status::OutOfMemory,
+        Err(ReadErr::Failed) => Status::ReadFault,
+        Err(ReadErr::TooLong) => Status::TooLong,
+    }
+}
+
+// Writes what is answered for the bytes of the source.
+fn answer<K: Sink>(alloc: Global, source: Text, sink: &mut K) -> Status
+    ensures answers { AnswersSource source (K.written sink.old) (K.written sink.new) (K.faults sink.old) (K.faults sink.new) result }
+    ensures write_count { K.faults sink.old ≤ K.faults sink.new }
+{
+    match layer_reply(alloc, source) {
+        Err(OutOfMemory) => Status::OutOfMemory,
+        Ok(reply) => match write_all(sink, reply.text.bytes()) {
+            Ok(()) => reply.status,
+            Err(_) => Status::WriteFault,
+        },
+    }
+}

@@ -1,0 +1,49 @@
+-- The text of a tree, line by line.
+use Rattle.std.proofs.Common.{Bor, ◌≡◌, ℕ, ◌-◌, ◌≤◌, List, [], ◌∷◌, ◌++◌, length, map, take, drop, get_or, refl, sym, ap, ◌∙◌, append_assoc, append-nil, arith}
+use Rattle.std.specs.Prelude.{codes}
+use Rattle.std.specs.List.{flat_map}
+use Rattle.std.proofs.lemmas.List.{take_all}
+use Rattle.std.proofs.lemmas.List.Folds.{flat_map-map}
+use Rattle.ext_text.specs.Path.{path_text}
+use Rattle.ext_tree.specs.declared.entry.Entry.{Entry}
+use Rattle.ext_tree.specs.declared.stamp.Stamp.{Stamp}
+use Rattle.ext_tree.specs.Tree.{Entries}
+use Rattle.ext_tree.specs.TreeText.{entry_line, tree_text}
+
+-- an entry's line with its newline
+abbrev pub whole_line : List (List ℕ) × Entry Stamp → List ℕ
+whole_line x = entry_line x ++ 10 ∷ []
+
+lines_then_end : (es : Entries Stamp) → flat_map (λ line. line ++ 10 ∷ []) (map entry_line es ++ codes "end" ∷ []) ≡ flat_map whole_line es ++ codes "end\n"
+lines_then_end [] = refl
+lines_then_end (e ∷ es) = ap (λ rest. whole_line e ++ rest) (lines_then_end es) ∙ sym (append_assoc (whole_line e) (flat_map whole_line es) (codes "end\n"))
+
+-- all lines have been printed
+pub all_printed : (es : Entries Stamp) (i : ℕ) (text : List ℕ) → length es ≤ i → text ≡ codes "hostext-tree 1\n" ++ flat_map whole_line (take i es) → text ++ codes "end\n" ≡ tree_text es
+all_printed es i text h is =
+    ap (λ t. t ++ codes "end\n") (is ∙ ap (λ done. codes "hostext-tree 1\n" ++ flat_map whole_line done) (take_all i es h))
+    ∙ ap (λ rest. codes "hostext-tree 1\n" ++ rest) (sym (lines_then_end es))
+
+-- a path's text is its first name, and each other name with its slash
+path_text-cons : (name : List ℕ) (names : List (List ℕ)) → path_text (name ∷ names) ≡ name ++ flat_map (λ n. 47 ∷ n) names
+path_text-cons name [] = sym (append-nil name)
+path_text-cons name (next ∷ names) = ap (λ rest. name ++ 47 ∷ rest) (path_text-cons next names)
+
+-- the same of a list that is taken apart by its length
+path_text-parts : (names : List (List ℕ)) (first : List ℕ) → 1 ≤ length names → first ≡ get_or names 0 first → path_text names ≡ first ++ flat_map (λ n. 47 ∷ n) (take (length names - 1) (drop 1 names))
+path_text-parts [] first h is = absurd (omega arith)
+path_text-parts (name ∷ names) first h is =
+    path_text-cons name names ∙ (λ i. sym is i ++ flat_map (λ n. 47 ∷ n) (sym (take_all (length (name ∷ names) - 1) names (omega arith)) i))
+
+-- what is there once the first name and then the others have been printed
+pub path_printed : (old mid new : List ℕ) (names : List (List ℕ)) (first : List ℕ) → 1 ≤ length names → first ≡ get_or names 0 first → mid ≡ old ++ first → new ≡ mid ++ flat_map (λ n. 47 ∷ n) (take (length names - 1) (drop 1 names)) → new ≡ old ++ path_text names
+path_printed old mid new names first h is begun done =
+    let rest = flat_map (λ n. 47 ∷ n) (take (length names - 1) (drop 1 names)) in
+    done ∙ ap (λ t. t ++ rest) begun ∙ append_assoc old first rest ∙ ap (λ t. old ++ t) (sym (path_text-parts names first h is))
+
+-- all lines of entries that are borrowed have been printed
+pub all_printed_borrowed : (es : List (Bor (List (List ℕ) × Entry Stamp))) (i : ℕ) (text : List ℕ) → length es ≤ i → text ≡ codes "hostext-tree 1\n" ++ flat_map (λ x. whole_line x.now) (take i es) → text ++ codes "end\n" ≡ tree_text (map (λ x. x.now) es)
+all_printed_borrowed es i text h is =
+    all_printed (map (λ x. x.now) es) (length (map (λ x. x.now) es)) text (omega arith)
+    (is ∙ ap (λ done. codes "hostext-tree 1\n" ++ flat_map (λ x. whole_line x.now) done) (take_all i es h)
+    ∙ ap (λ lines. codes "hostext-tree 1\n" ++ lines) (sym (flat_map-map whole_line (λ x. x.now) es) ∙ ap (flat_map whole_line) (sym (take_all (length (map (λ x. x.now) es)) (map (λ x. x.now) es) (omega arith)))))

@@ -1,0 +1,25 @@
+use Rattle.std.proofs.Common.{◌<◌, length, subst, sym, ◌∙◌, arith}
+use Rattle.std.proofs.lemmas.Int.Digits.{digits_more}
+use Rattle.std.specs.Char.{digit_value}
+use Rattle.ext_tree.proofs.LineNumbers.{digit_within, value_more, value_within}
+use Rattle.ext_tree.proofs.fields.value_of.Goals as goal
+
+pub returns-in_err-digit : goal.returns-in_err-digit
+returns-in_err-digit c =
+    rw c.from_residual.ensures (λ all within. c.in_err-digit.ensures.value (subst (λ b. digit_value b < c.args.base) (sym c.from.ensures) (digit_within c.args.base c.args.digits.now c.digits.byte-index (omega arith) all)))
+
+pub returns-then-value-most : goal.returns-then-value-most
+returns-then-value-most c =
+    λ all within.
+    let inside : c.digits.byte-index < length c.args.digits.now = omega arith in
+    let more = value_more c.args.base c.args.digits.now c.digits.byte-index _ _ _ _ inside c.digits.invariant.value c.from-in-digits.ensures (c.from-in-digits-2.ensures ∙ c.in_ok-digit.ensures.value.1) c.from.ensures in
+    value_within c.args.base c.args.most c.args.digits.now _ _ c.requires.low more within c.if-value-most.true
+
+pub digits-preserved : goal.digits-preserved
+digits-preserved c =
+    let inside : c.digits.byte-index < length c.args.digits.now = omega arith in
+    record {
+      digits = digits_more c.args.base c.args.digits.now c.digits.byte-index inside c.digits.invariant.digits (subst (λ b. digit_value b < c.args.base) c.from.ensures c.in_ok-digit.ensures.value.0);
+      value = value_more c.args.base c.args.digits.now c.digits.byte-index _ _ _ _ inside c.digits.invariant.value c.from-in-digits.ensures (c.from-in-digits-2.ensures ∙ c.in_ok-digit.ensures.value.1) c.from.ensures;
+      within = c.if-value-most.false;
+    }

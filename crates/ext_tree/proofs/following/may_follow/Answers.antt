@@ -1,0 +1,10 @@
+use Rattle.ext_tree.proofs.LastEntry.{may_first, may_next}
+use Rattle.ext_tree.proofs.following.may_follow.Goals as goal
+use Rattle.std.proofs.Common.{arith}
+
+pub returns-in-empty : goal.returns-in-empty
+returns-in-empty g c = may_first c.args.entries.now c.names-names.result.now c.args.path.now c.in-empty.len_below c.names-names.ensures.same c.names-names.ensures.path
+
+pub returns-in-len1-up : goal.returns-in-len1-up
+returns-in-len1-up g c =
+    may_next c.args.entries.now c.last-item.result c.args.path.now c.stands_after.result (omega arith) c.last-item.is c.requires c.names-names.ensures.path c.stands_after.ensures

@@ -1,0 +1,5 @@
+use Rattle.ext_tree.proofs.LawsOfTexts.{text_law}
+use Rattle.ext_tree.proofs.laws.one_text_of_tree.Goals as goal
+
+pub returns : goal.returns
+returns c = text_law

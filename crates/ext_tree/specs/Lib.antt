@@ -1,0 +1,9 @@
+pub mod Tree
+pub mod Laws
+pub mod Refusals
+pub mod Place
+pub mod TreeText
+pub mod Printing
+pub mod FirstFault
+pub mod Reading
+pub mod TextLaws

@@ -1,0 +1,47 @@
+-- Trees: finite maps from the paths of entries to entries. A tree is seen as the list of its entries in path order, and
+-- what it has at a path is a look-up in that list.
+use Rattle.std.specs.Prelude.{◌≡◌, ℕ, ◌≤◌, Bool, true, false, List, [], ◌∷◌, length, IsTrue, Option, Some, None, is_some}
+use Rattle.std.specs.FinMap.{find, is_sorted}
+use Rattle.ext_text.specs.Path.{IsPath, path_cmp, parent}
+use Rattle.ext_tree.specs.declared.entry.Entry.{Entry}
+use Rattle.ext_tree.specs.declared.entry.Entry.TheVariants.{Dir, File, Link}
+
+-- paths with what stands there
+abbrev pub Entries : Type 0 → Type 0
+Entries C = List (List (List ℕ) × Entry C)
+
+-- what stands at a path
+abbrev pub lookup : {C : Type 0} → Entries C → List (List ℕ) → Option (Entry C)
+lookup es p = find path_cmp p es
+
+abbrev pub is_dir : {C : Type 0} → Entry C → Bool
+is_dir (Dir mode) = true
+is_dir (File mode content) = false
+is_dir (Link target) = false
+
+-- a directory stands there
+abbrev pub is_dir_at : {C : Type 0} → Option (Entry C) → Bool
+is_dir_at None = false
+is_dir_at (Some e) = is_dir e
+
+-- the path is the root, or a directory stands there
+abbrev pub is_folder : {C : Type 0} → Entries C → List (List ℕ) → Bool
+is_folder es [] = true
+is_folder es (n ∷ p) = is_dir_at (lookup es (n ∷ p))
+
+-- Each path once and in path order, none of them the root, each within the limits of a path, and each directly in a
+-- directory or in the root. So every proper front of a path that is not the root has a directory.
+pub record IsTree {C : Type 0} (es : Entries C) : Type 0 where
+  pub sorted : IsTrue (is_sorted path_cmp es)
+  pub root : lookup es [] ≡ None
+  pub paths : (p : List (List ℕ)) → IsTrue (is_some (lookup es p)) → IsPath p
+  pub parents : (p : List (List ℕ)) → IsTrue (is_some (lookup es p)) → IsTrue (is_folder es (parent p))
+
+-- the most entries of a tree
+abbrev pub most_entries : ℕ
+most_entries = 262144
+
+-- a tree of at most so many entries
+pub record IsTreeWithin {C : Type 0} (es : Entries C) : Type 0 where
+  pub tree : IsTree es
+  pub count : length es ≤ most_entries

@@ -1,0 +1,41 @@
+ghost use Rattle.std.specs.Prelude.{◌≡◌, IfOk};
+
+use ext_text::{Mode, OutOfMemory, Text};
+use std::alloc::Global;
+
+/// What stands at a path.
+#[derive(Debug, Drop)]
+pub enum Entry<C> {
+    /// A directory with its mode.
+    Dir(Mode),
+    /// A file with its mode and what is known of its bytes.
+    File(Mode, C),
+    /// A symbolic link with its target's text, which is followed nowhere here.
+    Link(Text),
+}
+
+/// Contents that can be copied.
+pub trait Held1: Sized {
+    /// An equal value.
+    ///
+    /// # Errors
+    /// Want of memory alone.
+    fn copy(&self, alloc: Global) -> Result<Self, OutOfMemory>
+        ensures { IfOk result (λ copy. copy ≡ self.now) };
+}
+
+impl<C: Held1> Entry<C> {
+    /// An equal entry.
+    ///
+    /// # Errors
+    /// Want of memory alone.
+    pub fn copy(&self, alloc: Global) -> Result<Entry<C>, OutOfMemory>
+        ensures { IfOk result (λ copy. copy ≡ self.now) }
+    {
+        match self {
+            Entry::Dir(mode) => Ok(Entry::Dir(*mode)),
+            Entry::File(mode, content) => Ok(Entry::File(*mode, content.copy(alloc)?)),
+            Entry::Link(target) => Ok(Entry::Link(target.copy()?)),
+        }
+    }
+}

@@ -1,0 +1,28 @@
+//! Trees of entries, and their text.
+//!
+//! A [`Tree`] is a finite map from paths to entries in which every proper front of a path is a directory. A tree text
+//! is read into its tree and a tree is printed as its one text; what is no text is refused at its first faulty line.
+//! The crates that layer, search and change trees stand on this one.
+#![tactic(auto)]
+
+mod entry;
+mod fields;
+mod following;
+pub mod laws;
+mod lines;
+mod places;
+mod reading;
+mod stamp;
+#[cfg(test)]
+mod tests;
+mod tree;
+mod writing;
+
+pub use entry::{Entry, Held1};
+pub use reading::{TreeTextErr, read_tree, read_trees};
+pub use stamp::Stamp;
+pub use tree::{MOST_ENTRIES, Tree, TreeErr};
+pub use writing::{write_entries, write_tree};
+
+/// A list of trees whose files are known by their stamps.
+pub type Trees = ext_text::ListOf<Tree<Stamp>>;

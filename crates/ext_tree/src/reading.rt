@@ -1,0 +1,200 @@
+// Reads tree texts line by line. What was read so far is known to be the start of a text, so each line is judged by the
+// entries before it alone, and the first line that may not stand there is the first faulty one.
+ghost use Rattle.std.specs.Prelude.{◌≡◌, ◌+◌, ◌<◌, ◌≤◌, ◌^◌, ◌↔◌, [], ◌∷◌, ◌++◌, length, MatchResult, IfOk, IsTrue};
+ghost use Rattle.ext_tree.specs.declared.entry.Entry.{Entry};
+ghost use Rattle.ext_tree.specs.declared.stamp.Stamp.{Stamp};
+ghost use Rattle.ext_tree.specs.FirstFault.{ReadsTree, ReadsRow};
+ghost use Rattle.ext_tree.specs.TreeText.{HasLine, HasText};
+ghost use Rattle.ext_tree.specs.Reading.{Judges, BeginsBody, BodyFault, BeginsText, TextFault};
+
+use crate::Trees;
+use crate::entry::Entry;
+use crate::following::may_follow;
+use crate::lines::entry_of_line;
+use crate::stamp::Stamp;
+use crate::tree::{MOST_ENTRIES, Tree};
+use ext_text::{ListOf, OutOfMemory, Path, cut_at};
+use std::alloc::{AllocFailed, Global};
+use thiserror::Error;
+
+/// The first line of a tree text.
+const HEADER: &[u8] = b"hostext-tree 1";
+
+/// The last line of a tree text.
+const END: &[u8] = b"end";
+
+/// Why bytes are not read as trees.
+#[derive(Clone, Copy, Debug, PartialEq, Eq, Error)]
+pub enum TreeTextErr {
+    /// A growth was refused.
+    #[error("out of memory")]
+    OutOfMemory,
+    /// The bytes are no tree text, or no row of them; the line is the first faulty one, counted from 1.
+    #[error("faulty tree text at line {line}")]
+    BadTree {
+        /// The first faulty line.
+        line: u64,
+    },
+}
+
+impl From<OutOfMemory> for TreeTextErr {
+    ghost use Rattle.std.specs.Prelude.{◌≡◌};
+    ghost use Rattle.ext_tree.specs.declared.reading.TreeTextErr.TheVariants as errors;
+
+    ghost from_gives = { λ _ e. e ≡ errors.OutOfMemory };
+
+    fn from(_refused: OutOfMemory) -> TreeTextErr {
+        TreeTextErr::OutOfMemory
+    }
+}
+
+impl<T: Drop> From<AllocFailed<T>> for TreeTextErr {
+    ghost use Rattle.std.specs.Prelude.{◌≡◌};
+    ghost use Rattle.ext_tree.specs.declared.reading.TreeTextErr.TheVariants as errors;
+
+    ghost from_gives = { λ _ e. e ≡ errors.OutOfMemory };
+
+    fn from(_refused: AllocFailed<T>) -> TreeTextErr {
+        TreeTextErr::OutOfMemory
+    }
+}
+
+// What a line is behind the lines of entries.
+#[derive(Drop)]
+enum Line {
+    // The last line of their text.
+    End,
+    // The line of one more entry.
+    Item(Path, Entry<Stamp>),
+    // No line that may stand there.
+    Fault,
+}
+
+// The entries of a text, and where it ends.
+#[derive(Drop)]
+struct Body<'a> {
+    entries: Vec<(Path, Entry<Stamp>)>,
+    // The bytes behind the text.
+    rest: &'a [u8],
+    // The number of the line behind the text.
+    line: u64,
+}
+
+/// The tree of a tree text, behind which nothing may stand.
+///
+/// # Errors
+/// `BadTree` exactly where the bytes are no tree text. Its line, counted from 1, is the first with which no tree text
+/// begins; where the bytes stop early, it is the line behind their last newline, also where that line has begun.
+/// `OutOfMemory` may come at any time.
+pub fn read_tree(alloc: Global, bytes: &[u8]) -> Result<Tree<Stamp>, TreeTextErr>
+    ensures { ReadsTree bytes.now result }
+{
+    let text = read_text(alloc, bytes, 1)?;
+    if text.rest.is_empty() {
+        Ok(Tree::from_pairs(text.entries))
+    } else {
+        Err(TreeTextErr::BadTree { line: text.line })
+    }
+}
+
+/// The trees of one or more tree texts in a row, in their order.
+///
+/// # Errors
+/// `BadTree` exactly where the bytes are no such row; the empty bytes are none. Its line is as for `read_tree`, and the
+/// lines are counted through all the texts. `OutOfMemory` may come at any time.
+pub fn read_trees(alloc: Global, bytes: &[u8]) -> Result<Trees, TreeTextErr>
+    ensures { ReadsRow bytes.now result }
+{
+    let mut trees = Vec::new(alloc);
+    let mut rest = bytes;
+    let mut line = 1;
+    'texts: loop {
+        let text = read_text(alloc, rest, line)?;
+        trees.push(Tree::from_pairs(text.entries))?;
+        if text.rest.is_empty() {
+            return Ok(ListOf::from_vec(trees));
+        }
+        rest = text.rest;
+        line = text.line;
+    }
+}
+
+// The text at the start of the bytes, whose first line has this number.
+fn read_text(alloc: Global, bytes: &[u8], line: u64) -> Result<Body, TreeTextErr>
+    requires { line + length bytes.now ≤ 2 ^ 64 }
+    ensures { MatchResult result (λ body. BeginsText bytes.now line body.entries.items body.rest.now body.line) (TextFault bytes.now line) }
+{
+    match cut_at(bytes, b'\n') {
+        None => Err(TreeTextErr::BadTree { line }),
+        Some((header, body)) => {
+            if header == HEADER {
+                read_body(alloc, body, line + 1)
+            } else {
+                Err(TreeTextErr::BadTree { line })
+            }
+        }
+    }
+}
+
+// The entries and the last line of a text at the start of the bytes; their first line has this number.
+fn read_body(alloc: Global, bytes: &[u8], first: u64) -> Result<Body, TreeTextErr>
+    requires { first + length bytes.now < 2 ^ 64 }
+    ensures { MatchResult result (λ body. BeginsBody bytes.now first body.entries.items body.rest.now body.line) (BodyFault bytes.now first) }
+{
+    let mut entries = Vec::new(alloc);
+    let mut rest = bytes;
+    let mut line = first;
+    'lines: loop {
+        match cut_at(rest, b'\n') {
+            None => return Err(TreeTextErr::BadTree { line }),
+            Some((text, behind)) => match judge(alloc, entries.as_slice(), text)? {
+                Line::Fault => return Err(TreeTextErr::BadTree { line }),
+                Line::End => {
+                    // A row may hold very many small trees.
+                    entries.shrink_to_fit();
+                    return Ok(Body {
+                        entries,
+                        rest: behind,
+                        line: line + 1,
+                    });
+                }
+                Line::Item(path, entry) => {
+                    entries.push((path, entry))?;
+                    rest = behind;
+                    line += 1;
+                }
+            },
+        }
+    }
+}
+
+// What the line is behind the lines of the entries.
+fn judge(alloc: Global, entries: &[(Path, Entry<Stamp>)], line: &[u8]) -> Result<Line, OutOfMemory>
+    requires { HasText entries.now }
+    ensures { IfOk result (Judges entries.now line.now) }
+{
+    if line == END {
+        return Ok(Line::End);
+    }
+    match entry_of_line(alloc, line)? {
+        None => Ok(Line::Fault),
+        Some((path, entry)) => {
+            if may_add(entries, &path) {
+                Ok(Line::Item(path, entry))
+            } else {
+                Ok(Line::Fault)
+            }
+        }
+    }
+}
+
+// Whether the entries with one more at this path still have a text.
+fn may_add(entries: &[(Path, Entry<Stamp>)], path: &Path) -> bool
+    requires { HasText entries.now }
+    ensures { (e : Entry Stamp) → HasLine (path.now, e) → (IsTrue result ↔ HasText (entries.now ++ (path.now, e) ∷ [])) }
+{
+    entries.len() < MOST_ENTRIES && may_follow(entries, path)
+}
+
+#[cfg(test)]
+mod tests;

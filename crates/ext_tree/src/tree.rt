@@ -1,0 +1,164 @@
+ghost use Rattle.std.specs.Prelude.{◌≡◌, ◌≤◌, nat_le, [], length, slice_get, OnOk, OnErr};
+ghost use Rattle.std.specs.Option.{option_copied, option_map};
+ghost use Rattle.std.specs.FinMap.{put};
+ghost use Rattle.ext_text.specs.Path.{path_cmp};
+ghost use Rattle.ext_tree.specs.Tree.{IsTree, IsTreeWithin, lookup, most_entries};
+ghost use Rattle.ext_tree.specs.Place.{place};
+ghost use Rattle.ext_tree.specs.Refusals.{Refuses, insert_refusal};
+
+use crate::entry::Entry;
+use crate::places::{entry_at, entry_of, is_folder, place_of};
+use ext_text::Path;
+use std::alloc::{AllocFailed, Global};
+use std::marker::Model;
+use thiserror::Error;
+
+/// The most entries of a tree.
+pub const MOST_ENTRIES: usize = 262_144;
+
+/// Why a tree refuses a change.
+#[derive(Clone, Copy, Debug, PartialEq, Eq, Error)]
+pub enum TreeErr {
+    /// A growth was refused.
+    #[error("out of memory")]
+    OutOfMemory,
+    /// An entry stands there, or the path is the root.
+    #[error("an entry stands there")]
+    Exists,
+    /// A proper front of the path is absent or no directory.
+    #[error("a front of the path is no directory")]
+    NotDirectory,
+    /// The tree has 262,144 entries.
+    #[error("more than 262,144 entries")]
+    Limit,
+}
+
+impl<T: Drop> From<AllocFailed<T>> for TreeErr {
+    ghost use Rattle.std.specs.Prelude.{◌≡◌};
+    ghost use Rattle.ext_tree.specs.declared.tree.TreeErr.TheVariants as errors;
+
+    ghost from_gives = { λ _ e. e ≡ errors.OutOfMemory };
+
+    fn from(_refused: AllocFailed<T>) -> TreeErr {
+        TreeErr::OutOfMemory
+    }
+}
+
+/// A finite map from paths to entries in which every proper front of a path is a directory; it has at most 262,144
+/// entries. Contracts see it as the list of its entries in path order.
+#[derive(Debug, Drop)]
+pub struct Tree<C> {
+    entries: Vec<(Path, Entry<C>)>,
+}
+
+impl<C> Model for Tree<C> {
+    ghost use Rattle.ext_tree.specs.Tree.{Entries, IsTreeWithin};
+
+    ghost Value = { Entries C };
+
+    ghost view = { λ t. t.entries.items };
+
+    ghost invariant = { λ t. IsTreeWithin t.entries.items };
+}
+
+impl<C> Tree<C> {
+    /// The empty tree.
+    pub fn new(alloc: Global) -> Tree<C>
+        ensures { result ≡ [] }
+    {
+        Tree {
+            entries: Vec::new(alloc),
+        }
+    }
+
+    /// The tree of these entries, which are not copied.
+    pub fn from_pairs(entries: Vec<(Path, Entry<C>)>) -> Tree<C>
+        requires { IsTreeWithin entries.items }
+        ensures { result ≡ entries.items }
+    {
+        Tree { entries }
+    }
+
+    /// The entries with their paths, in path order.
+    pub fn pairs(&self) -> &[(Path, Entry<C>)]
+        ensures same { result.now ≡ self.now }
+        ensures tree { IsTreeWithin self.now }
+    {
+        self.entries.as_slice()
+    }
+
+    /// The entries with their paths, in path order, which are not copied.
+    pub fn into_pairs(self) -> Vec<(Path, Entry<C>)>
+        ensures { result.items ≡ self }
+    {
+        self.entries
+    }
+
+    /// What stands at the path; `None` exactly where nothing does.
+    pub fn get(&self, path: &Path) -> Option<&Entry<C>>
+        ensures { option_copied result ≡ lookup self.now path.now }
+    {
+        entry_of(self.entries.as_slice(), path.names())
+    }
+
+    /// How many entries there are.
+    pub fn entries(&self) -> u64
+        ensures count { result ≡ length self.now }
+        ensures within { result ≤ most_entries }
+    {
+        self.entries.len() as u64
+    }
+
+    /// The entry at a place in path order, counted from 0, with its path; `None` exactly past the last.
+    pub fn at(&self, place: u64) -> Option<(&Path, &Entry<C>)>
+        ensures { option_map (λ x. (x.0.now, x.1.now)) result ≡ slice_get self.now place }
+    {
+        let (path, entry) = self.entries.get(place as usize)?;
+        Some((path, entry))
+    }
+}
+
+impl<C: Drop> Tree<C> {
+    /// Puts an entry at a path where none stands.
+    ///
+    /// # Errors
+    /// The first of these: `Exists` exactly where an entry stands there or the path is the root; `NotDirectory` exactly
+    /// where a proper front of the path is absent or no directory; `Limit` exactly at 262,144 entries. `OutOfMemory`
+    /// comes only where none of them does. After any of them the tree is as before.
+    pub fn insert(&mut self, path: Path, entry: Entry<C>) -> Result<(), TreeErr>
+        ensures ok { OnOk result (self.new ≡ put path_cmp path entry self.old) }
+        ensures refused { Refuses result (insert_refusal self.old path) }
+        ensures err { OnErr result (self.new ≡ self.old) }
+    {
+        let entries = self.entries.as_slice();
+        let place = place_of(entries, path.names());
+        match refusal_at(entries, &path, place) {
+            Some(refusal) => Err(refusal),
+            None => Ok(self.entries.insert(place, (path, entry))?),
+        }
+    }
+}
+
+// Whether no more entries fit.
+fn is_full(entries: usize) -> bool
+    ensures { result ≡ nat_le most_entries entries }
+{
+    entries >= MOST_ENTRIES
+}
+
+// Why no entry may be put at the path, whose place among the entries is known.
+fn refusal_at<C>(entries: &[(Path, Entry<C>)], path: &Path, index: usize) -> Option<TreeErr>
+    requires tree { IsTree entries.now }
+    requires place { index ≡ place path_cmp path.now entries.now }
+    ensures { result ≡ insert_refusal entries.now path.now }
+{
+    if path.names().is_empty() || entry_at(entries, path.names(), index).is_some() {
+        Some(TreeErr::Exists)
+    } else if !is_folder(entries, path.parent()) {
+        Some(TreeErr::NotDirectory)
+    } else if is_full(entries.len()) {
+        Some(TreeErr::Limit)
+    } else {
+        None
+    }
+}
