@@ -1,16 +1,14 @@
 -- Where an upper entry lies in a lower list: behind what stands before its path, in place of the row that it hides.
-use Rattle.std.proofs.Common.{◌≡◌, ℕ, zero, suc, ◌+◌, ◌<◌, Bool, true, false, cond, not, ◌&&◌, ◌||◌, T, List, [], ◌∷◌, ◌++◌, length, get_or, take, drop, Option, Some, None, refl, sym, ap, ◌∙◌, subst, arith}
+use Rattle.std.proofs.Common.{◌≡◌, ℕ, zero, suc, ◌+◌, ◌<◌, Bool, true, false, cond, not, ◌&&◌, ◌||◌, T, List, [], ◌∷◌, ◌++◌, length, get_or, take, drop, Some, refl, sym, ap, ◌∙◌, subst, arith}
 use Rattle.std.proofs.lemmas.Bool.{false≢true, false_from_ne_true, and_parts, and_from, and_right, not-true}
-use Rattle.std.specs.declared.cmp.Ordering.{Ordering}
 use Rattle.std.specs.declared.cmp.Ordering.TheVariants.{Less, Equal, Greater}
 use Rattle.std.specs.Ordering.{is_lt, is_eq, eq_by_cmp, ordering_reverse}
-use Rattle.std.specs.Cmp.{Equal-is, tied_itself}
+use Rattle.std.specs.Cmp.{tied_itself}
 use Rattle.std.specs.List.{prefix_len}
 use Rattle.std.specs.FinMap.{find, put, is_sorted}
 use Rattle.std.specs.FinMap.Entries.{below_all, where_key, by_order}
 use Rattle.ext_text.specs.Path.{path_cmp, is_front}
 use Rattle.ext_text.specs.Order.{paths_exact, paths_total}
-use Rattle.ext_tree.specs.Tree.{Entries}
 use Rattle.ext_tree.specs.declared.entry.Entry.{Entry}
 use Rattle.ext_layer.specs.Verdicts.{Marked, cuts_at, hides, over_entry, lay, over, place, hidden, over_first}
 use Rattle.ext_layer.proofs.Fronts.{is_true, as_test, less, same_path, tied_path, front_self, front_order, convex, absent}

@@ -1,21 +1,20 @@
 -- What a row of layers says at each path is what shows there, and what shows of trees is a tree.
-use Rattle.std.proofs.Common.{◌≡◌, ℕ, suc, ◌-◌, ◌<◌, Bool, true, false, cond, not, ◌&&◌, ◌||◌, T, List, [], ◌∷◌, ◌++◌, length, map, take, drop, Option, Some, None, refl, sym, ap, ◌∙◌, subst, arith}
-use Rattle.std.proofs.lemmas.Bool.{false≢true, true≢false, and_parts, and_from, not-true, false_from_ne_true, not_from_false}
+use Rattle.std.proofs.Common.{◌≡◌, ℕ, ◌<◌, Bool, true, false, cond, not, ◌&&◌, List, [], ◌∷◌, ◌++◌, length, map, take, drop, Option, Some, None, refl, sym, ap, ◌∙◌, subst, arith}
+use Rattle.std.proofs.lemmas.Bool.{false≢true, and_parts, and_from, not-true, false_from_ne_true, not_from_false}
 use Rattle.std.proofs.lemmas.List.{take-append-drop}
 use Rattle.std.specs.Option.{option_map}
 use Rattle.std.specs.List.{AllByRecursion}
 use Rattle.std.specs.Ordering.{is_lt, eq_by_cmp}
 use Rattle.std.specs.FinMap.{find, is_sorted}
-use Rattle.std.specs.FinMap.Entries.{below_all, same_entries}
-use Rattle.ext_text.specs.Path.{IsPath, path_cmp, is_front, parent}
-use Rattle.ext_text.specs.Order.{paths_exact, paths_total}
-use Rattle.ext_tree.specs.Tree.{Entries, IsTree, IsTreeWithin, lookup, is_dir, is_dir_at, is_folder}
+use Rattle.std.specs.FinMap.Entries.{below_all}
+use Rattle.ext_text.specs.Path.{path_cmp, is_front}
+use Rattle.ext_tree.specs.Tree.{Entries, IsTree, IsTreeWithin, lookup, is_dir}
 use Rattle.ext_tree.specs.declared.entry.Entry.{Entry}
-use Rattle.ext_layer.specs.Layered.{IsLayered, Passes, Shows, is_proper_front, is_solid_at}
+use Rattle.ext_layer.specs.Layered.{Passes, Shows, is_proper_front, is_solid_at}
 use Rattle.ext_layer.specs.declared.item.Item.{Item}
 use Rattle.ext_layer.specs.Items.{all_seen}
 use Rattle.ext_layer.specs.Verdicts.{Joins, Marked, Verdict, shown_as, cut_off, let_pass, first_of_two, some_front, cuts_at, judged, verdict, marked, unmarked, row_verdict, over}
-use Rattle.ext_layer.proofs.Fronts.{is_true, as_test, front_self, front_trans, front_both, some_front-none, some_front-at}
+use Rattle.ext_layer.proofs.Fronts.{is_true, as_test, front_both, some_front-none, some_front-at}
 use Rattle.ext_layer.proofs.Verdicts.{none_verdict, over_verdict, sorted_over, row_verdict-append}
 
 -- other values at the same keys

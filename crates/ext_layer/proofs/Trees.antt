@@ -1,14 +1,14 @@
 -- What shows of trees is a tree, and there is one such tree.
-use Rattle.std.proofs.Common.{◌≡◌, ℕ, zero, suc, ◌-◌, ◌<◌, ◌≤◌, Bool, true, false, cond, not, ◌&&◌, List, [], ◌∷◌, ◌++◌, length, take, Option, Some, None, refl, sym, ap, ◌∙◌, subst, arith}
-use Rattle.std.proofs.lemmas.Bool.{false≢true, true≢false, and_parts, and_from, and_right, not-true, not-false, false_from_ne_true, not_from_false}
+use Rattle.std.proofs.Common.{◌≡◌, ℕ, zero, suc, ◌-◌, ◌<◌, ◌≤◌, Bool, true, false, not, List, [], ◌∷◌, ◌++◌, length, take, Option, Some, None, refl, sym, ap, ◌∙◌, subst, arith}
+use Rattle.std.proofs.lemmas.Bool.{false≢true, and_parts, and_from, and_right, not-true, not-false, false_from_ne_true, not_from_false}
 use Rattle.std.proofs.lemmas.List.{length-map}
 use Rattle.std.specs.Option.{option_map, is_some}
 use Rattle.std.specs.List.{AllByRecursion}
-use Rattle.std.specs.FinMap.{find, is_sorted}
+use Rattle.std.specs.FinMap.{find}
 use Rattle.std.specs.FinMap.Entries.{same_entries}
 use Rattle.ext_text.specs.Name.{name_cmp}
 use Rattle.std.specs.Ordering.{eq_by_cmp}
-use Rattle.ext_text.specs.Path.{IsPath, path_cmp, is_front, parent}
+use Rattle.ext_text.specs.Path.{path_cmp, is_front, parent}
 use Rattle.ext_text.specs.Order.{paths_exact, paths_total}
 use Rattle.ext_tree.specs.Tree.{Entries, IsTree, lookup, is_dir, is_dir_at, is_folder, most_entries}
 use Rattle.ext_tree.specs.declared.entry.Entry.{Entry}
@@ -16,7 +16,7 @@ use Rattle.ext_layer.specs.Layered.{IsLayered, Passes, Shows, is_proper_front, i
 use Rattle.ext_layer.specs.declared.item.Item.{Item}
 use Rattle.ext_layer.specs.Items.{seen, all_seen}
 use Rattle.ext_layer.specs.Verdicts.{Joins, Marked, Verdict, shown_as, cut_off, let_pass, first_of_two, some_front, cuts_at, judged, verdict, marked, unmarked, row_verdict}
-use Rattle.ext_layer.proofs.Fronts.{as_test, front_self, front_trans, tied_path}
+use Rattle.ext_layer.proofs.Fronts.{as_test, front_self, front_trans}
 use Rattle.ext_layer.proofs.Showing.{is_sorted-map, with_mark, without_mark, find_marked, lookup_unmarked, layer_passes, shown_unmarked, unmarked_shown, row_from_shows, shows_from_row}
 
 front_take : (n : ℕ) (p : List (List ℕ)) → is_front (take n p) p ≡ true

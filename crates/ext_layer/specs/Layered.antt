@@ -1,7 +1,7 @@
 -- Layers, as systemd-sysext(8) and overlayfs join them, stated of each path by itself. They stand topmost first, and the
 -- host is the last of them. A directory that stands in several layers has the mode of the topmost. Where a file or a link
 -- stands, nothing below it comes from lower layers.
-use Rattle.std.specs.Prelude.{◌≡◌, ℕ, ◌<◌, ◌≤◌, Bool, true, false, not, ◌&&◌, List, [], ◌∷◌, ◌++◌, length, IsTrue, Option, Some, None, Result, Ok, Err}
+use Rattle.std.specs.Prelude.{◌≡◌, ℕ, ◌<◌, ◌≤◌, Bool, false, not, ◌&&◌, List, ◌∷◌, ◌++◌, length, IsTrue, Option, Some, None, Result, Ok, Err}
 use Rattle.std.specs.List.{AllByRecursion}
 use Rattle.ext_text.specs.Path.{is_front}
 use Rattle.ext_tree.specs.Tree.{Entries, IsTree, lookup, is_dir, most_entries}

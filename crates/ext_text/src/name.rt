@@ -3,6 +3,7 @@ ghost use Rattle.std.specs.List.{AllPass};
 ghost use Rattle.ext_text.specs.Name.{IsName, ReadsName, is_name_byte};
 
 use crate::memory::OutOfMemory;
+use smallvec::SmallVec;
 use std::alloc::{AllocError, Global};
 use std::marker::Model;
 use std::str;
@@ -10,6 +11,9 @@ use thiserror::Error;
 
 /// The most bytes of a name.
 const MOST_BYTES: usize = 255;
+
+/// The bytes of a name that need no memory of their own: enough for most names.
+const INLINE_BYTES: usize = 16;
 
 /// Why bytes are no name.
 #[derive(Clone, Copy, Debug, PartialEq, Eq, Error)]
@@ -37,7 +41,7 @@ impl From<AllocError> for NameErr {
 /// Contracts see it as its bytes.
 #[derive(Debug, Drop)]
 pub struct Name {
-    bytes: Vec<u8>,
+    bytes: SmallVec<u8, INLINE_BYTES>,
 }
 
 impl Model for Name {
@@ -83,7 +87,7 @@ impl Name {
             return Err(NameErr::BadName);
         }
         Ok(Name {
-            bytes: Vec::from_slice(alloc, bytes)?,
+            bytes: SmallVec::from_slice(alloc, bytes)?,
         })
     }
 
@@ -103,7 +107,7 @@ impl Name {
         ensures { IfOk result (λ copy. copy ≡ self.now) }
     {
         Ok(Name {
-            bytes: self.bytes.clone()?,
+            bytes: SmallVec::from_slice(*self.bytes.allocator(), self.bytes.as_slice())?,
         })
     }
 }

@@ -105,6 +105,10 @@ fn paths_are_joined_and_compared_name_by_name(rt: HostRuntime) -> Result<(), Fai
     assert!(rt; etc.child(&name)? == below);
     assert!(rt; root.join(&below)? == below);
     assert!(rt; etc.join(&root)?.copy()? == etc);
+    let mut text = vec![in alloc; b'/']?;
+    below.append_to(&mut text)?;
+    root.append_to(&mut text)?;
+    assert_eq!(rt; text.as_slice(), b"/etc/a".as_slice());
     assert_eq!(rt; below.parent().len(), 1);
     assert_eq!(rt; root.parent().len(), 0);
     assert!(rt; below.starts_with(&etc));

@@ -1,6 +1,6 @@
 -- The lines of refusals: `refused`, the number, the word and the details, parted by spaces. Numbers and words are this
 -- project's own.
-use Rattle.std.specs.Prelude.{ℕ, List, [], ◌∷◌, ◌++◌, codes, decimal, Option, Some, None}
+use Rattle.std.specs.Prelude.{ℕ, List, ◌++◌, codes, decimal, Option, Some, None}
 use Rattle.ext_text.specs.Path.{path_text}
 use Rattle.ext_text.specs.declared.which.Which.{Which}
 use Rattle.ext_text.specs.declared.which.Which.TheVariants.{Entries, Bytes, File, Path, Text, Index, Generations}

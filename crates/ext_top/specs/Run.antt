@@ -1,5 +1,5 @@
 -- What a run of the program is, by its status: what it took from the source, what it wrote, and which fault it may blame.
-use Rattle.std.specs.Prelude.{◌≡◌, ℕ, ◌+◌, ◌<◌, ◌≤◌, List, length, Option, Some}
+use Rattle.std.specs.Prelude.{◌≡◌, ℕ, ◌+◌, ◌≤◌, List, length, Option, Some}
 use Rattle.std.specs.Io.KnownBytes.{Consumes, IsAtEnd, Appends, Keeps}
 use Rattle.ext_text.specs.Causes.{Rose}
 use Rattle.ext_io.specs.AppendsPart.{AppendsPart}

@@ -1,7 +1,7 @@
 -- The first faulty line of bytes that are no tree text, or no row of them. Lines are counted from 1. A line is faulty
 -- where some text begins with the lines before it and none with that line too; a text that stops early is faulty at the
 -- line after its last whole line, also where that line has begun. A whole text has no faulty line.
-use Rattle.std.specs.Prelude.{◌≡◌, ℕ, ◌+◌, ◌-◌, ◌<◌, ◌≤◌, ◌==◌, ◌⊎◌, List, [], ◌∷◌, ◌++◌, length, take, Result, Ok, Err}
+use Rattle.std.specs.Prelude.{◌≡◌, ℕ, ◌+◌, ◌-◌, ◌<◌, ◌≤◌, ◌==◌, ◌⊎◌, List, ◌++◌, length, take, Result, Ok, Err}
 use Rattle.std.specs.List.{AllByRecursion, flat_map, slice_split}
 use Rattle.ext_tree.specs.Tree.{Entries}
 use Rattle.ext_tree.specs.TreeText.{HasText, IsTreeText, IsRow, tree_lines}

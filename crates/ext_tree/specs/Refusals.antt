@@ -1,5 +1,5 @@
 -- What a tree refuses, the first reason in this order.
-use Rattle.std.specs.Prelude.{◌≡◌, ℕ, ◌≤◌, nat_le, Bool, true, false, not, ◌||◌, List, [], ◌∷◌, length, if◌then◌else◌, Option, Some, None, is_some, Result, Ok, Err}
+use Rattle.std.specs.Prelude.{◌≡◌, ℕ, nat_le, Bool, true, false, not, ◌||◌, List, [], ◌∷◌, length, if◌then◌else◌, Option, Some, None, is_some, Result, Ok, Err}
 use Rattle.ext_text.specs.Path.{parent}
 use Rattle.ext_tree.specs.Tree.{Entries, lookup, is_folder, most_entries}
 use Rattle.ext_tree.specs.declared.tree.TreeErr.{TreeErr}

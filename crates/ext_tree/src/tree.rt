@@ -89,7 +89,8 @@ impl<C> Tree<C> {
 
     /// The entries with their paths, in path order, which are not copied.
     pub fn into_pairs(self) -> Vec<(Path, Entry<C>)>
-        ensures { result.items ≡ self }
+        ensures same { result.items ≡ self }
+        ensures tree { IsTreeWithin result.items }
     {
         self.entries
     }

@@ -1,4 +1,5 @@
 use super::*;
+use std::test::Fail;
 
 // What is read where this line is the first faulty one.
 fn faulty_at(line: u64) -> Result<usize, TreeTextErr> {
@@ -90,4 +91,75 @@ fn a_tree_text_is_read_or_refused_at_its_first_faulty_line(rt: HostRuntime) {
     ] {
         assert_eq!(rt; entries_of(rt.alloc(), text), wanted, "{text}");
     }
+}
+
+#[test]
+fn each_rule_that_a_line_breaks_alone_is_found_at_that_line(rt: HostRuntime) -> Result<(), Fail> {
+    let alloc = rt.alloc();
+    let long_name = [b"d 755 ".as_slice(), vec![in alloc; b'b'; 256]?.as_slice()].concat(alloc)?;
+    let deep = [b"d 755 b".as_slice(), "/b".repeat(alloc, 64)?.as_bytes()].concat(alloc)?;
+    let long_target = [
+        b"l 4097 ".as_slice(),
+        vec![in alloc; b'b'; 4097]?.as_slice(),
+        b" b".as_slice(),
+    ]
+    .concat(alloc)?;
+    let empty = "e3b0c44298fc1c149afbf4c8996fb92427ae41e4649b934ca495991b7852b855";
+    let files = [
+        format!(in alloc; "f 644 00 {empty} b")?,
+        format!(in alloc; "f 644 +1 {empty} b")?,
+        format!(in alloc; "f 644 1073741825 {empty} b")?,
+        format!(in alloc; "f 644 0 {} b", empty.to_ascii_uppercase(alloc)?)?,
+        format!(in alloc; "f 644 0 {empty}0 b")?,
+        format!(in alloc; "f 644 {empty} b")?,
+    ];
+    let lines: [&[u8]; 33] = [
+        b"",
+        b"hostext-tree 1",
+        b" end",
+        b"END",
+        b"x 755 b",
+        b"D 755 b",
+        b"d 755",
+        b"d  755 b",
+        b"d 0755 b",
+        b"d 8 b",
+        b"d 10000 b",
+        b"d 755 /b",
+        b"d 755 b/",
+        b"d 755 b//c",
+        b"d 755 ../x",
+        b"d 755 .",
+        b"d 755 b\r",
+        b"d 755 b\x7f",
+        b"d 755 b\xff",
+        b"d 755 Z",
+        b"d 755 a",
+        b"d 755 b/c",
+        b"d 755 a/f/g",
+        b"l 0  b",
+        b"l 01 x b",
+        b"l 2 x b",
+        b"l 1 xy b",
+        b"l 1 \x01 b",
+        b"l 1 \xc3\xa9 b",
+        b"l 1 x",
+        long_name.as_slice(),
+        deep.as_slice(),
+        long_target.as_slice(),
+    ];
+    for line in lines
+        .iter()
+        .copied()
+        .chain(files.iter().map(|line| line.as_bytes()))
+    {
+        let mut text = Vec::from_slice(alloc, b"hostext-tree 1\nd 755 a\nl 1 b a/f\n")?;
+        text.extend_from_slice(line)?;
+        text.extend_from_slice(b"\nd 755 z\nend\n")?;
+        assert_eq!(rt;
+            read_tree(alloc, text.as_slice()).map(|tree| tree.entries()),
+            Err(TreeTextErr::BadTree { line: 4 })
+        );
+    }
+    Ok(())
 }

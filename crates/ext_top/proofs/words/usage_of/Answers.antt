@@ -1,4 +1,4 @@
-use Rattle.std.proofs.Common.{◌≡◌, ◌<◌, ◌∷◌, ℕ, List, [], refl, inr, codes, arith, length, ap}
+use Rattle.std.proofs.Common.{◌<◌, ◌∷◌, ℕ, List, [], refl, inr, codes, arith, length, ap}
 use Rattle.ext_top.specs.Words.{IsUsage}
 use Rattle.ext_top.proofs.words.usage_of.Goals as goal
 
