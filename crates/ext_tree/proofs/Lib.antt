@@ -10,6 +10,7 @@ pub mod LineCuts
 pub mod OctalText
 pub mod LineNumbers
 pub mod LineFields
+pub mod DigestDigits
 pub mod LineLaws
 pub mod TextFronts
 pub mod WholeLines

@@ -19,12 +19,12 @@ use Rattle.ext_tree.proofs.LineNumbers.{decimal_lacks}
 
 -- ---- digests
 
-digest_bytes : (ds : List ℕ) → AllByRecursion (λ b. b < 256) ds → IsBytes ds
+pub digest_bytes : (ds : List ℕ) → AllByRecursion (λ b. b < 256) ds → IsBytes ds
 digest_bytes [] each i = omega arith
 digest_bytes (d ∷ ds) each zero = each.0
 digest_bytes (d ∷ ds) each (suc i) = digest_bytes ds each.1 i
 
-each_byte : (ds : List ℕ) → IsBytes ds → AllByRecursion (λ b. b < 256) ds
+pub each_byte : (ds : List ℕ) → IsBytes ds → AllByRecursion (λ b. b < 256) ds
 each_byte [] fits = tt
 each_byte (d ∷ ds) fits = (fits 0, each_byte ds (λ i. fits (suc i)))
 

@@ -1,8 +1,8 @@
 // The fields of an entry's line, each read back exactly: what a reader takes is what the entry prints, and where it
 // takes nothing, no value prints that field.
-ghost use Rattle.std.specs.Prelude.{◌≡◌, ◌≢◌, ◌+◌, ◌<◌, ◌≤◌, ◌↔◌, ◌++◌, ◌∷◌, ℕ, List, length, decimal, IsTrue, MatchOption, slice_index};
+ghost use Rattle.std.specs.Prelude.{◌≡◌, ◌≢◌, ◌+◌, ◌<◌, ◌≤◌, ◌↔◌, ◌++◌, ◌∷◌, ℕ, List, length, decimal, IsTrue, MatchOption, Some, slice_index};
 ghost use Rattle.std.specs.Str.Parse.{AllDigits, digits_value};
-ghost use Rattle.hex.specs.Hex.{encode_lower};
+ghost use Rattle.hex.specs.Hex.{encode_lower, hex_digit_value};
 ghost use Rattle.ext_text.specs.Name.{is_plain_byte};
 ghost use Rattle.ext_tree.specs.TreeText.{IsDigest, IsTarget, mode_text};
 ghost use Rattle.ext_tree.specs.declared.stamp.Stamp.{Stamp};
@@ -78,13 +78,38 @@ fn number_of(field: &[u8], most: u64) -> Option<u64>
     }
 }
 
+// The value of a hexadecimal digit of either case, read without a look at which kind it is: the digits of a digest come
+// in no order that a processor could foresee. What it is for another byte does not count.
+fn digit_of(byte: u8) -> u8
+    ensures low { result < 16 }
+    ensures value { (n : ℕ) → hex_digit_value byte ≡ Some n → result ≡ n }
+{
+    (byte % 16 + 9 * (byte / 64)) % 16
+}
+
+// The bytes whose lower-case digits these are. What it gives for other texts does not count.
+fn bytes_of(digits: &[u8]) -> [u8; 32]
+    requires { length digits.now ≡ 64 }
+    ensures digest { IsDigest result }
+    ensures read { (ds : List ℕ) → IsDigest ds → digits.now ≡ encode_lower ds → result ≡ ds }
+{
+    let mut bytes = [0; 32];
+    'bytes: for at in 0..32 {
+        bytes[at] = digit_of(digits[2 * at]) * 16 + digit_of(digits[2 * at + 1]);
+    }
+    bytes
+}
+
 // The digest that a field writes. Only lower-case digits print back the same.
 fn digest_of(field: &[u8]) -> Option<Digest>
     ensures { MatchOption result
         ((ds : List ℕ) → IsDigest ds → field.now ≢ encode_lower ds)
         (λ d. IsDigest d.0 × (field.now ≡ encode_lower d.0)) }
 {
-    let digest = Digest::read(field)?;
+    if field.len() != 64 {
+        return None;
+    }
+    let digest = Digest(bytes_of(field));
     if prints_as(&digest, field) {
         Some(digest)
     } else {

@@ -93,73 +93,89 @@ fn a_tree_text_is_read_or_refused_at_its_first_faulty_line(rt: HostRuntime) {
     }
 }
 
+// What is read where this line stands in the middle of a text that is good without it, as line 4.
+fn read_around(alloc: Global, line: &[u8]) -> Result<Result<usize, TreeTextErr>, Fail> {
+    let mut text = Vec::from_slice(alloc, b"hostext-tree 1\nd 755 a\nl 1 b a/f\n")?;
+    text.extend_from_slice(line)?;
+    text.extend_from_slice(b"\nd 755 z\nend\n")?;
+    Ok(read_tree(alloc, text.as_slice()).map(|tree| tree.pairs().len()))
+}
+
+// A line of so many equal bytes between two texts.
+fn long_line(alloc: Global, front: &[u8], count: usize, back: &[u8]) -> Result<Vec<u8>, Fail> {
+    let mut line = Vec::from_slice(alloc, front)?;
+    for _ in 0..count {
+        line.push(b'b')?;
+    }
+    line.extend_from_slice(back)?;
+    Ok(line)
+}
+
 #[test]
-fn each_rule_that_a_line_breaks_alone_is_found_at_that_line(rt: HostRuntime) -> Result<(), Fail> {
-    let alloc = rt.alloc();
-    let long_name = [b"d 755 ".as_slice(), vec![in alloc; b'b'; 256]?.as_slice()].concat(alloc)?;
-    let deep = [b"d 755 b".as_slice(), "/b".repeat(alloc, 64)?.as_bytes()].concat(alloc)?;
-    let long_target = [
-        b"l 4097 ".as_slice(),
-        vec![in alloc; b'b'; 4097]?.as_slice(),
-        b" b".as_slice(),
-    ]
-    .concat(alloc)?;
-    let empty = "e3b0c44298fc1c149afbf4c8996fb92427ae41e4649b934ca495991b7852b855";
-    let files = [
-        format!(in alloc; "f 644 00 {empty} b")?,
-        format!(in alloc; "f 644 +1 {empty} b")?,
-        format!(in alloc; "f 644 1073741825 {empty} b")?,
-        format!(in alloc; "f 644 0 {} b", empty.to_ascii_uppercase(alloc)?)?,
-        format!(in alloc; "f 644 0 {empty}0 b")?,
-        format!(in alloc; "f 644 {empty} b")?,
+fn a_line_that_breaks_one_rule_is_the_faulty_one(rt: HostRuntime) -> Result<(), Fail> {
+    let lines: [&str; 35] = [
+        "",
+        "hostext-tree 1",
+        " end",
+        "END",
+        "x 755 b",
+        "D 755 b",
+        "d 755",
+        "d  755 b",
+        "d 0755 b",
+        "d 8 b",
+        "d 10000 b",
+        "d 755 /b",
+        "d 755 b/",
+        "d 755 b//c",
+        "d 755 ../x",
+        "d 755 .",
+        "d 755 b\r",
+        "d 755 b\x7f",
+        "d 755 Z",
+        "d 755 a",
+        "d 755 b/c",
+        "d 755 a/f/g",
+        "l 0  b",
+        "l 01 x b",
+        "l 2 x b",
+        "l 1 xy b",
+        "l 1 \x01 b",
+        "l 1 \u{e9} b",
+        "l 1 x",
+        "f 644 00 e3b0c44298fc1c149afbf4c8996fb92427ae41e4649b934ca495991b7852b855 b",
+        "f 644 +1 e3b0c44298fc1c149afbf4c8996fb92427ae41e4649b934ca495991b7852b855 b",
+        "f 644 1073741825 e3b0c44298fc1c149afbf4c8996fb92427ae41e4649b934ca495991b7852b855 b",
+        "f 644 0 E3B0C44298FC1C149AFBF4C8996FB92427AE41E4649B934CA495991B7852B855 b",
+        "f 644 0 e3b0c44298fc1c149afbf4c8996fb92427ae41e4649b934ca495991b7852b8550 b",
+        "f 644 e3b0c44298fc1c149afbf4c8996fb92427ae41e4649b934ca495991b7852b855 b",
     ];
-    let lines: [&[u8]; 33] = [
-        b"",
-        b"hostext-tree 1",
-        b" end",
-        b"END",
-        b"x 755 b",
-        b"D 755 b",
-        b"d 755",
-        b"d  755 b",
-        b"d 0755 b",
-        b"d 8 b",
-        b"d 10000 b",
-        b"d 755 /b",
-        b"d 755 b/",
-        b"d 755 b//c",
-        b"d 755 ../x",
-        b"d 755 .",
-        b"d 755 b\r",
-        b"d 755 b\x7f",
-        b"d 755 b\xff",
-        b"d 755 Z",
-        b"d 755 a",
-        b"d 755 b/c",
-        b"d 755 a/f/g",
-        b"l 0  b",
-        b"l 01 x b",
-        b"l 2 x b",
-        b"l 1 xy b",
-        b"l 1 \x01 b",
-        b"l 1 \xc3\xa9 b",
-        b"l 1 x",
-        long_name.as_slice(),
-        deep.as_slice(),
-        long_target.as_slice(),
-    ];
-    for line in lines
-        .iter()
-        .copied()
-        .chain(files.iter().map(|line| line.as_bytes()))
-    {
-        let mut text = Vec::from_slice(alloc, b"hostext-tree 1\nd 755 a\nl 1 b a/f\n")?;
-        text.extend_from_slice(line)?;
-        text.extend_from_slice(b"\nd 755 z\nend\n")?;
+    for line in lines {
         assert_eq!(rt;
-            read_tree(alloc, text.as_slice()).map(|tree| tree.entries()),
-            Err(TreeTextErr::BadTree { line: 4 })
+            read_around(rt.alloc(), line.as_bytes())?,
+            faulty_at(4),
+            "{line}"
         );
     }
+    Ok(())
+}
+
+#[test]
+fn a_line_that_passes_a_limit_is_the_faulty_one(rt: HostRuntime) -> Result<(), Fail> {
+    let alloc = rt.alloc();
+    let names = [(255, Ok(4)), (256, faulty_at(4))];
+    for (count, wanted) in names {
+        let line = long_line(alloc, b"d 755 ", count, b"")?;
+        assert_eq!(rt; read_around(alloc, line.as_slice())?, wanted);
+    }
+    let targets = [
+        (4096, b"l 4096 ".as_slice(), Ok(4)),
+        (4097, b"l 4097 ".as_slice(), faulty_at(4)),
+    ];
+    for (count, front, wanted) in targets {
+        let line = long_line(alloc, front, count, b" b")?;
+        assert_eq!(rt; read_around(alloc, line.as_slice())?, wanted);
+    }
+    assert_eq!(rt; read_around(alloc, b"d 755 b\xff")?, faulty_at(4));
     Ok(())
 }
