@@ -1,0 +1,7 @@
+use Rattle.std.proofs.Common.{◌≡◌, ◌<◌, ℕ, true, get_or}
+use Rattle.std.specs.Char.{is_ascii_alphabetic}
+use Rattle.ext_vers.proofs.token.letters_len.Given as goal
+
+-- each byte so far passes
+abbrev pub invariant-loop-place : goal.invariant-loop-place
+invariant-loop-place l = (k : ℕ) → k < l.place → is_ascii_alphabetic (get_or l.text k 0) ≡ true

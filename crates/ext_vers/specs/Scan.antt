@@ -1,0 +1,40 @@
+-- Reading a text's tokens one after another.
+use Rattle.std.specs.Prelude.{◌≡◌, ℕ, ◌<◌, Bool, true, false, cond, not, ◌&&◌, ◌==◌, List, [], ◌∷◌, length}
+use Rattle.std.specs.List.{AllPass}
+use Rattle.std.specs.Char.{is_ascii_digit, is_ascii_alphabetic}
+use Rattle.ext_vers.specs.Version.{Token, End, Number, tokens}
+
+-- the longest front that passes
+abbrev pub front : (ℕ → Bool) → List ℕ → List ℕ
+front p [] = []
+front p (b ∷ bs) = cond (p b) (b ∷ front p bs) []
+
+-- what stands behind it
+abbrev pub behind : (ℕ → Bool) → List ℕ → List ℕ
+behind p [] = []
+behind p (b ∷ bs) = cond (p b) (behind p bs) (b ∷ bs)
+
+-- no digit, no letter, and none of `~`, `-`, `^`, `.`
+abbrev pub is_separator : ℕ → Bool
+is_separator b = not (is_ascii_digit b) && not (is_ascii_alphabetic b) && not (b == 126) && not (b == 45) && not (b == 94) && not (b == 46)
+
+-- the end of a text
+abbrev pub is_end : Token → Bool
+is_end End = true
+is_end t = false
+
+-- what follows a token: nothing behind the end
+abbrev pub after : Token → List ℕ → List Token
+after End rest = []
+after t rest = tokens rest
+
+-- only digits in a number
+abbrev pub HasDigits : Token → Type 0
+HasDigits (Number ds) = AllPass is_ascii_digit ds
+HasDigits t = Unit {0}
+
+-- the token stands first in the text, and the rest behind it
+pub record IsNext (text : List ℕ) (token : Token) (rest : List ℕ) : Type 0 where
+  pub first : tokens text ≡ token ∷ after token rest
+  pub shorter : is_end token ≡ false → length rest < length text
+  pub digits : HasDigits token

@@ -1,0 +1,57 @@
+ghost use Rattle.std.specs.Prelude.{◌≡◌, ℕ, List};
+ghost use Rattle.std.specs.Cmp.{IsTotalOrder};
+ghost use Rattle.std.specs.declared.cmp.Ordering.{Ordering};
+ghost use Rattle.std.specs.declared.cmp.Ordering.TheVariants.{Equal};
+ghost use Rattle.ext_vers.specs.Version.{order_of, version_cmp};
+
+use crate::token::{next_token, token_cmp};
+use std::cmp::Ordering;
+
+/// The order of two versions, by the first token in which they differ, from lowest to highest:
+///
+/// | rank | token |
+/// |---|---|
+/// | 0 | `~` |
+/// | 1 | the end of the text |
+/// | 2 | `-` |
+/// | 3 | `^` |
+/// | 4 | `.` |
+/// | 5 | a run of ASCII letters; two of them byte by byte, a front first |
+/// | 6 | a run of ASCII digits; two of them by value, leading zeros ignored, of any length |
+///
+/// Every other byte only separates two runs. Texts may be equal that differ in their bytes, as `1` and `01`.
+pub fn compare(a: &[u8], b: &[u8]) -> Ordering
+    ensures { result ≡ version_cmp a.now b.now }
+{
+    let mut left = a;
+    let mut right = b;
+    'tokens: loop {
+        let (x, behind_x) = next_token(left);
+        let (y, behind_y) = next_token(right);
+        let order = token_cmp(x, y);
+        if order.is_ne() || x.is_end() {
+            return order;
+        }
+        left = behind_x;
+        right = behind_y;
+    }
+}
+
+/// The order of two versions, equal ones by their bytes: equal exactly where the texts are the same.
+pub fn order(a: &[u8], b: &[u8]) -> Ordering
+    ensures { result ≡ order_of a.now b.now }
+{
+    compare(a, b).then_with(|| a.cmp(b))
+}
+
+/// [`compare`] orders: reversed arguments give the reversed answer, what is below is below what is above, and equals
+/// compare alike with every third.
+pub fn compare_is_a_total_preorder()
+    ensures { IsTotalOrder version_cmp }
+{}
+
+/// [`order`] orders, and only a text itself equals it.
+pub fn order_is_a_total_order()
+    ensures total { IsTotalOrder order_of }
+    ensures exact { (a b : List ℕ) → order_of a b ≡ Ordering.Equal → a ≡ b }
+{}
