@@ -3,3 +3,6 @@ pub mod Cut
 pub mod Name
 pub mod Path
 pub mod Order
+pub mod Arch
+pub mod Scope
+pub mod Class

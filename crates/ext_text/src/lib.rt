@@ -1,10 +1,13 @@
-//! The words that every other crate speaks: texts, names, paths, modes, digests and lists of them.
+//! The words that every other crate speaks: texts, names, paths, modes, digests and lists of them; architectures, scopes
+//! and classes of images.
 //!
 //! A value of one of these types has been read: a [`Name`] is a name by the rule of names, a [`Path`] is within its
 //! limits, a [`Mode`] is one. Contracts see each as its bytes, its names or its number. Every crate of the repository
 //! stands on this one.
 #![tactic(auto)]
 
+mod arch;
+mod class;
 mod cut;
 mod digest;
 mod list;
@@ -13,11 +16,14 @@ mod mode;
 mod name;
 mod order;
 mod path;
+mod scope;
 #[cfg(test)]
 mod tests;
 mod text;
 mod which;
 
+pub use arch::Arch;
+pub use class::Class;
 pub use cut::cut_at;
 pub use digest::Digest;
 pub use list::ListOf;
@@ -25,6 +31,7 @@ pub use memory::OutOfMemory;
 pub use mode::Mode;
 pub use name::{Name, NameErr};
 pub use path::{Path, PathErr};
+pub use scope::Scope;
 pub use text::Text;
 pub use which::Which;
 

@@ -1,4 +1,7 @@
-use crate::{Digest, Mode, Name, NameErr, Names, OutOfMemory, Path, PathErr, Text, cut_at};
+use crate::{
+    Arch, Class, Digest, Mode, Name, NameErr, Names, OutOfMemory, Path, PathErr, Scope, Text,
+    cut_at,
+};
 use std::alloc::Global;
 use std::cmp::Ordering;
 use std::test::Fail;
@@ -143,5 +146,48 @@ fn texts_lists_modes_and_digests(rt: HostRuntime) -> Result<(), Fail> {
         Some((b"a".as_slice(), b"b c".as_slice()))
     );
     assert_eq!(rt; OutOfMemory, OutOfMemory);
+    Ok(())
+}
+
+#[test]
+fn architectures_scopes_and_classes_go_by_their_names(rt: HostRuntime) -> Result<(), Fail> {
+    let arches = [
+        (Arch::X86, "x86"),
+        (Arch::X86_64, "x86-64"),
+        (Arch::Arm, "arm"),
+        (Arch::Arm64, "arm64"),
+        (Arch::Riscv64, "riscv64"),
+        (Arch::S390x, "s390x"),
+        (Arch::Ppc64Le, "ppc64-le"),
+        (Arch::Loongarch64, "loongarch64"),
+    ];
+    for (arch, name) in arches {
+        assert_eq!(rt; arch.name(), name);
+        assert_eq!(rt; Arch::read(name.as_bytes()), Some(arch));
+    }
+    let scopes = [
+        (Scope::System, "system"),
+        (Scope::Initrd, "initrd"),
+        (Scope::Portable, "portable"),
+    ];
+    for (scope, name) in scopes {
+        assert_eq!(rt; scope.name(), name);
+        assert_eq!(rt; Scope::read(name.as_bytes()), Some(scope));
+    }
+    let classes = [
+        (Class::Sysext, "sysext"),
+        (Class::Confext, "confext"),
+        (Class::Portable, "portable"),
+    ];
+    for (class, name) in classes {
+        assert_eq!(rt; class.name(), name);
+        assert_eq!(rt; Class::read(name.as_bytes()), Some(class));
+    }
+    let others: [&[u8]; 6] = [b"", b"x86_64", b"X86", b"arm64 ", b"_any", b"loongarch6"];
+    for text in others {
+        assert_eq!(rt; Arch::read(text), None);
+        assert_eq!(rt; Scope::read(text), None);
+        assert_eq!(rt; Class::read(text), None);
+    }
     Ok(())
 }
