@@ -15,8 +15,9 @@ const VERSION: &str = "hostext 0.1.0";
 const HELP: &str = "usage: hostext STORE DEPOT COMMAND ..
 
 commands:
-  layer    read a row of tree texts from standard input, the host first, and
-           write the text of the layered tree
+  compare TEXT TEXT   write less, equal or greater: the order of two versions
+  layer               read a row of tree texts from standard input, the host
+                      first, and write the text of the layered tree
 
 It ends with 0 where the command was done, 1 refused, 2 usage, 3 read fault,
 4 write fault, 7 out of memory, 10 input too long.";

@@ -1,5 +1,8 @@
 pub mod Words
+pub mod Keyword
+pub mod Reading
 pub mod Refusals
 pub mod Statuses
 pub mod Layering
+pub mod Comparing
 pub mod Run

@@ -3,8 +3,9 @@ use Rattle.std.specs.Prelude.{◌≡◌, ℕ, ◌+◌, ◌≤◌, List, length, 
 use Rattle.std.specs.Io.KnownBytes.{Consumes, IsAtEnd, Appends, Keeps}
 use Rattle.ext_text.specs.Causes.{Rose}
 use Rattle.ext_io.specs.AppendsPart.{AppendsPart}
-use Rattle.ext_top.specs.Words.{IsCommand, IsUsage}
+use Rattle.ext_top.specs.Words.{Command, Layer, Compare, IsUsage, command_words}
 use Rattle.ext_top.specs.Layering.{Replies}
+use Rattle.ext_top.specs.Comparing.{compare_line}
 use Rattle.ext_top.specs.declared.status.Status.{Status}
 use Rattle.ext_top.specs.declared.status.Status.TheVariants.{Done, Refused, Usage, ReadFault, WriteFault, OutOfMemory, TooLong}
 
@@ -60,15 +61,43 @@ RunsLayer old new WriteFault = WrotePart old new × Rose old.write_faults new.wr
 RunsLayer old new OutOfMemory = TookOnly old new (λ n. n ≤ most_source + 1)
 RunsLayer old new TooLong = TookOnly old new (λ n. n ≡ most_source + 1)
 
+-- the source was left as it was
+pub record LeavesSource (old new : Streams) : Type 0 where
+  pub left : new.left ≡ old.left
+  pub read_faults : new.read_faults ≡ old.read_faults
+
+-- what `compare` does with the sink: its line was written, or a front of it and the sink failed
+abbrev pub ComparesTexts : List ℕ → List ℕ → Option (List ℕ) → Option (List ℕ) → ℕ → ℕ → Status → Type 0
+ComparesTexts a b old new before after Done = Appends old new (compare_line a b)
+ComparesTexts a b old new before after WriteFault = AppendsPart old new (compare_line a b) × Rose before after
+ComparesTexts a b old new before after (Refused refusal) = ⊥
+ComparesTexts a b old new before after (Usage place) = ⊥
+ComparesTexts a b old new before after ReadFault = ⊥
+ComparesTexts a b old new before after OutOfMemory = ⊥
+ComparesTexts a b old new before after TooLong = ⊥
+
+-- the run of `compare`: the source is left alone, and no memory is wanted
+abbrev pub RunsCompare : List ℕ → List ℕ → Streams → Streams → Status → Type 0
+RunsCompare a b old new status = LeavesSource old new × ComparesTexts a b old.written new.written old.write_faults new.write_faults status
+
+-- the run of a command
+abbrev pub RunsCommand : Command → Streams → Streams → Status → Type 0
+RunsCommand Layer old new status = RunsLayer old new status
+RunsCommand (Compare a b) old new status = RunsCompare a b old new status
+
+-- the words are a command, and it ran so
+abbrev pub RunsWords : List (List ℕ) → Streams → Streams → Status → Type 0
+RunsWords words old new status = (command : Command) × (words ≡ command_words command) × RunsCommand command old new status
+
 -- the run of these words: they are a command, and it ran so; or they are none, and nothing was touched
 abbrev pub Runs : List (List ℕ) → Streams → Streams → Status → Type 0
 Runs words old new (Usage place) = IsUsage words place × (new ≡ old)
-Runs words old new Done = IsCommand words × RunsLayer old new Done
-Runs words old new (Refused refusal) = IsCommand words × RunsLayer old new (Refused refusal)
-Runs words old new ReadFault = IsCommand words × RunsLayer old new ReadFault
-Runs words old new WriteFault = IsCommand words × RunsLayer old new WriteFault
-Runs words old new OutOfMemory = IsCommand words × RunsLayer old new OutOfMemory
-Runs words old new TooLong = IsCommand words × RunsLayer old new TooLong
+Runs words old new Done = RunsWords words old new Done
+Runs words old new (Refused refusal) = RunsWords words old new (Refused refusal)
+Runs words old new ReadFault = RunsWords words old new ReadFault
+Runs words old new WriteFault = RunsWords words old new WriteFault
+Runs words old new OutOfMemory = RunsWords words old new OutOfMemory
+Runs words old new TooLong = RunsWords words old new TooLong
 
 -- what is done with a source that was read: its answer was written, or a front of it and the sink failed, or nothing
 abbrev pub AnswersSource : List ℕ → Option (List ℕ) → Option (List ℕ) → ℕ → ℕ → Status → Type 0
@@ -90,8 +119,14 @@ IsComplete ReadFault = ⊥
 IsComplete WriteFault = ⊥
 IsComplete TooLong = ⊥
 
--- with words in the grammar, a source that tells its bytes and is within its limit, and no count risen, there is no other
-abbrev pub Completes : List (List ℕ) → Streams → Streams → Status → Type 0
-Completes words old new status =
-    (bytes : List ℕ) → IsCommand words → old.left ≡ Some bytes → length bytes ≤ most_source →
+-- which answers there are, where nothing failed: of `layer`, over a source that tells its bytes and is within its limit, no
+-- fault; of `compare` Done alone
+abbrev pub CompletesCommand : Command → Streams → Streams → Status → Type 0
+CompletesCommand Layer old new status =
+    (bytes : List ℕ) → old.left ≡ Some bytes → length bytes ≤ most_source →
     ¬ Rose old.read_faults new.read_faults → ¬ Rose old.write_faults new.write_faults → IsComplete status
+CompletesCommand (Compare a b) old new status = ¬ Rose old.write_faults new.write_faults → status ≡ Done
+
+-- so it is of the command that the words are
+abbrev pub Completes : List (List ℕ) → Streams → Streams → Status → Type 0
+Completes words old new status = (command : Command) → words ≡ command_words command → CompletesCommand command old new status

@@ -1,9 +1,19 @@
--- The words of a command. The grammar is this project's own.
+-- The commands and their words. The grammar is this project's own.
 use Rattle.std.specs.Prelude.{◌≡◌, ℕ, ◌+◌, ◌-◌, ◌<◌, ◌≤◌, ◌⊎◌, List, [], ◌∷◌, ◌++◌, length, take, codes}
 
--- the words are a command: the one word `layer`
+-- a command, with the texts that it is given
+pub data Command : Type 0 where
+  Layer : Command
+  Compare : List ℕ → List ℕ → Command
+
+-- the words of a command: `layer`, and `compare TEXT TEXT`
+abbrev pub command_words : Command → List (List ℕ)
+command_words Layer = codes "layer" ∷ []
+command_words (Compare a b) = codes "compare" ∷ a ∷ b ∷ []
+
+-- the words are a command
 abbrev pub IsCommand : List (List ℕ) → Type 0
-IsCommand words = words ≡ codes "layer" ∷ []
+IsCommand words = (command : Command) × (words ≡ command_words command)
 
 -- some command begins with these words
 pub record BeginsCommand (words : List (List ℕ)) : Type 0 where

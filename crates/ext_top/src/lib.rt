@@ -4,6 +4,8 @@
 //! definitions say. The program is a thin shell over this crate.
 #![tactic(auto)]
 
+mod comparing;
+mod keyword;
 mod layering;
 mod refusal;
 mod running;

@@ -133,6 +133,12 @@ fn words_and_sources_are_refused_at_their_first_fault(rt: HostRuntime) -> Result
         (["layers"].as_slice(), 1),
         (["x", "layer"].as_slice(), 1),
         (["layer", "x"].as_slice(), 2),
+        (["layer", "compare", "1", "2"].as_slice(), 2),
+        (["compare"].as_slice(), 2),
+        (["compare", "1"].as_slice(), 3),
+        (["compare", "1", "2", "3"].as_slice(), 4),
+        (["compare", "1", "2", "3", "4"].as_slice(), 4),
+        (["Compare", "1", "2"].as_slice(), 1),
         (["layer", "layer", "layer"].as_slice(), 2),
     ];
     for (words, place) in usage {
@@ -179,6 +185,43 @@ fn words_and_sources_are_refused_at_their_first_fault(rt: HostRuntime) -> Result
         b"refused 7 limit generations\n".as_slice()
     );
     assert_eq!(rt; (number(&refusal), number(&limit)), (23, 7));
+    Ok(())
+}
+
+#[test]
+fn versions_are_compared_and_the_source_is_left_alone(rt: HostRuntime) -> Result<(), Fail> {
+    let alloc = rt.alloc();
+    let table = [
+        ("1_", "1", "equal\n"),
+        ("00123", "123", "equal\n"),
+        ("", "", "equal\n"),
+        ("", "~", "greater\n"),
+        ("a", "0", "less\n"),
+        ("1.0", "1", "greater\n"),
+        ("123~rc1-1", "123", "less\n"),
+        ("layer", "compare", "greater\n"),
+    ];
+    // Each read of the source would fail.
+    let unread = Devices {
+        read_fails: Some(1),
+        ..GOOD
+    };
+    for (a, b, line) in table {
+        for piece in [1, 65_536] {
+            let devices = Devices { piece, ..unread };
+            let (status, written) = run_over(alloc, &["compare", a, b], b"x", devices)?;
+            assert_eq!(rt; status, Status::Done);
+            assert_eq!(rt; written.as_slice(), line.as_bytes());
+        }
+    }
+    let failing = Devices {
+        piece: 3,
+        write_fails: Some(2),
+        ..unread
+    };
+    let (status, written) = run_over(alloc, &["compare", "1", "2"], b"x", failing)?;
+    assert_eq!(rt; status, Status::WriteFault);
+    assert_eq!(rt; written.as_slice(), b"les".as_slice());
     Ok(())
 }
 

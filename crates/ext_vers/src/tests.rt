@@ -18,6 +18,81 @@ const CHAIN: [&[u8]; 12] = [
     b"124-1",
 ];
 
+// The order of `systemd-analyze compare-versions` of systemd 252, from the lowest to the highest, equals in one row.
+const SYSTEMD: [&[&str]; 67] = [
+    &["~"],
+    &[""],
+    &["-"],
+    &["^"],
+    &["."],
+    &["A"],
+    &["a"],
+    &["aB"],
+    &["ab"],
+    &["b"],
+    &["foo-1"],
+    &["foo-10"],
+    &["foo_2"],
+    &["v1"],
+    &["v252"],
+    &["00", "0"],
+    &["000.1"],
+    &["1~"],
+    &["1~rc1"],
+    &["1~rc2"],
+    &["1~1"],
+    &["1", "01", "1_"],
+    &["1-~1"],
+    &["1-a"],
+    &["1-1"],
+    &["1-2"],
+    &["1^"],
+    &["1^post1"],
+    &["1^1"],
+    &["1."],
+    &["1..1"],
+    &["1.a"],
+    &["1.0~alpha"],
+    &["1.0~beta"],
+    &["1.0~rc1^git1"],
+    &["1.0"],
+    &["1.0-rc1"],
+    &["1.0^git1"],
+    &["1.0.a"],
+    &["1.0.post1"],
+    &["1.0.1"],
+    &["1.0a"],
+    &["1.1", "1.01"],
+    &["1.1-1"],
+    &["1.2"],
+    &["1.10"],
+    &["1a"],
+    &["1a1"],
+    &["1a2"],
+    &["1aa"],
+    &["1b"],
+    &["1_1", "1+1"],
+    &["2"],
+    &["3.0.0~1"],
+    &["3.0.0"],
+    &["5.10.0-28-amd64"],
+    &["6.1.0-9-amd64"],
+    &["6.1.0-18-amd64"],
+    &["9"],
+    &["10"],
+    &["252~rc1"],
+    &["252"],
+    &["252.4-1"],
+    &["252.38-1~deb12u1"],
+    &["2024-01-01"],
+    &["2024.01.01"],
+    &["20240101"],
+];
+
+// Pairs that it orders otherwise: directly after a mark it neither skips a byte nor looks for a mark of lower rank. Here
+// the first is the greater one.
+const OTHERWISE: [(&str, &str); 4] = [("1~", "1~~"), ("~_2", "~b1"), ("-.1", "-"), ("1-_2", "1-b")];
+
 #[test]
 fn versions_are_ordered_token_by_token(rt: HostRuntime) -> Result<(), Fail> {
     for (i, low) in CHAIN.iter().enumerate() {
@@ -52,6 +127,23 @@ fn versions_are_ordered_token_by_token(rt: HostRuntime) -> Result<(), Fail> {
     for (low, high) in rising {
         assert_eq!(rt; compare(low, high), Ordering::Less);
         assert_eq!(rt; compare(high, low), Ordering::Greater);
+    }
+    Ok(())
+}
+
+#[test]
+fn the_order_is_that_of_systemd_but_after_a_mark(rt: HostRuntime) -> Result<(), Fail> {
+    for (i, lows) in SYSTEMD.iter().enumerate() {
+        for (j, highs) in SYSTEMD.iter().enumerate() {
+            for low in *lows {
+                for high in *highs {
+                    assert_eq!(rt; compare(low.as_bytes(), high.as_bytes()), i.cmp(&j));
+                }
+            }
+        }
+    }
+    for (high, low) in OTHERWISE {
+        assert_eq!(rt; compare(high.as_bytes(), low.as_bytes()), Ordering::Greater);
     }
     Ok(())
 }

@@ -1,0 +1,15 @@
+-- What `compare` writes. The words are this project's own.
+use Rattle.std.specs.Prelude.{ℕ, List, ◌++◌, codes}
+use Rattle.std.specs.declared.cmp.Ordering.{Ordering}
+use Rattle.std.specs.declared.cmp.Ordering.TheVariants.{Less, Equal, Greater}
+use Rattle.ext_vers.specs.Version.{version_cmp}
+
+-- the word of an order
+abbrev pub ordering_word : Ordering → List ℕ
+ordering_word Less = codes "less"
+ordering_word Equal = codes "equal"
+ordering_word Greater = codes "greater"
+
+-- the word of the first version's order against the second, and a newline
+abbrev pub compare_line : List ℕ → List ℕ → List ℕ
+compare_line a b = ordering_word (version_cmp a b) ++ codes "\n"
