@@ -1,0 +1,10 @@
+//! Release files: the assignments by which a host, an image or a portable service says what it is.
+//!
+//! A [`Release`] is what an os-release or extension-release file assigns. Contracts see it as the map from each key to
+//! its value.
+#![tactic(auto)]
+
+mod blanks;
+mod release;
+
+pub use release::Release;

@@ -1,0 +1,68 @@
+ghost use Rattle.std.specs.Prelude.{◌≡◌, [], IfOk};
+ghost use Rattle.std.specs.Option.{option_copied, unwrap_or};
+ghost use Rattle.std.specs.FinMap as map;
+ghost use Rattle.ext_release.specs.Words.{has_word, words_of};
+
+use crate::blanks::{append_words, has_word};
+use ext_text::{Lines, OutOfMemory};
+use std::alloc::Global;
+use std::collections::BTreeMap;
+use std::marker::Model;
+
+/// What a release file assigns. Contracts see it as the map from each key to its value, both as their bytes; a key
+/// whose last value is empty is not in it.
+#[derive(Debug, Drop)]
+pub struct Release {
+    alloc: Global,
+    values: BTreeMap<String, String>,
+}
+
+impl Model for Release {
+    ghost use Rattle.std.specs.Prelude.{ℕ, List};
+    ghost use Rattle.std.specs.Coded.{coded_list, coded_ℕ};
+    ghost use Rattle.std.specs.FinMap as map;
+    ghost use Rattle.ext_text.specs.Name.{name_cmp};
+    ghost use Rattle.ext_release.specs.Release.{map_of};
+
+    ghost Value = { map.FinMap name_cmp (List ℕ) };
+
+    ghost coded = { map.code (coded_list coded_ℕ) (coded_list coded_ℕ) };
+
+    ghost view = { λ r. map_of r.values.entries };
+}
+
+impl Release {
+    /// The value of a key, as its last assignment gives it; `None` exactly where the key has none or an empty one.
+    pub fn value(&self, key: &str) -> Option<&str>
+        ensures { option_copied result ≡ map.get self.now key.now }
+    {
+        match self.values.get(key) {
+            Some(text) => Some(text.as_str()),
+            None => None,
+        }
+    }
+
+    /// The words of a key's value: the longest runs without a space or a tab. A key that has no value has none.
+    ///
+    /// # Errors
+    /// Want of memory alone.
+    pub fn words(&self, key: &str) -> Result<Lines, OutOfMemory>
+        ensures { IfOk result (λ words. words ≡ words_of (unwrap_or (map.get self.now key.now) [])) }
+    {
+        let mut words = Lines::new(self.alloc);
+        if let Some(text) = self.value(key) {
+            append_words(self.alloc, &mut words, text.as_bytes())?;
+        }
+        Ok(words)
+    }
+
+    /// Whether a word is one of the words of a key's value.
+    pub fn has_word(&self, key: &str, word: &str) -> bool
+        ensures { result ≡ has_word word.now (unwrap_or (map.get self.now key.now) []) }
+    {
+        match self.value(key) {
+            Some(text) => has_word(text.as_bytes(), word.as_bytes()),
+            None => false,
+        }
+    }
+}
