@@ -1,2 +1,8 @@
+pub mod Bare
+pub mod Cuts
+pub mod Lines
+pub mod Quotes
+pub mod SoFar
+pub mod Utf8
 pub mod Texts
 pub mod Words

@@ -1,2 +1,6 @@
 pub mod Words
+pub mod Value
+pub mod Line
 pub mod Release
+pub mod Cutting
+pub mod Reading

@@ -1,8 +1,15 @@
--- What a release file assigns: the map from each key to its value.
-use Rattle.std.specs.Prelude.{ℕ, String, List, [], ◌∷◌}
-use Rattle.std.specs.FinMap.{FinMap, from_entries}
+-- What a release file assigns: the map from each key to its value. That the last assignment counts is os-release(5)'s, that
+-- an empty value counts as none is this project's own.
+use Rattle.std.specs.Prelude.{◌≡◌, ℕ, ◌-◌, ◌<◌, ◌≤◌, true, false, cond, ◌==◌, String, List, [], ◌∷◌, length, slice_index_or, Option, Some, None, Result, Ok, Err}
+use Rattle.std.specs.FinMap.{FinMap, from_entries, get}
+use Rattle.std.specs.List.{AllByRecursion}
+use Rattle.std.specs.Option.{option_or}
+use Rattle.std.specs.Str.{bytes_eq}
 use Rattle.std.specs.String.{string_bytes}
 use Rattle.ext_text.specs.Name.{name_cmp}
+use Rattle.ext_release.specs.declared.reading.ReleaseErr.{ReleaseErr}
+use Rattle.ext_release.specs.declared.reading.ReleaseErr.TheVariants.{OutOfMemory, BadRelease}
+use Rattle.ext_release.specs.Line.{ReleaseLine, Faulty, Skipped, Sets, is_faulty, line_of, lines_of}
 
 -- the entries as their bytes
 abbrev pub texts : {Z : Type 0} → List (String Z × String Z) → List (List ℕ × List ℕ)
@@ -12,3 +19,46 @@ texts (e ∷ es) = (string_bytes e.0, string_bytes e.1) ∷ texts es
 -- the map of the entries of a map of texts
 abbrev pub map_of : {Z : Type 0} → List (String Z × String Z) → FinMap name_cmp (List ℕ)
 map_of es = from_entries (texts es)
+
+-- what one line assigns to a key
+abbrev pub assigned : ReleaseLine → List ℕ → Option (List ℕ)
+assigned Faulty key = None
+assigned Skipped key = None
+assigned (Sets k value) key = cond (bytes_eq k key) (Some value) None
+
+-- what the last line that assigns to a key assigns to it
+abbrev pub last_assigned : List (List ℕ) → List ℕ → Option (List ℕ)
+last_assigned [] key = None
+last_assigned (l ∷ ls) key = option_or (last_assigned ls key) (assigned (line_of l) key)
+
+-- an empty value counts as none
+abbrev pub some_value : Option (List ℕ) → Option (List ℕ)
+some_value None = None
+some_value (Some value) = cond (length value == 0) None (Some value)
+
+-- what a key has after an assignment, or still has without one
+abbrev pub leaves : Option (List ℕ) → Option (List ℕ) → Option (List ℕ)
+leaves None old = old
+leaves (Some value) old = some_value (Some value)
+
+-- the value of a key after these lines
+abbrev pub value_after : List (List ℕ) → List ℕ → Option (List ℕ)
+value_after ls key = some_value (last_assigned ls key)
+
+-- no line is faulty, and each key has the value that its last assignment gives it
+pub record IsRelease (bytes : List ℕ) (release : FinMap name_cmp (List ℕ)) : Type 0 where
+  pub sound : AllByRecursion (λ l. is_faulty (line_of l) ≡ false) (lines_of bytes)
+  pub values : (key : List ℕ) → get release key ≡ value_after (lines_of bytes) key
+
+-- the number, counted from 1, of the first line that is faulty
+pub record IsFirstFault (bytes : List ℕ) (number : ℕ) : Type 0 where
+  pub counted : 1 ≤ number
+  pub within : number ≤ length (lines_of bytes)
+  pub faulty : is_faulty (line_of (slice_index_or (lines_of bytes) (number - 1) [])) ≡ true
+  pub first : (k : ℕ) → k < number - 1 → is_faulty (line_of (slice_index_or (lines_of bytes) k [])) ≡ false
+
+-- what `read_release` answers
+abbrev pub ReadsRelease : List ℕ → Result (FinMap name_cmp (List ℕ)) ReleaseErr → Type 0
+ReadsRelease bytes (Ok release) = IsRelease bytes release
+ReadsRelease bytes (Err OutOfMemory) = Unit {0}
+ReadsRelease bytes (Err (BadRelease line)) = IsFirstFault bytes line

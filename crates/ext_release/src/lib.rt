@@ -5,6 +5,11 @@
 #![tactic(auto)]
 
 mod blanks;
+mod cutting;
+mod line;
+mod reading;
 mod release;
+mod value;
 
+pub use reading::{ReleaseErr, read_release};
 pub use release::Release;

@@ -1,6 +1,9 @@
-ghost use Rattle.std.specs.Prelude.{◌≡◌, [], IfOk};
+ghost use Rattle.std.specs.Prelude.{◌≡◌, ℕ, List, [], IfOk, OnOk, None};
 ghost use Rattle.std.specs.Option.{option_copied, unwrap_or};
 ghost use Rattle.std.specs.FinMap as map;
+ghost use Rattle.std.specs.String.{string_bytes};
+ghost use Rattle.ext_release.specs.Line.{Sets};
+ghost use Rattle.ext_release.specs.Release.{assigned, leaves};
 ghost use Rattle.ext_release.specs.Words.{has_word, words_of};
 
 use crate::blanks::{append_words, has_word};
@@ -32,6 +35,34 @@ impl Model for Release {
 }
 
 impl Release {
+    // Nothing is assigned.
+    pub(crate) fn new(alloc: Global) -> Release
+        ensures { (key : List ℕ) → map.get result key ≡ None }
+    {
+        Release {
+            alloc,
+            values: BTreeMap::new(alloc),
+        }
+    }
+
+    // Where its texts are kept.
+    pub(crate) fn allocator(&self) -> Global {
+        self.alloc
+    }
+
+    // Sets a key to a value; to an empty one, the key has none.
+    pub(crate) fn set(&mut self, key: &str, value: String) -> Result<(), OutOfMemory>
+        ensures { OnOk result ((q : List ℕ) → map.get self.new q ≡ leaves (assigned (Sets key.now (string_bytes value)) q) (map.get self.old q)) }
+    {
+        if value.as_str().is_empty() {
+            let _ = self.values.remove(key);
+            return Ok(());
+        }
+        let key = String::from_str(self.alloc, key)?;
+        let _ = self.values.insert(key, value)?;
+        Ok(())
+    }
+
     /// The value of a key, as its last assignment gives it; `None` exactly where the key has none or an empty one.
     pub fn value(&self, key: &str) -> Option<&str>
         ensures { option_copied result ≡ map.get self.now key.now }

@@ -1,0 +1,17 @@
+-- Cutting a text at the first byte that passes a test.
+use Rattle.std.specs.Prelude.{◌≡◌, ℕ, Bool, true, false, ◌||◌, ◌==◌, List, ◌∷◌, ◌++◌}
+use Rattle.std.specs.List.{AllByRecursion}
+
+-- no byte of the text passes
+abbrev pub Lacks : (ℕ → Bool) → List ℕ → Type 0
+Lacks p text = AllByRecursion (λ b. p b ≡ false) text
+
+-- the text is a front of which no byte passes, a byte that passes, and what stands behind it
+pub record IsCut (p : ℕ → Bool) (text front : List ℕ) (byte : ℕ) (behind : List ℕ) : Type 0 where
+  pub whole : text ≡ front ++ byte ∷ behind
+  pub lacks : Lacks p front
+  pub passes : p byte ≡ true
+
+-- a double quote or a backslash
+abbrev pub is_mark : ℕ → Bool
+is_mark b = b == 34 || b == 92

@@ -1,0 +1,108 @@
+ghost use Rattle.std.specs.Prelude.{◌≡◌, true, IfOk};
+ghost use Rattle.ext_release.specs.Line.{assigns, is_key, is_text, line_of, meaning};
+ghost use Rattle.ext_release.specs.Reading.{FollowsAs, IsNextLine};
+ghost use Rattle.ext_release.specs.Release.{ReadsRelease};
+
+use crate::cutting::cut;
+use crate::line::{after_blanks, is_key, text_of, trimmed};
+use crate::release::Release;
+use crate::value::unquoted;
+use ext_text::{OutOfMemory, cut_at};
+use std::alloc::{AllocError, AllocFailed, Global};
+use thiserror::Error;
+
+/// Why bytes are no release file.
+#[derive(Clone, Copy, Debug, PartialEq, Eq, Error)]
+pub enum ReleaseErr {
+    /// A growth was refused.
+    #[error("out of memory")]
+    OutOfMemory,
+    /// The first line that is faulty, counted from 1.
+    #[error("line {line} of the release file is faulty")]
+    BadRelease { line: u64 },
+}
+
+impl From<OutOfMemory> for ReleaseErr {
+    ghost use Rattle.std.specs.Prelude.{◌≡◌};
+    ghost use Rattle.ext_release.specs.declared.reading.ReleaseErr.TheVariants as errors;
+
+    ghost from_gives = { λ _ e. e ≡ errors.OutOfMemory };
+
+    fn from(_refused: OutOfMemory) -> ReleaseErr {
+        ReleaseErr::OutOfMemory
+    }
+}
+
+// Follows an assignment; whether its value is sound.
+fn assign(release: &mut Release, key: &str, text: &str) -> Result<bool, OutOfMemory>
+    requires { is_key key.now ≡ true }
+    ensures { IfOk result (FollowsAs (assigns key.now text.now) release.old release.new) }
+{
+    match unquoted(release.allocator(), after_blanks(text))? {
+        None => Ok(false),
+        Some(value) => {
+            release.set(key, value)?;
+            Ok(true)
+        }
+    }
+}
+
+// Follows a line without its carriage return.
+fn follow_text(release: &mut Release, text: &str) -> Result<bool, OutOfMemory>
+    requires { is_text text.now ≡ true }
+    ensures { IfOk result (FollowsAs (meaning text.now) release.old release.new) }
+{
+    match cut(trimmed(text), b'=') {
+        Some((key, value)) if is_key(key.as_bytes()) => assign(release, key, value),
+        _ => Ok(true),
+    }
+}
+
+// Follows a line; whether it is sound.
+fn follow(release: &mut Release, line: &[u8]) -> Result<bool, OutOfMemory>
+    ensures { IfOk result (FollowsAs (line_of line.now) release.old release.new) }
+{
+    match text_of(line) {
+        None => Ok(false),
+        Some(text) => follow_text(release, text),
+    }
+}
+
+// The first line of a text, and the text behind it, if a newline ends that line.
+fn next_line(text: &[u8]) -> (&[u8], Option<&[u8]>)
+    ensures { IsNextLine text.now result.0.now result.1 }
+{
+    match cut_at(text, b'\n') {
+        None => (text, None),
+        Some((line, behind)) => (line, Some(behind)),
+    }
+}
+
+/// What a release file assigns. Its lines end at newlines, and so does the file or not; a carriage return at the end of
+/// a line and blanks, spaces and tabs, at both ends do not count. A line is skipped where no `=` stands in it, or where
+/// what stands before the first is no key of the form `[A-Z_][A-Z0-9_]*`: an empty line and a comment are such lines. What
+/// stands behind the `=` is the value, without blanks at both ends: in double quotes, where a backslash before `"`, `$`,
+/// a backquote or a backslash vanishes; in single quotes, where nothing is special; or without quotes, where a backslash
+/// keeps the byte behind it and vanishes.
+///
+/// # Errors
+/// `BadRelease` with the first line, counted from 1, that is no UTF-8, holds a control byte other than a tab, or assigns
+/// to a key a value whose quote does not close or has text behind it; `OutOfMemory`.
+pub fn read_release(alloc: Global, bytes: &[u8]) -> Result<Release, ReleaseErr>
+    ensures { ReadsRelease bytes.now result }
+{
+    let mut release = Release::new(alloc);
+    let mut rest = bytes;
+    let mut number = 0;
+    'lines: loop {
+        let (line, behind) = next_line(rest);
+        number += 1;
+        if !follow(&mut release, line)? {
+            return Err(ReleaseErr::BadRelease { line: number });
+        }
+        match behind {
+            None => return Ok(release),
+            Some(more) => rest = more,
+        }
+    }
+}
