@@ -9,7 +9,9 @@ mod cutting;
 mod line;
 mod reading;
 mod release;
+#[cfg(test)]
+mod tests;
 mod value;
 
-pub use reading::{ReleaseErr, read_release};
+pub use reading::{ReleaseErr, a_file_has_one_release, read_release};
 pub use release::Release;

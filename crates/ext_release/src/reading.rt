@@ -1,7 +1,9 @@
-ghost use Rattle.std.specs.Prelude.{◌≡◌, true, IfOk};
+ghost use Rattle.std.specs.Prelude.{◌≡◌, ℕ, List, true, IfOk};
+ghost use Rattle.std.specs.FinMap.{FinMap};
+ghost use Rattle.ext_text.specs.Name.{name_cmp};
 ghost use Rattle.ext_release.specs.Line.{assigns, is_key, is_text, line_of, meaning};
 ghost use Rattle.ext_release.specs.Reading.{FollowsAs, IsNextLine};
-ghost use Rattle.ext_release.specs.Release.{ReadsRelease};
+ghost use Rattle.ext_release.specs.Release.{IsRelease, ReadsRelease};
 
 use crate::cutting::cut;
 use crate::line::{after_blanks, is_key, text_of, trimmed};
@@ -106,3 +108,8 @@ pub fn read_release(alloc: Global, bytes: &[u8]) -> Result<Release, ReleaseErr>
         }
     }
 }
+
+/// A file has one release: two maps that both are its release are equal.
+pub fn a_file_has_one_release()
+    ensures { (bytes : List ℕ) (a b : FinMap name_cmp (List ℕ)) → IsRelease bytes a → IsRelease bytes b → a ≡ b }
+{}
