@@ -1,0 +1,364 @@
+use crate::{Verdict, judge};
+use ext_release::read_release;
+use ext_text::{Arch, Class, Scope};
+use std::test::Fail;
+
+const DEBIAN: &str = "ID=debian\nVERSION_ID=12\n";
+
+const LEVELLED: &str = "ID=debian\nVERSION_ID=12\nSYSEXT_LEVEL=2\n";
+
+const CONFIGURED: &str = "ID=debian\nVERSION_ID=12\nCONFEXT_LEVEL=2\n";
+
+// The class, the scope, the release file of the host, that of the extension, the verdict for a host of x86-64.
+const TABLE: [(Class, Scope, &str, &str, Verdict); 50] = [
+    // the lists of scopes
+    (
+        Class::Sysext,
+        Scope::System,
+        DEBIAN,
+        "ID=debian\nVERSION_ID=12\nSYSEXT_SCOPE=initrd",
+        Verdict::Scope,
+    ),
+    (
+        Class::Sysext,
+        Scope::Initrd,
+        DEBIAN,
+        "ID=debian\nVERSION_ID=12\nSYSEXT_SCOPE=initrd",
+        Verdict::Fits,
+    ),
+    (
+        Class::Sysext,
+        Scope::Initrd,
+        DEBIAN,
+        "ID=debian\nVERSION_ID=12",
+        Verdict::Scope,
+    ),
+    (
+        Class::Sysext,
+        Scope::System,
+        DEBIAN,
+        "ID=debian\nVERSION_ID=12",
+        Verdict::Fits,
+    ),
+    (
+        Class::Sysext,
+        Scope::Portable,
+        DEBIAN,
+        "ID=debian\nVERSION_ID=12",
+        Verdict::Fits,
+    ),
+    (
+        Class::Sysext,
+        Scope::System,
+        DEBIAN,
+        "ID=_any\nSYSEXT_SCOPE='portable\tinitrd  system'",
+        Verdict::Fits,
+    ),
+    (
+        Class::Sysext,
+        Scope::Initrd,
+        DEBIAN,
+        "ID=_any\nSYSEXT_SCOPE='portable\tinitrd  system'",
+        Verdict::Fits,
+    ),
+    (
+        Class::Sysext,
+        Scope::Portable,
+        DEBIAN,
+        "ID=_any\nSYSEXT_SCOPE='system initrd'",
+        Verdict::Scope,
+    ),
+    (
+        Class::Sysext,
+        Scope::System,
+        DEBIAN,
+        "ID=_any\nSYSEXT_SCOPE=sys,system",
+        Verdict::Scope,
+    ),
+    (
+        Class::Sysext,
+        Scope::System,
+        DEBIAN,
+        "ID=_any\nSYSEXT_SCOPE=' '",
+        Verdict::Scope,
+    ),
+    (
+        Class::Sysext,
+        Scope::System,
+        DEBIAN,
+        "ID=_any\nSYSEXT_SCOPE=",
+        Verdict::Fits,
+    ),
+    (
+        Class::Sysext,
+        Scope::System,
+        DEBIAN,
+        "ID=_any\nCONFEXT_SCOPE=initrd",
+        Verdict::Fits,
+    ),
+    (
+        Class::Confext,
+        Scope::System,
+        DEBIAN,
+        "ID=_any\nCONFEXT_SCOPE=initrd",
+        Verdict::Scope,
+    ),
+    (
+        Class::Confext,
+        Scope::System,
+        DEBIAN,
+        "ID=_any\nSYSEXT_SCOPE=initrd",
+        Verdict::Fits,
+    ),
+    (
+        Class::Confext,
+        Scope::Initrd,
+        DEBIAN,
+        "ID=_any",
+        Verdict::Scope,
+    ),
+    (
+        Class::Sysext,
+        Scope::System,
+        DEBIAN,
+        "ARCHITECTURE=arm64\nSYSEXT_SCOPE=initrd",
+        Verdict::Scope,
+    ),
+    // the architecture
+    (
+        Class::Sysext,
+        Scope::System,
+        DEBIAN,
+        "ID=debian\nVERSION_ID=12\nARCHITECTURE=arm64",
+        Verdict::Architecture,
+    ),
+    (
+        Class::Sysext,
+        Scope::System,
+        DEBIAN,
+        "ID=debian\nVERSION_ID=12\nARCHITECTURE=x86-64",
+        Verdict::Fits,
+    ),
+    (
+        Class::Sysext,
+        Scope::System,
+        DEBIAN,
+        "ID=debian\nVERSION_ID=12\nARCHITECTURE=_any",
+        Verdict::Fits,
+    ),
+    (
+        Class::Sysext,
+        Scope::System,
+        DEBIAN,
+        "ID=debian\nVERSION_ID=12\nARCHITECTURE=",
+        Verdict::Fits,
+    ),
+    (
+        Class::Sysext,
+        Scope::System,
+        DEBIAN,
+        "ID=_any\nARCHITECTURE=x86",
+        Verdict::Architecture,
+    ),
+    (
+        Class::Confext,
+        Scope::System,
+        DEBIAN,
+        "ARCHITECTURE=x86_64",
+        Verdict::Architecture,
+    ),
+    // the ID
+    (
+        Class::Sysext,
+        Scope::System,
+        DEBIAN,
+        "VERSION_ID=12",
+        Verdict::NoId,
+    ),
+    (
+        Class::Sysext,
+        Scope::System,
+        DEBIAN,
+        "ID=\nVERSION_ID=12",
+        Verdict::NoId,
+    ),
+    (Class::Sysext, Scope::System, "", "", Verdict::NoId),
+    (
+        Class::Sysext,
+        Scope::System,
+        DEBIAN,
+        "ID=_any\nVERSION_ID=99",
+        Verdict::Fits,
+    ),
+    (
+        Class::Sysext,
+        Scope::System,
+        LEVELLED,
+        "ID=_any\nSYSEXT_LEVEL=1",
+        Verdict::Fits,
+    ),
+    (
+        Class::Sysext,
+        Scope::System,
+        DEBIAN,
+        "ID=ubuntu\nVERSION_ID=12",
+        Verdict::Id,
+    ),
+    (
+        Class::Sysext,
+        Scope::System,
+        DEBIAN,
+        "ID=Debian\nVERSION_ID=12",
+        Verdict::Id,
+    ),
+    (
+        Class::Sysext,
+        Scope::System,
+        "VERSION_ID=12",
+        "ID=linux\nVERSION_ID=12",
+        Verdict::Fits,
+    ),
+    (Class::Sysext, Scope::System, "", "ID=linux", Verdict::Fits),
+    (
+        Class::Sysext,
+        Scope::System,
+        "ID=",
+        "ID=linux",
+        Verdict::Fits,
+    ),
+    (Class::Sysext, Scope::System, "", "ID=debian", Verdict::Id),
+    (
+        Class::Sysext,
+        Scope::System,
+        DEBIAN,
+        "ID=linux\nVERSION_ID=12",
+        Verdict::Id,
+    ),
+    (
+        Class::Sysext,
+        Scope::System,
+        LEVELLED,
+        "ID=ubuntu\nSYSEXT_LEVEL=2",
+        Verdict::Id,
+    ),
+    // the level
+    (
+        Class::Sysext,
+        Scope::System,
+        LEVELLED,
+        "ID=debian\nSYSEXT_LEVEL=1\nVERSION_ID=12",
+        Verdict::Level,
+    ),
+    (
+        Class::Sysext,
+        Scope::System,
+        LEVELLED,
+        "ID=debian\nSYSEXT_LEVEL=2\nVERSION_ID=99",
+        Verdict::Fits,
+    ),
+    (
+        Class::Sysext,
+        Scope::System,
+        LEVELLED,
+        "ID=debian\nSYSEXT_LEVEL=02\nVERSION_ID=12",
+        Verdict::Level,
+    ),
+    (
+        Class::Sysext,
+        Scope::System,
+        LEVELLED,
+        "ID=debian\nVERSION_ID=12",
+        Verdict::Fits,
+    ),
+    (
+        Class::Sysext,
+        Scope::System,
+        LEVELLED,
+        "ID=debian\nSYSEXT_LEVEL=\nVERSION_ID=99",
+        Verdict::Version,
+    ),
+    (
+        Class::Sysext,
+        Scope::System,
+        DEBIAN,
+        "ID=debian\nSYSEXT_LEVEL=2\nVERSION_ID=99",
+        Verdict::Version,
+    ),
+    (
+        Class::Sysext,
+        Scope::System,
+        LEVELLED,
+        "ID=debian\nCONFEXT_LEVEL=1\nVERSION_ID=12",
+        Verdict::Fits,
+    ),
+    (
+        Class::Confext,
+        Scope::System,
+        CONFIGURED,
+        "ID=debian\nCONFEXT_LEVEL=1\nVERSION_ID=12",
+        Verdict::Level,
+    ),
+    (
+        Class::Confext,
+        Scope::System,
+        CONFIGURED,
+        "ID=debian\nCONFEXT_LEVEL=2\nVERSION_ID=99",
+        Verdict::Fits,
+    ),
+    (
+        Class::Confext,
+        Scope::System,
+        LEVELLED,
+        "ID=debian\nSYSEXT_LEVEL=1\nVERSION_ID=12",
+        Verdict::Fits,
+    ),
+    // the version
+    (
+        Class::Sysext,
+        Scope::System,
+        DEBIAN,
+        "ID=debian\nVERSION_ID=11",
+        Verdict::Version,
+    ),
+    (
+        Class::Sysext,
+        Scope::System,
+        DEBIAN,
+        "ID=debian",
+        Verdict::Version,
+    ),
+    (
+        Class::Sysext,
+        Scope::System,
+        DEBIAN,
+        "ID=debian\nVERSION_ID=12.0",
+        Verdict::Version,
+    ),
+    (
+        Class::Sysext,
+        Scope::System,
+        "ID=arch",
+        "ID=arch\nVERSION_ID=5",
+        Verdict::Fits,
+    ),
+    (
+        Class::Confext,
+        Scope::System,
+        "ID=arch\nVERSION_ID=",
+        "ID=arch\nVERSION_ID=5",
+        Verdict::Fits,
+    ),
+];
+
+#[test]
+fn the_first_part_that_fails_is_the_verdict(rt: HostRuntime) -> Result<(), Fail> {
+    for (class, scope, host, ext, verdict) in TABLE {
+        let host = read_release(rt.alloc(), host.as_bytes())?;
+        let image = read_release(rt.alloc(), ext.as_bytes())?;
+        let found = judge(&host, &image, class, scope, Arch::X86_64, false);
+        assert_eq!(rt; found, verdict, "{ext:?}");
+        let forced = judge(&host, &image, class, scope, Arch::X86_64, true);
+        assert_eq!(rt; forced, Verdict::Fits);
+    }
+    Ok(())
+}
