@@ -84,3 +84,9 @@ JudgesRelease host ext class verdicts.Scope = ⊥
 JudgesRelease host ext class verdicts.Architecture = ⊥
 JudgesRelease host ext class verdicts.NoId = ⊥
 JudgesRelease host ext class verdicts.Id = ⊥
+
+-- of the same files, class, scope, architecture and force no two verdicts hold
+abbrev pub OneVerdict : Type 0
+OneVerdict =
+    (host ext : Release) (class : Class) (scope : Scope) (arch : Arch) (force : Bool) (v w : Verdict) →
+    IsVerdict host ext class scope arch force v → IsVerdict host ext class scope arch force w → v ≡ w

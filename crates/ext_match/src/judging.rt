@@ -1,7 +1,7 @@
 ghost use Rattle.std.specs.Prelude.{◌≡◌, ◌↔◌, true, IsTrue, codes};
 ghost use Rattle.std.specs.FinMap as map;
 ghost use Rattle.ext_match.specs.Class.{IsExtension, level_key};
-ghost use Rattle.ext_match.specs.Verdict.{FitsArch, FitsLevel, FitsVersion, HasScope, HaveLevels, IsVerdict, JudgesRelease};
+ghost use Rattle.ext_match.specs.Verdict.{FitsArch, FitsLevel, FitsVersion, HasScope, HaveLevels, IsVerdict, JudgesRelease, OneVerdict};
 
 use crate::class::{level_key, scope_key};
 use crate::verdict::Verdict;
@@ -96,3 +96,8 @@ fn fits_version(host: &Release, ext: &Release) -> bool
         Some(version) => ext.value("VERSION_ID") == Some(version),
     }
 }
+
+/// There is one verdict: no two hold of the same files, class, scope, architecture and force.
+pub fn one_verdict()
+    ensures { OneVerdict }
+{}

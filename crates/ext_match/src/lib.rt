@@ -10,5 +10,5 @@ mod judging;
 mod tests;
 mod verdict;
 
-pub use judging::judge;
+pub use judging::{judge, one_verdict};
 pub use verdict::Verdict;
