@@ -1,2 +1,5 @@
-pub mod Fronts
+pub mod Cuts
+pub mod Facts
+pub mod Lists
 pub mod Parts
+pub mod PathFronts

@@ -1,8 +1,8 @@
 -- The parts of a text between its slashes, and the text of names.
-use Rattle.std.proofs.Common.{◌≡◌, ℕ, Ok, Err, ◌+◌, ◌-◌, ◌<◌, ◌≤◌, List, [], ◌∷◌, ◌++◌, length, refl, sym, ap, ◌∙◌, arith, sum_by, eqb, Bool, true, false, not, length-append}
+use Rattle.std.proofs.Common.{◌≡◌, ℕ, Ok, Err, ◌+◌, ◌-◌, ◌<◌, ◌≤◌, List, [], ◌∷◌, ◌++◌, length, refl, sym, ap, ◌∙◌, arith, sum_by, eqb, false, length-append}
 use mathlib.Core.Bool.{false≢true}
 use Rattle.std.proofs.lemmas.List.{append-nil}
-use Rattle.std.specs.List.{flat_map, AllByRecursion, All, slice_split, count_by}
+use Rattle.std.specs.List.{flat_map, AllByRecursion, slice_split, count_by}
 use Rattle.std.proofs.lemmas.Bool.{eq-eqb}
 use Rattle.std.proofs.lemmas.List.Splits.{slice_split_none, slice_split_at, join_with_byte-slice_split, length-slice_split}
 use Rattle.std.proofs.lemmas.List.Sums.{sum_by-append, sum_by-cons}
@@ -11,14 +11,8 @@ use Rattle.ext_text.specs.Name.{IsName}
 use Rattle.ext_text.specs.Path.{IsPath, IsPartsErr, ReadsPath, path_text, path_parts}
 use Rattle.ext_text.specs.declared.path.PathErr.{PathErr}
 use Rattle.ext_text.specs.declared.path.PathErr.TheVariants.{OutOfMemory, BadName, TooLong, TooDeep}
-
-not_true : (b : Bool) → not b ≡ true → b ≡ false
-not_true true e = sym e
-not_true false e = refl
-
--- a byte that is not there is told apart from each
-pub lacks_all : (byte : ℕ) (bytes : List ℕ) → Lacks byte bytes → All (λ b. eqb b byte ≡ false) bytes
-lacks_all byte bytes lacks = λ k d lt. not_true _ (lacks k d lt)
+use Rattle.ext_text.proofs.Cuts.{lacks_all}
+use Rattle.ext_text.proofs.Lists.{all_append}
 
 -- without the byte there is one part
 pub split_none : (byte : ℕ) (bytes : List ℕ) → Lacks byte bytes → slice_split (λ b. eqb b byte) bytes ≡ bytes ∷ []
@@ -42,10 +36,6 @@ length-parts bytes n some is = ap length (parts_some bytes some) ∙ length-slic
 pub text-parts : (bytes : List ℕ) → path_text (slice_split (λ b. eqb b 47) bytes) ≡ bytes
 text-parts bytes = join_with_byte-slice_split 47 bytes
 
-pub each-append : {X : Type 0} (P : X → Type 0) (xs ys : List X) → AllByRecursion P xs → AllByRecursion P ys → AllByRecursion P (xs ++ ys)
-each-append P [] ys p q = q
-each-append P (x ∷ xs) ys p q = (p.0, each-append P xs ys p.1 q)
-
 -- the bytes of the names' text: one less than with a slash after each name
 pub length-path_text : (ns : List (List ℕ)) → length (path_text ns) ≡ sum_by (λ n. length n + 1) ns - 1
 length-path_text [] = refl
@@ -62,7 +52,7 @@ path_text-cons n (m ∷ ns) = ap (λ (r : List ℕ). n ++ 47 ∷ r) (path_text-c
 -- the path of both lists of names
 pub path_of : (front behind : List (List ℕ)) → AllByRecursion IsName front → AllByRecursion IsName behind → length front + length behind ≤ 64 → sum_by (λ n. length n + 1) front + sum_by (λ n. length n + 1) behind ≤ 4097 → IsPath (front ++ behind)
 path_of front behind f b few short = record {
-  each = each-append IsName front behind f b;
+  each = all_append IsName front behind f b;
   depth = omega (arith, length-append front behind);
   size = omega (arith, length-path_text (front ++ behind), sum_by-append (λ (n : List ℕ). length n + 1) front behind);
 }

@@ -1,5 +1,5 @@
 use Rattle.std.proofs.Common.{◌∙◌}
-use Rattle.ext_text.proofs.Fronts.{is_front-starts_with}
+use Rattle.ext_text.proofs.PathFronts.{is_front-starts_with}
 use Rattle.ext_tree.proofs.following.is_front.Goals as goal
 
 pub returns : goal.returns

@@ -1,5 +1,5 @@
 use Rattle.std.proofs.Common.{◌∙◌}
-use Rattle.ext_text.proofs.Fronts.{is_front-starts_with}
+use Rattle.ext_text.proofs.PathFronts.{is_front-starts_with}
 use Rattle.ext_text.proofs.path.Path.starts_with.Goals as goal
 
 pub returns : goal.returns
