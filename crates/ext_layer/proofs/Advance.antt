@@ -1,27 +1,28 @@
 -- One step of joining two lists, over the items that the code holds.
 use Rattle.std.proofs.Common.{◌≡◌, ℕ, ◌+◌, ◌<◌, true, T, List, [], ◌∷◌, ◌++◌, length, take, drop, get_or, sym, ap, ◌∙◌, subst, append_assoc, arith}
 use Rattle.std.proofs.lemmas.Bool.{and_parts}
+use Rattle.std.proofs.lemmas.Float.{T_from_true}
 use Rattle.std.proofs.lemmas.List.{map-append, take-map, drop-map, drop-drop, drop_more, length-map, get_or-map}
 use Rattle.std.specs.Ordering.{is_lt}
 use Rattle.std.specs.FinMap.{is_sorted}
 use Rattle.std.specs.FinMap.Entries.{below_all}
 use Rattle.ext_text.specs.Path.{path_cmp}
+use Rattle.ext_text.proofs.Facts.{true_from_T}
 use Rattle.ext_layer.specs.declared.item.Item.{Item}
 use Rattle.ext_layer.specs.Verdicts.{Marked, over, over_first, place, hidden}
 use Rattle.ext_layer.specs.Items.{seen, all_seen}
-use Rattle.ext_layer.proofs.Fronts.{is_true, as_test}
 use Rattle.ext_layer.proofs.Places.{skip, sorted_drop, step}
 
 module _ {C : Type 0} where
   sorted_rest : (n : ℕ) (items : List (Item C)) → is_sorted path_cmp (all_seen items) ≡ true → T (is_sorted path_cmp (all_seen (drop n items)))
-  sorted_rest n items h = subst (λ l. T (is_sorted path_cmp l)) (drop-map seen n items) (sorted_drop n (all_seen items) (as_test _ h))
+  sorted_rest n items h = subst (λ l. T (is_sorted path_cmp l)) (drop-map seen n items) (sorted_drop n (all_seen items) (T_from_true _ h))
 
   -- the numbers that the code counts are those of the step
   step_counted : (item laid : Item C) (us rest : List (Item C)) (n m : ℕ) → T (is_sorted path_cmp (seen item ∷ all_seen us)) → T (is_sorted path_cmp (all_seen rest)) → n ≡ place (seen item).0 (all_seen rest) → seen laid ≡ over_first (seen item) (all_seen (drop n rest)) → m ≡ hidden (seen item) (all_seen (drop n rest))
       → all_seen (take n rest) ++ seen laid ∷ over (all_seen us) (all_seen (drop m (drop n rest))) ≡ over (seen item ∷ all_seen us) (all_seen rest)
   step_counted item laid us rest n m upper lower n-is laid-is m-is =
-      let x = and_parts (below_all path_cmp (seen item).0 (all_seen us)) (is_sorted path_cmp (all_seen us)) (is_true _ upper) in
-      let stepped = step (seen item) (all_seen us) (all_seen rest) (as_test _ x.0) lower in
+      let x = and_parts (below_all path_cmp (seen item).0 (all_seen us)) (is_sorted path_cmp (all_seen us)) (true_from_T _ upper) in
+      let stepped = step (seen item) (all_seen us) (all_seen rest) (T_from_true _ x.0) lower in
       let dropped : all_seen (drop n rest) ≡ drop n (all_seen rest) = sym (drop-map seen n rest) in
       (λ i. sym (take-map seen n rest) i ++ laid-is i ∷ over (all_seen us) (sym (drop-map seen m (drop n rest)) i))
       ∙ (λ i. take n (all_seen rest) ++ over_first (seen item) (dropped i) ∷ over (all_seen us) (drop m (dropped i)))
@@ -79,7 +80,7 @@ module _ {C : Type 0} where
   stride_passed upper lower last sorted lt is before =
       let long : 63 < length (all_seen lower) = subst (λ n. 63 < n) (sym (length-map lower seen)) lt in
       let at : seen last ≡ get_or (all_seen lower) 63 (seen last) = ap seen is ∙ sym (get_or-map seen lower 63 last (seen last) lt) in
-      skip (seen upper).0 63 (all_seen lower) (seen last) (as_test _ sorted) long (ap (λ x. is_lt (path_cmp x.0 (seen upper).0)) (sym at) ∙ before)
+      skip (seen upper).0 63 (all_seen lower) (seen last) (T_from_true _ sorted) long (ap (λ x. is_lt (path_cmp x.0 (seen upper).0)) (sym at) ∙ before)
       ∙ ap (λ l. 64 + place (seen upper).0 l) (drop-map seen 64 lower)
 
   -- the count goes on after a stride
@@ -92,4 +93,4 @@ module _ {C : Type 0} where
 
   -- the rest of items in order is in order
   pub rest_sorted : (n : ℕ) (items rest : List (Item C)) → is_sorted path_cmp (all_seen items) ≡ true → rest ≡ drop n items → is_sorted path_cmp (all_seen rest) ≡ true
-  rest_sorted n items rest sorted is = ap (λ l. is_sorted path_cmp (all_seen l)) is ∙ is_true _ (sorted_rest n items sorted)
+  rest_sorted n items rest sorted is = ap (λ l. is_sorted path_cmp (all_seen l)) is ∙ true_from_T _ (sorted_rest n items sorted)

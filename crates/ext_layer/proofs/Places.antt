@@ -1,17 +1,21 @@
 -- Where an upper entry lies in a lower list: behind what stands before its path, in place of the row that it hides.
 use Rattle.std.proofs.Common.{◌≡◌, ℕ, zero, suc, ◌+◌, ◌<◌, Bool, true, false, cond, not, ◌&&◌, ◌||◌, T, List, [], ◌∷◌, ◌++◌, length, get_or, take, drop, Some, refl, sym, ap, ◌∙◌, subst, arith}
 use Rattle.std.proofs.lemmas.Bool.{false≢true, false_from_ne_true, and_parts, and_from, and_right, not-true}
+use Rattle.std.proofs.lemmas.Float.{T_from_true}
 use Rattle.std.specs.declared.cmp.Ordering.TheVariants.{Less, Equal, Greater}
-use Rattle.std.specs.Ordering.{is_lt, is_eq, eq_by_cmp, ordering_reverse}
+use Rattle.std.specs.Ordering.{is_lt, is_gt, is_eq, eq_by_cmp, ordering_reverse}
 use Rattle.std.specs.Cmp.{tied_itself}
 use Rattle.std.specs.List.{prefix_len}
 use Rattle.std.specs.FinMap.{find, put, is_sorted}
 use Rattle.std.specs.FinMap.Entries.{below_all, where_key, by_order}
 use Rattle.ext_text.specs.Path.{path_cmp, is_front}
 use Rattle.ext_text.specs.Order.{paths_exact, paths_total}
+use Rattle.ext_text.proofs.Facts.{true_from_T, is_less}
+use Rattle.ext_text.proofs.PathFronts.{same_path, tied_path, front_self, front_order, convex}
 use Rattle.ext_tree.specs.declared.entry.Entry.{Entry}
+use Rattle.ext_tree.proofs.Place.{below_at}
 use Rattle.ext_layer.specs.Verdicts.{Marked, cuts_at, hides, over_entry, lay, over, place, hidden, over_first}
-use Rattle.ext_layer.proofs.Fronts.{is_true, as_test, less, same_path, tied_path, front_self, front_order, convex, absent}
+use Rattle.ext_layer.proofs.Fronts.{absent}
 
 -- what follows the front of a list whose elements pass a test
 abbrev pub rest_of : {X : Type 0} → (X → Bool) → List X → List X
@@ -43,7 +47,7 @@ after k e f from h =
 bare_after : (c : Bool) (k e f : List (List ℕ)) → is_lt (path_cmp e k) ≡ false → cond c (is_front k e) (eq_by_cmp path_cmp e k) ≡ false → path_cmp e f ≡ Less → cond c (is_front k f) (eq_by_cmp path_cmp f k) ≡ false
 bare_after true k e f from bare h =
     false_from_ne_true (is_front k f) (λ front. elim (path_cmp k e) as (λ o. path_cmp k e ≡ o → ⊥) [
-      | Less ↦ λ o. false≢true (sym bare ∙ convex k e f front o h)
+      | Less ↦ λ o. false≢true (sym bare ∙ convex k e f (ap is_gt o) (ap is_gt h) front)
       | Equal ↦ λ o. false≢true (sym bare ∙ subst (λ z. is_front k z ≡ true) (paths_exact k e o) (front_self k))
       | Greater ↦ λ o. false≢true (sym from ∙ ap is_lt (paths_total.antisymm e k ∙ ap ordering_reverse o))
     ] refl)
@@ -60,7 +64,7 @@ not_before k f h = ap is_lt (paths_total.antisymm f k ∙ ap ordering_reverse h)
 
 starts_next : {X : Type 0} (k e : List (List ℕ)) (es : List (List (List ℕ) × X)) → is_lt (path_cmp e k) ≡ false → T (below_all path_cmp e es) → starts_from k es ≡ true
 starts_next k e [] from h = refl
-starts_next k e (f ∷ es) from h = ap not (not_before k f.0 (after k e f.0 from (less _ (and_parts _ _ (is_true _ h)).0)))
+starts_next k e (f ∷ es) from h = ap not (not_before k f.0 (after k e f.0 from (is_less _ (and_parts _ _ (true_from_T _ h)).0)))
 
 pub starts_rest : {X : Type 0} (k : List (List ℕ)) (es : List (List (List ℕ) × X)) → starts_from k (rest_of (λ e. is_lt (path_cmp e.0 k)) es) ≡ true
 starts_rest k [] = refl
@@ -83,35 +87,28 @@ or_false false = refl
 below_before : {X : Type 0} (k e : List (List ℕ)) (es : List (List (List ℕ) × X)) → path_cmp k e ≡ Less → T (below_all path_cmp e es) → T (below_all path_cmp k es)
 below_before k e [] o h = tt
 below_before k e (f ∷ es) o h =
-    let x = and_parts (is_lt (path_cmp e f.0)) (below_all path_cmp e es) (is_true _ h) in
-    as_test _ (and_from _ _ (ap is_lt (paths_total.trans k e f.0 o (less _ x.0))) (is_true _ (below_before k e es o (as_test _ x.1))))
+    let x = and_parts (is_lt (path_cmp e f.0)) (below_all path_cmp e es) (true_from_T _ h) in
+    T_from_true _ (and_from _ _ (ap is_lt (paths_total.trans k e f.0 o (is_less _ x.0))) (true_from_T _ (below_before k e es o (T_from_true _ x.1))))
 
 -- the rest of a list in order is in order
 pub sorted_drop : {X : Type 0} (n : ℕ) (es : List (List (List ℕ) × X)) → T (is_sorted path_cmp es) → T (is_sorted path_cmp (drop n es))
 sorted_drop zero es h = h
 sorted_drop (suc n) [] h = h
-sorted_drop (suc n) (e ∷ es) h = sorted_drop n es (as_test _ (and_parts (below_all path_cmp e.0 es) (is_sorted path_cmp es) (is_true _ h)).1)
+sorted_drop (suc n) (e ∷ es) h = sorted_drop n es (T_from_true _ (and_parts (below_all path_cmp e.0 es) (is_sorted path_cmp es) (true_from_T _ h)).1)
 
 and_true : (b : Bool) → b ≡ (b && true)
 and_true true = refl
 and_true false = refl
-
-below_at : {X : Type 0} (k : List (List ℕ)) (n : ℕ) (es : List (List (List ℕ) × X)) (d : List (List ℕ) × X) → T (below_all path_cmp k es) → n < length es → path_cmp k (get_or es n d).0 ≡ Less
-below_at k n [] d h lt = absurd (omega arith)
-below_at k zero (e ∷ es) d h lt = less _ (and_parts _ _ (is_true _ h)).0
-below_at k (suc n) (e ∷ es) d h lt =
-    let shorter : n < length es = omega arith in
-    below_at k n es d (as_test _ (and_parts (is_lt (path_cmp k e.0)) (below_all path_cmp k es) (is_true _ h)).1) shorter
 
 -- where one entry stands before a path, so do all in front of it
 pub skip : {X : Type 0} (p : List (List ℕ)) (n : ℕ) (es : List (List (List ℕ) × X)) (d : List (List ℕ) × X) → T (is_sorted path_cmp es) → n < length es → is_lt (path_cmp (get_or es n d).0 p) ≡ true → place p es ≡ suc n + place p (drop (suc n) es)
 skip p n [] d h lt before = absurd (omega arith)
 skip p zero (e ∷ es) d h lt before = ap (λ b. cond b (1 + place p es) 0) before
 skip p (suc n) (e ∷ es) d h lt before =
-    let x = and_parts (below_all path_cmp e.0 es) (is_sorted path_cmp es) (is_true _ h) in
+    let x = and_parts (below_all path_cmp e.0 es) (is_sorted path_cmp es) (true_from_T _ h) in
     let shorter : n < length es = omega arith in
-    let rest = skip p n es d (as_test _ x.1) shorter before in
-    let here : is_lt (path_cmp e.0 p) ≡ true = ap is_lt (paths_total.trans e.0 (get_or es n d).0 p (below_at e.0 n es d (as_test _ x.0) shorter) (less _ before)) in
+    let rest = skip p n es d (T_from_true _ x.1) shorter before in
+    let here : is_lt (path_cmp e.0 p) ≡ true = ap is_lt (paths_total.trans e.0 (get_or es n d).0 p (below_at path_cmp e.0 es n d x.0 shorter) (is_less _ before)) in
     let sum : 1 + place p es ≡ suc (suc n) + place p (drop (suc n) es) = omega arith in
     ap (λ b. cond b (1 + place p es) 0) here ∙ sum
 
@@ -132,30 +129,30 @@ module _ {C : Type 0} where
   all_bare : (u : List (List ℕ) × (Entry C × Bool)) (e : List (List ℕ)) (es : Marked C) → is_lt (path_cmp e u.0) ≡ false → hides u e ≡ false → T (below_all path_cmp e es) → where_key path_cmp (λ p. not (hides u p)) es ≡ es
   all_bare u e [] from bare h = refl
   all_bare u e (f ∷ es) from bare h =
-      let x = and_parts (is_lt (path_cmp e f.0)) (below_all path_cmp e es) (is_true _ h) in
-      let rest = all_bare u e es from bare (as_test _ x.1) in
-      let open_ : hides u f.0 ≡ false = bare_after u.1.1 u.0 e f.0 from bare (less _ x.0) in
+      let x = and_parts (is_lt (path_cmp e f.0)) (below_all path_cmp e es) (true_from_T _ h) in
+      let rest = all_bare u e es from bare (T_from_true _ x.1) in
+      let open_ : hides u f.0 ≡ false = bare_after u.1.1 u.0 e f.0 from bare (is_less _ x.0) in
       ap (λ b. cond (not b) (f ∷ where_key path_cmp (λ p. not (hides u p)) es) (where_key path_cmp (λ p. not (hides u p)) es)) open_ ∙ ap (λ l. f ∷ l) rest
 
   -- what an entry hides stands in one row
   kept_rest : (u : List (List ℕ) × (Entry C × Bool)) (es : Marked C) → starts_from u.0 es ≡ true → T (is_sorted path_cmp es) → where_key path_cmp (λ p. not (hides u p)) es ≡ rest_of (λ e. hides u e.0) es
   kept_rest u [] from h = refl
   kept_rest u (e ∷ es) from h =
-      let x = and_parts (below_all path_cmp e.0 es) (is_sorted path_cmp es) (is_true _ h) in
+      let x = and_parts (below_all path_cmp e.0 es) (is_sorted path_cmp es) (true_from_T _ h) in
       let at = not-true _ from in
-      let rest = kept_rest u es (starts_next u.0 e.0 es at (as_test _ x.0)) (as_test _ x.1) in
+      let rest = kept_rest u es (starts_next u.0 e.0 es at (T_from_true _ x.0)) (T_from_true _ x.1) in
       elim (hides u e.0) as (λ b. hides u e.0 ≡ b → cond (not b) (e ∷ where_key path_cmp (λ p. not (hides u p)) es) (where_key path_cmp (λ p. not (hides u p)) es) ≡ cond b (rest_of (λ e. hides u e.0) es) (e ∷ es)) [
         | true ↦ λ t. rest
-        | false ↦ λ t. ap (λ l. e ∷ l) (all_bare u e.0 es at t (as_test _ x.0))
+        | false ↦ λ t. ap (λ l. e ∷ l) (all_bare u e.0 es at t (T_from_true _ x.0))
       ] refl
 
   -- behind the row that it hides nothing stands at the entry's path or before it
   put_rest : (u : List (List ℕ) × (Entry C × Bool)) (v : Entry C × Bool) (es : Marked C) → starts_from u.0 es ≡ true → T (is_sorted path_cmp es) → put path_cmp u.0 v (rest_of (λ e. hides u e.0) es) ≡ (u.0, v) ∷ rest_of (λ e. hides u e.0) es
   put_rest u v [] from h = refl
   put_rest u v (e ∷ es) from h =
-      let x = and_parts (below_all path_cmp e.0 es) (is_sorted path_cmp es) (is_true _ h) in
+      let x = and_parts (below_all path_cmp e.0 es) (is_sorted path_cmp es) (true_from_T _ h) in
       let at = not-true _ from in
-      let rest = put_rest u v es (starts_next u.0 e.0 es at (as_test _ x.0)) (as_test _ x.1) in
+      let rest = put_rest u v es (starts_next u.0 e.0 es at (T_from_true _ x.0)) (T_from_true _ x.1) in
       elim (hides u e.0) as (λ b. hides u e.0 ≡ b → put path_cmp u.0 v (cond b (rest_of (λ e. hides u e.0) es) (e ∷ es)) ≡ (u.0, v) ∷ cond b (rest_of (λ e. hides u e.0) es) (e ∷ es)) [
         | true ↦ λ t. rest
         | false ↦ λ t. elim (path_cmp u.0 e.0) as (λ o. path_cmp u.0 e.0 ≡ o → by_order o ((u.0, v) ∷ e ∷ es) ((e.0, v) ∷ es) (e ∷ put path_cmp u.0 v es) ≡ (u.0, v) ∷ e ∷ es) [
@@ -169,13 +166,13 @@ module _ {C : Type 0} where
   first_mark : (u : List (List ℕ) × (Entry C × Bool)) (es : Marked C) → starts_from u.0 es ≡ true → T (is_sorted path_cmp es) → over_entry u es ≡ over_first u es
   first_mark u [] from h = λ i. (u.0, (u.1.0, or_false u.1.1 i))
   first_mark u (e ∷ es) from h =
-      let x = and_parts (below_all path_cmp e.0 es) (is_sorted path_cmp es) (is_true _ h) in
+      let x = and_parts (below_all path_cmp e.0 es) (is_sorted path_cmp es) (true_from_T _ h) in
       let at = not-true _ from in
       let mark : cuts_at (find path_cmp u.0 (e ∷ es)) ≡ (e.1.1 && eq_by_cmp path_cmp e.0 u.0) =
       elim (path_cmp u.0 e.0) as (λ o. path_cmp u.0 e.0 ≡ o → cuts_at (cond (is_eq o) (Some e.1) (find path_cmp u.0 es)) ≡ (e.1.1 && is_eq (path_cmp e.0 u.0))) [
         | Less ↦ λ o.
             let turned : path_cmp e.0 u.0 ≡ Greater = paths_total.antisymm e.0 u.0 ∙ ap ordering_reverse o in
-            ap cuts_at (absent u.0 u.0 (front_self u.0) es (below_before u.0 e.0 es o (as_test _ x.0))) ∙ sym (and_right e.1.1 false refl) ∙ ap (λ r. e.1.1 && is_eq r) (sym turned)
+            ap cuts_at (absent u.0 u.0 (front_self u.0) es (below_before u.0 e.0 es o (T_from_true _ x.0))) ∙ sym (and_right e.1.1 false refl) ∙ ap (λ r. e.1.1 && is_eq r) (sym turned)
         | Equal ↦ λ o. and_true e.1.1 ∙ ap (λ r. e.1.1 && is_eq r) (sym (paths_total.antisymm e.0 u.0 ∙ ap ordering_reverse o))
         | Greater ↦ λ o. absurd (false≢true (sym at ∙ ap is_lt (paths_total.antisymm e.0 u.0 ∙ ap ordering_reverse o)))
       ] refl in
@@ -190,8 +187,8 @@ module _ {C : Type 0} where
   over_after : (e : List (List ℕ) × (Entry C × Bool)) (us es : Marked C) → T (below_all path_cmp e.0 us) → over us (e ∷ es) ≡ e ∷ over us es
   over_after e [] es h = refl
   over_after e (u ∷ us) es h =
-      let x = and_parts (is_lt (path_cmp e.0 u.0)) (below_all path_cmp e.0 us) (is_true _ h) in
-      ap (over us) (lay_after u e es (less _ x.0)) ∙ over_after e us (lay u es) (as_test _ x.1)
+      let x = and_parts (is_lt (path_cmp e.0 u.0)) (below_all path_cmp e.0 us) (true_from_T _ h) in
+      ap (over us) (lay_after u e es (is_less _ x.0)) ∙ over_after e us (lay u es) (T_from_true _ x.1)
 
   first_path : (u : List (List ℕ) × (Entry C × Bool)) (es : Marked C) → (over_first u es).0 ≡ u.0
   first_path u [] = refl
@@ -211,12 +208,12 @@ module _ {C : Type 0} where
   pub step : (u : List (List ℕ) × (Entry C × Bool)) (us es : Marked C) → T (below_all path_cmp u.0 us) → T (is_sorted path_cmp es) → over (u ∷ us) es ≡ step_at u us es (place u.0 es)
   step u us [] below h = step_here u us [] below refl h
   step u us (e ∷ es) below h =
-      let x = and_parts (below_all path_cmp e.0 es) (is_sorted path_cmp es) (is_true _ h) in
-      let rest = step u us es below (as_test _ x.1) in
+      let x = and_parts (below_all path_cmp e.0 es) (is_sorted path_cmp es) (true_from_T _ h) in
+      let rest = step u us es below (T_from_true _ x.1) in
       elim (is_lt (path_cmp e.0 u.0)) as (λ b. is_lt (path_cmp e.0 u.0) ≡ b → over us (lay u (e ∷ es)) ≡ step_at u us (e ∷ es) (cond b (1 + place u.0 es) 0)) [
         | true ↦ λ t.
-            ap (over us) (lay_after u e es (less _ t))
-            ∙ over_after e us (lay u es) (below_before e.0 u.0 us (less _ t) below)
+            ap (over us) (lay_after u e es (is_less _ t))
+            ∙ over_after e us (lay u es) (below_before e.0 u.0 us (is_less _ t) below)
             ∙ ap (λ l. e ∷ l) rest
             ∙ ap (step_at u us (e ∷ es)) (sym (one_more (place u.0 es)))
         | false ↦ λ t. step_here u us (e ∷ es) below (ap not t) h

@@ -1,6 +1,7 @@
 -- What a row of layers says at each path is what shows there, and what shows of trees is a tree.
 use Rattle.std.proofs.Common.{◌≡◌, ℕ, ◌<◌, Bool, true, false, cond, not, ◌&&◌, List, [], ◌∷◌, ◌++◌, length, map, take, drop, Option, Some, None, refl, sym, ap, ◌∙◌, subst, arith}
 use Rattle.std.proofs.lemmas.Bool.{false≢true, and_parts, and_from, not-true, false_from_ne_true, not_from_false}
+use Rattle.std.proofs.lemmas.Float.{T_from_true}
 use Rattle.std.proofs.lemmas.List.{take-append-drop}
 use Rattle.std.specs.Option.{option_map}
 use Rattle.std.specs.List.{AllByRecursion}
@@ -8,13 +9,16 @@ use Rattle.std.specs.Ordering.{is_lt, eq_by_cmp}
 use Rattle.std.specs.FinMap.{find, is_sorted}
 use Rattle.std.specs.FinMap.Entries.{below_all}
 use Rattle.ext_text.specs.Path.{path_cmp, is_front}
+use Rattle.ext_text.proofs.Facts.{true_from_T}
+use Rattle.ext_text.proofs.Lists.{all_append}
+use Rattle.ext_text.proofs.PathFronts.{front_both}
 use Rattle.ext_tree.specs.Tree.{Entries, IsTree, IsTreeWithin, lookup, is_dir}
 use Rattle.ext_tree.specs.declared.entry.Entry.{Entry}
 use Rattle.ext_layer.specs.Layered.{Passes, Shows, is_proper_front, is_solid_at}
 use Rattle.ext_layer.specs.declared.item.Item.{Item}
 use Rattle.ext_layer.specs.Items.{all_seen}
 use Rattle.ext_layer.specs.Verdicts.{Joins, Marked, Verdict, shown_as, cut_off, let_pass, first_of_two, some_front, cuts_at, judged, verdict, marked, unmarked, row_verdict, over}
-use Rattle.ext_layer.proofs.Fronts.{is_true, as_test, front_both, some_front-none, some_front-at}
+use Rattle.ext_layer.proofs.Fronts.{some_front-none, some_front-at}
 use Rattle.ext_layer.proofs.Verdicts.{none_verdict, over_verdict, sorted_over, row_verdict-append}
 
 -- other values at the same keys
@@ -39,10 +43,6 @@ front_cases {P = P} q p f same proper =
       | true ↦ λ back. same (front_both q p f back)
       | false ↦ λ apart. proper (and_from _ _ f (not_from_false _ apart))
     ] refl
-
-each_append : {X : Type 0} (P : X → Type 0) (xs ys : List X) → AllByRecursion P xs → AllByRecursion P ys → AllByRecursion P (xs ++ ys)
-each_append P [] ys h k = k
-each_append P (x ∷ xs) ys h k = (h.0, each_append P xs ys h.1 k)
 
 abbrev pub with_mark : {C : Type 0} → Entry C → Entry C × Bool
 with_mark e = (e, not (is_dir e))
@@ -157,9 +157,9 @@ module _ {C : Type 0} where
 
   pub joins_both : (xs ys : List (Entries C)) (us ls : Marked C) → Joins xs us → Joins ys ls → Joins (xs ++ ys) (over us ls)
   joins_both xs ys us ls upper lower = record {
-    trees = each_append IsTree xs ys upper.trees lower.trees;
-    sorted = is_true _ (sorted_over us ls (as_test _ lower.sorted));
-    says = λ p. over_verdict us ls p (as_test _ upper.sorted) ∙ (λ i. first_of_two (upper.says p i) (lower.says p i)) ∙ sym (row_verdict-append xs ys p);
+    trees = all_append IsTree xs ys upper.trees lower.trees;
+    sorted = true_from_T _ (sorted_over us ls (T_from_true _ lower.sorted));
+    says = λ p. over_verdict us ls p (T_from_true _ upper.sorted) ∙ (λ i. first_of_two (upper.says p i) (lower.says p i)) ∙ sym (row_verdict-append xs ys p);
   }
 
   -- the same, over what the calls of the code give

@@ -1,6 +1,7 @@
 -- What shows of trees is a tree, and there is one such tree.
 use Rattle.std.proofs.Common.{◌≡◌, ℕ, zero, suc, ◌-◌, ◌<◌, ◌≤◌, Bool, true, false, not, List, [], ◌∷◌, ◌++◌, length, take, Option, Some, None, refl, sym, ap, ◌∙◌, subst, arith}
 use Rattle.std.proofs.lemmas.Bool.{false≢true, and_parts, and_from, and_right, not-true, not-false, false_from_ne_true, not_from_false}
+use Rattle.std.proofs.lemmas.Float.{T_from_true}
 use Rattle.std.proofs.lemmas.List.{length-map}
 use Rattle.std.specs.Option.{option_map, is_some}
 use Rattle.std.specs.List.{AllByRecursion}
@@ -10,30 +11,20 @@ use Rattle.ext_text.specs.Name.{name_cmp}
 use Rattle.std.specs.Ordering.{eq_by_cmp}
 use Rattle.ext_text.specs.Path.{path_cmp, is_front, parent}
 use Rattle.ext_text.specs.Order.{paths_exact, paths_total}
+use Rattle.ext_text.proofs.Lists.{all_back}
+use Rattle.ext_text.proofs.PathFronts.{some_name, front_both, front_trans, parent_front, parent_other}
 use Rattle.ext_tree.specs.Tree.{Entries, IsTree, lookup, is_dir, is_dir_at, is_folder, most_entries}
 use Rattle.ext_tree.specs.declared.entry.Entry.{Entry}
 use Rattle.ext_layer.specs.Layered.{IsLayered, Passes, Shows, is_proper_front, is_solid_at}
 use Rattle.ext_layer.specs.declared.item.Item.{Item}
 use Rattle.ext_layer.specs.Items.{seen, all_seen}
 use Rattle.ext_layer.specs.Verdicts.{Joins, Marked, Verdict, shown_as, cut_off, let_pass, first_of_two, some_front, cuts_at, judged, verdict, marked, unmarked, row_verdict}
-use Rattle.ext_layer.proofs.Fronts.{as_test, front_self, front_trans}
 use Rattle.ext_layer.proofs.Showing.{is_sorted-map, with_mark, without_mark, find_marked, lookup_unmarked, layer_passes, shown_unmarked, unmarked_shown, row_from_shows, shows_from_row}
 
-front_take : (n : ℕ) (p : List (List ℕ)) → is_front (take n p) p ≡ true
-front_take zero p = refl
-front_take (suc n) [] = refl
-front_take (suc n) (m ∷ p) = and_from _ _ (and_parts (eq_by_cmp name_cmp m m) (is_front p p) (front_self (m ∷ p))).0 (front_take n p)
-
-too_long : (n : ℕ) (p : List (List ℕ)) → n < length p → is_front p (take n p) ≡ false
-too_long n [] lt = absurd (omega arith)
-too_long zero (m ∷ p) lt = refl
-too_long (suc n) (m ∷ p) lt = let shorter : n < length p = omega arith in and_right _ _ (too_long n p shorter)
-
 parent_above : (p : List (List ℕ)) → (p ≡ [] → ⊥) → is_proper_front (parent p) p ≡ true
-parent_above [] some = absurd (some refl)
-parent_above (n ∷ p) some =
-    let shorter : length (n ∷ p) - 1 < length (n ∷ p) = omega arith in
-    and_from _ _ (front_take (length (n ∷ p) - 1) (n ∷ p)) (not_from_false _ (too_long (length (n ∷ p) - 1) (n ∷ p) shorter))
+parent_above p below =
+    let some = some_name p below in
+    and_from _ _ (parent_front p) (not_from_false _ (false_from_ne_true (is_front p (parent p)) (λ back. parent_other p some (front_both (parent p) p (parent_front p) back))))
 
 proper_trans : (r q p : List (List ℕ)) → is_proper_front r q ≡ true → is_proper_front q p ≡ true → is_proper_front r p ≡ true
 proper_trans r q p a b =
@@ -49,10 +40,6 @@ same_options : {X : Type 0} (o w : Option X) → ((x : X) → o ≡ Some x → w
 same_options (Some x) w there back = sym (there x refl)
 same_options None None there back = refl
 same_options None (Some x) there back = back x refl
-
-tree_among : {X : Type 0} (P : X → Type 0) (above : List X) (layer : X) (below : List X) → AllByRecursion P (above ++ layer ∷ below) → P layer
-tree_among P [] layer below h = h.0
-tree_among P (a ∷ above) layer below h = tree_among P above layer below h.1
 
 module _ {C : Type 0} where
   shows_dir : Verdict C → Bool
@@ -104,7 +91,7 @@ module _ {C : Type 0} where
   layered_from_joins layers ms joins =
       let es = unmarked ms in
       let shown : (p : List (List ℕ)) (e : Entry C) → lookup es p ≡ Some e → Shows layers p e = λ p e h. shows_from_row layers p e (sym (joins.says p) ∙ unmarked_shown ms p e h) in
-      let tree_of : (p : List (List ℕ)) (e : Entry C) (s : Shows layers p e) → IsTree s.layer = λ p e s. tree_among IsTree s.above s.layer s.below (subst (AllByRecursion IsTree) s.split joins.trees) in
+      let tree_of : (p : List (List ℕ)) (e : Entry C) (s : Shows layers p e) → IsTree s.layer = λ p e s. (all_back IsTree s.above (s.layer ∷ s.below) (subst (AllByRecursion IsTree) s.split joins.trees)).0 in
       let root : lookup es [] ≡ None = elim (lookup es []) as (λ o. lookup es [] ≡ o → o ≡ None) [
         | None ↦ λ h. refl
         | Some e ↦ λ h. let s = shown [] e h in let none = (tree_of [] e s).root in let here = s.here in absurd (cc (none, here))
@@ -127,7 +114,7 @@ module _ {C : Type 0} where
 
   pub one_layered : (layers : List (Entries C)) (a b : Entries C) → IsLayered layers a → IsLayered layers b → a ≡ b
   one_layered layers a b x y =
-      same_entries path_cmp paths_total paths_exact a b (as_test _ x.tree.sorted) (as_test _ y.tree.sorted) (λ q.
+      same_entries path_cmp paths_total paths_exact a b (T_from_true _ x.tree.sorted) (T_from_true _ y.tree.sorted) (λ q.
       same_options (lookup a q) (lookup b q) (λ e h. y.only q e (x.shown q e h)) (λ e h. x.only q e (y.shown q e h)))
 
   -- the joined items as the tree that they show, and its number of entries

@@ -1,15 +1,18 @@
 -- What marked lists say at each path: laid over one another, they say what the first that does not let it pass says.
 use Rattle.std.proofs.Common.{◌≡◌, ℕ, Bool, true, false, cond, not, ◌||◌, T, List, [], ◌∷◌, ◌++◌, Option, Some, None, refl, sym, ap, ◌∙◌, subst}
 use Rattle.std.proofs.lemmas.Bool.{false≢true, false_from_ne_true, and_parts}
+use Rattle.std.proofs.lemmas.Float.{T_from_true}
 use Rattle.std.specs.Ordering.{eq_by_cmp}
 use Rattle.std.specs.FinMap.{find, is_sorted}
 use Rattle.std.specs.FinMap.Entries.{below_all, where_key, find-put, find-where_key, is_sorted-put, is_sorted-where_key}
 use Rattle.ext_text.specs.Path.{path_cmp, is_front}
 use Rattle.ext_text.specs.Order.{paths_exact, paths_total}
+use Rattle.ext_text.proofs.Facts.{true_from_T}
+use Rattle.ext_text.proofs.PathFronts.{same_path, tied_path, front_self, front_trans}
 use Rattle.ext_tree.specs.Tree.{Entries}
 use Rattle.ext_tree.specs.declared.entry.Entry.{Entry}
 use Rattle.ext_layer.specs.Verdicts.{Marked, Verdict, shown_as, cut_off, let_pass, first_of_two, some_front, cuts_at, judged, verdict, marked, row_verdict, hides, over_entry, lay, over}
-use Rattle.ext_layer.proofs.Fronts.{is_true, as_test, same_path, tied_path, front_self, front_trans, absent, some_front-same, some_front-none, some_front-at, some_front-or}
+use Rattle.ext_layer.proofs.Fronts.{absent, some_front-same, some_front-none, some_front-at, some_front-or}
 
 pub first_assoc : {C : Type 0} (a b c : Verdict C) → first_of_two (first_of_two a b) c ≡ first_of_two a (first_of_two b c)
 first_assoc (shown_as e) b c = refl
@@ -127,11 +130,11 @@ module _ {C : Type 0} where
   pub over_verdict : (us ls : Marked C) (p : List (List ℕ)) → T (is_sorted path_cmp us) → verdict (over us ls) p ≡ first_of_two (verdict us p) (verdict ls p)
   over_verdict [] ls p h = ap (λ v. first_of_two v (verdict ls p)) (sym (none_verdict p))
   over_verdict (u ∷ us) ls p h =
-      let x = and_parts (below_all path_cmp u.0 us) (is_sorted path_cmp us) (is_true _ h) in
-      over_verdict us (lay u ls) p (as_test _ x.1)
+      let x = and_parts (below_all path_cmp u.0 us) (is_sorted path_cmp us) (true_from_T _ h) in
+      over_verdict us (lay u ls) p (T_from_true _ x.1)
       ∙ ap (first_of_two (verdict us p)) (lay_verdict u ls p)
       ∙ sym (first_assoc (verdict us p) (verdict (u ∷ []) p) (verdict ls p))
-      ∙ ap (λ v. first_of_two v (verdict ls p)) (sym (cons_verdict u us p (as_test _ x.0)))
+      ∙ ap (λ v. first_of_two v (verdict ls p)) (sym (cons_verdict u us p (T_from_true _ x.0)))
 
   pub sorted_over : (us ls : Marked C) → T (is_sorted path_cmp ls) → T (is_sorted path_cmp (over us ls))
   sorted_over [] ls h = h

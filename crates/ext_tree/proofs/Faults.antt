@@ -1,31 +1,26 @@
 -- Where no text goes on is the first faulty line, and there the bytes are no row of texts.
-use Rattle.std.proofs.Common.{◌≡◌, ◌≢◌, ℕ, suc, ◌+◌, ◌-◌, true, not, eqb, List, [], ◌∷◌, ◌++◌, length, take, refl, sym, ap, ◌∙◌, subst, arith, append_assoc, length-append}
+use Rattle.std.proofs.Common.{◌≡◌, ◌≢◌, ℕ, suc, ◌+◌, ◌-◌, not, eqb, List, [], ◌∷◌, ◌++◌, length, take, refl, sym, ap, ◌∙◌, subst, arith, append_assoc, length-append}
 use Rattle.std.specs.Prelude.{codes, map}
 use mathlib.Core.Logic.{inl, inr}
-use Rattle.std.proofs.lemmas.Bool.{and_parts}
-use Rattle.std.proofs.lemmas.List.{append_cancel_left}
-use Rattle.std.specs.List.{AllByRecursion, flat_map, list_all}
+use Rattle.std.proofs.lemmas.List.{append-nil, append_cancel_left}
+use Rattle.std.proofs.lemmas.List.Sums.{AllPass-from_list_all}
+use Rattle.std.specs.List.{AllByRecursion, flat_map}
 use Rattle.ext_text.specs.Cut.{Lacks, IsCut}
+use Rattle.ext_text.proofs.Cuts.{cut_or_lacks, lacks_nil}
+use Rattle.ext_text.proofs.Lists.{all_append}
 use Rattle.ext_tree.specs.declared.stamp.Stamp.{Stamp}
 use Rattle.ext_tree.specs.Tree.{Entries}
 use Rattle.ext_tree.specs.TreeText.{HasLine, HasText, entry_line, tree_lines, lines_text, tree_text}
 use Rattle.ext_tree.specs.FirstFault.{Begins, IsFirstFault, whole_lines}
 use Rattle.ext_tree.specs.Reading.{NoneNext}
 use Rattle.ext_tree.proofs.LineLaws.{line_lacks}
-use Rattle.ext_tree.proofs.TextFronts.{all_join, lines_of}
-use Rattle.ext_tree.proofs.WholeLines.{cut_or_lacks, whole_lines-text, whole_lines-cut, whole_lines-lacks, lines_text-append, lacks_cons, lacks_empty}
-use Rattle.ext_tree.proofs.Rows.{append_empty}
+use Rattle.ext_tree.proofs.TextFronts.{lines_of}
+use Rattle.ext_tree.proofs.WholeLines.{whole_lines-text, whole_lines-cut, whole_lines-lacks, lines_text-append}
 
 -- ---- the lines of texts
 
-lacks_tested : (bytes : List ℕ) → list_all (λ b. not (eqb b 10)) bytes ≡ true → Lacks 10 bytes
-lacks_tested [] all = lacks_empty 10
-lacks_tested (b ∷ bytes) all =
-    let parts = and_parts (not (eqb b 10)) (list_all (λ x. not (eqb x 10)) bytes) all in
-    lacks_cons 10 b bytes parts.0 (lacks_tested bytes parts.1)
-
 pub header_lacks : Lacks 10 (codes "hostext-tree 1")
-header_lacks = lacks_tested (codes "hostext-tree 1") refl
+header_lacks = AllPass-from_list_all (λ b. not (eqb b 10)) (codes "hostext-tree 1") refl
 
 pub entries_lack : (es : Entries Stamp) → AllByRecursion HasLine es → AllByRecursion (Lacks 10) (map entry_line es)
 entries_lack [] lines = tt
@@ -33,11 +28,11 @@ entries_lack (x ∷ es) lines = (line_lacks x lines.0, entries_lack es lines.1)
 
 -- no line of a row holds a newline
 pub tree_lacks : (es : Entries Stamp) → HasText es → AllByRecursion (Lacks 10) (tree_lines es)
-tree_lacks es text = (header_lacks, all_join (Lacks 10) (map entry_line es) (codes "end" ∷ []) (entries_lack es (lines_of es text)) (lacks_tested (codes "end") refl, tt))
+tree_lacks es text = (header_lacks, all_append (Lacks 10) (map entry_line es) (codes "end" ∷ []) (entries_lack es (lines_of es text)) (AllPass-from_list_all (λ b. not (eqb b 10)) (codes "end") refl, tt))
 
 pub row_lacks : (trees : List (Entries Stamp)) → AllByRecursion HasText trees → AllByRecursion (Lacks 10) (flat_map tree_lines trees)
 row_lacks [] each = tt
-row_lacks (t ∷ trees) each = all_join (Lacks 10) (tree_lines t) (flat_map tree_lines trees) (tree_lacks t each.0) (row_lacks trees each.1)
+row_lacks (t ∷ trees) each = all_append (Lacks 10) (tree_lines t) (flat_map tree_lines trees) (tree_lacks t each.0) (row_lacks trees each.1)
 
 -- the text of a row is that of its lines
 pub row_text : (trees : List (Entries Stamp)) → flat_map tree_text trees ≡ lines_text (flat_map tree_lines trees)
@@ -47,10 +42,10 @@ row_text (t ∷ trees) = ap (λ xs. tree_text t ++ xs) (row_text trees) ∙ sym 
 -- the lines of a whole row
 pub row_lines : (bytes : List ℕ) (trees : List (Entries Stamp)) → AllByRecursion HasText trees → bytes ≡ flat_map tree_text trees → whole_lines bytes ≡ flat_map tree_lines trees
 row_lines bytes trees each text =
-    ap whole_lines (text ∙ row_text trees ∙ sym (append_empty (lines_text (flat_map tree_lines trees))))
+    ap whole_lines (text ∙ row_text trees ∙ sym (append-nil (lines_text (flat_map tree_lines trees))))
     ∙ whole_lines-text (flat_map tree_lines trees) [] (row_lacks trees each)
-    ∙ ap (λ xs. flat_map tree_lines trees ++ xs) (whole_lines-lacks [] (lacks_empty 10))
-    ∙ append_empty (flat_map tree_lines trees)
+    ∙ ap (λ xs. flat_map tree_lines trees ++ xs) (whole_lines-lacks [] (lacks_nil 10))
+    ∙ append-nil (flat_map tree_lines trees)
 
 -- ---- where no text goes on
 
@@ -81,12 +76,12 @@ whole_row wanted bytes lines rest stuck trees each text = sym (ap whole_lines st
 
 early_end : (wanted : List (Entries Stamp) → Type 0) (bytes : List ℕ) (lines : List (List ℕ)) (rest : List ℕ) → IsStuck wanted bytes lines rest → Lacks 10 rest → NoRow wanted bytes × IsFirstFault wanted bytes (length lines + 1)
 early_end wanted bytes lines rest stuck lacks =
-    let no_more : lines ++ whole_lines rest ≡ lines = ap (λ xs. lines ++ xs) (whole_lines-lacks rest lacks) ∙ append_empty lines in
+    let no_more : lines ++ whole_lines rest ≡ lines = ap (λ xs. lines ++ xs) (whole_lines-lacks rest lacks) ∙ append-nil lines in
     let seen : whole_lines bytes ≡ lines = ap whole_lines stuck.text ∙ whole_lines-text lines rest stuck.lacks ∙ no_more in (
       (λ trees as_many each text.
           let same : lines ≡ flat_map tree_lines trees = sym no_more ∙ whole_row wanted bytes lines rest stuck trees each text in
           stuck.unended trees as_many each same
-          (append_cancel_left (lines_text lines) rest [] (sym stuck.text ∙ text ∙ row_text trees ∙ ap lines_text (sym same) ∙ sym (append_empty (lines_text lines))))),
+          (append_cancel_left (lines_text lines) rest [] (sym stuck.text ∙ text ∙ row_text trees ∙ ap lines_text (sym same) ∙ sym (append-nil (lines_text lines))))),
       inr (record {
         after = ap (λ xs. length xs + 1) (sym seen);
         before = subst (Begins wanted) (sym seen) stuck.before;
@@ -114,7 +109,7 @@ faulty_line wanted bytes lines rest l more stuck cut =
 
 pub stuck_fault : (wanted : List (Entries Stamp) → Type 0) (bytes : List ℕ) (lines : List (List ℕ)) (rest : List ℕ) (line : ℕ) → IsStuck wanted bytes lines rest → line ≡ length lines + 1 → NoRow wanted bytes × IsFirstFault wanted bytes line
 stuck_fault wanted bytes lines rest line stuck is =
-    subst (λ n. NoRow wanted bytes × IsFirstFault wanted bytes n) (sym is) (elim (cut_or_lacks rest) [
+    subst (λ n. NoRow wanted bytes × IsFirstFault wanted bytes n) (sym is) (elim (cut_or_lacks 10 rest) [
       | inl lacks ↦ early_end wanted bytes lines rest stuck lacks
       | inr (l, more, cut) ↦ faulty_line wanted bytes lines rest l more stuck cut
     ])

@@ -1,5 +1,6 @@
 -- Where the reading of a text stops, no row goes on: the answers of the readers.
 use Rattle.std.proofs.Common.{◌≡◌, ◌≢◌, ℕ, ◌+◌, ◌<◌, ◌≤◌, Bool, false, eqb, List, [], ◌∷◌, ◌++◌, length, refl, sym, ap, ◌∙◌, subst, arith, append_assoc, length-append}
+use Rattle.std.proofs.lemmas.List.{append-nil}
 use Rattle.std.specs.Prelude.{codes, map, ◌⊎◌, Err}
 use mathlib.Core.Logic.{inl, inr}
 use Rattle.std.proofs.lemmas.Bool.{eqb-false}
@@ -7,6 +8,7 @@ use Rattle.std.proofs.lemmas.List.{length-map}
 use Rattle.std.proofs.lemmas.List.Concat.{flat_map-append}
 use Rattle.std.specs.List.{AllByRecursion, flat_map}
 use Rattle.ext_text.specs.Cut.{Lacks, IsCut}
+use Rattle.ext_text.proofs.Lists.{all_append}
 use Rattle.ext_tree.specs.declared.stamp.Stamp.{Stamp}
 use Rattle.ext_tree.specs.declared.reading.TreeTextErr.{TreeTextErr}
 use Rattle.ext_tree.specs.declared.reading.TreeTextErr.TheVariants.{OutOfMemory, BadTree}
@@ -14,16 +16,16 @@ use Rattle.ext_tree.specs.Tree.{Entries}
 use Rattle.ext_tree.specs.TreeText.{HasText, entry_line, tree_lines, lines_text, tree_text}
 use Rattle.ext_tree.specs.FirstFault.{IsFirstFault, IsOne, AtLeastOne, ReadsTree, ReadsRow}
 use Rattle.ext_tree.specs.Reading.{MayStand, NoneNext, StopsBody, StopsText, BeginsText, TextFault}
-use Rattle.ext_tree.proofs.TextFronts.{all_join, lines_of, empty_text}
+use Rattle.ext_tree.proofs.TextFronts.{lines_of, empty_text}
 use Rattle.ext_tree.proofs.WholeLines.{lines_text-append}
 use Rattle.ext_tree.proofs.BodyLines.{line_more, length-tree_lines}
-use Rattle.ext_tree.proofs.Rows.{append_empty, next_line, open_body, row_peeled, ended}
+use Rattle.ext_tree.proofs.Rows.{next_line, open_body, row_peeled, ended}
 use Rattle.ext_tree.proofs.Faults.{NoRow, IsStuck, stuck_fault, row_text, row_lacks, tree_lacks, header_lacks, entries_lack}
 
 -- ---- rows of trees and the lines that begin one more
 
 one_more : (done : List (Entries Stamp)) (t : Entries Stamp) → flat_map tree_lines (done ++ t ∷ []) ≡ flat_map tree_lines done ++ tree_lines t
-one_more done t = flat_map-append tree_lines done (t ∷ []) ∙ ap (λ xs. flat_map tree_lines done ++ xs) (append_empty (tree_lines t))
+one_more done t = flat_map-append tree_lines done (t ∷ []) ∙ ap (λ xs. flat_map tree_lines done ++ xs) (append-nil (tree_lines t))
 
 -- what stands behind whole trees in a row is a header, or nothing
 next_header : (done trees : List (Entries Stamp)) (l : List ℕ) (a : List (List ℕ)) → AllByRecursion HasText done → AllByRecursion HasText trees → (flat_map tree_lines done ++ l ∷ []) ++ a ≡ flat_map tree_lines trees → l ≡ codes "hostext-tree 1"
@@ -85,7 +87,7 @@ stuck_header wanted bytes done rest hd longer none text unended stop = record {
     trees = done ++ [] ∷ [];
     more = tree_lines [];
     as_many = longer [];
-    each = all_join HasText done ([] ∷ []) hd (empty_text, tt);
+    each = all_append HasText done ([] ∷ []) hd (empty_text, tt);
     text = sym (one_more done []);
   };
   stop = λ l more cut begins. stop l more cut (next_header done begins.trees l begins.more hd begins.each begins.text);
@@ -106,12 +108,12 @@ stuck_entries : (wanted : List (Entries Stamp) → Type 0) (bytes : List ℕ) (d
     → IsCut 10 rest (codes "hostext-tree 1") body → (stops : StopsBody body first line) → IsStuck wanted bytes (open_lines done stops.entries) stops.rest
 stuck_entries wanted bytes done rest body first line hd longer text cut stops = record {
   text = read;
-  lacks = all_join (Lacks 10) (flat_map tree_lines done) (codes "hostext-tree 1" ∷ map entry_line stops.entries) (row_lacks done hd) (header_lacks, entries_lack stops.entries (lines_of stops.entries stops.tree));
+  lacks = all_append (Lacks 10) (flat_map tree_lines done) (codes "hostext-tree 1" ∷ map entry_line stops.entries) (row_lacks done hd) (header_lacks, entries_lack stops.entries (lines_of stops.entries stops.tree));
   before = record {
     trees = done ++ stops.entries ∷ [];
     more = codes "end" ∷ [];
     as_many = longer stops.entries;
-    each = all_join HasText done (stops.entries ∷ []) hd (stops.tree, tt);
+    each = all_append HasText done (stops.entries ∷ []) hd (stops.tree, tt);
     text = append_assoc (flat_map tree_lines done) (codes "hostext-tree 1" ∷ map entry_line stops.entries) (codes "end" ∷ []) ∙ sym (one_more done stops.entries);
   };
   stop = λ l more end begins. stops.stop l more end (next_entry done begins.trees stops.entries l begins.more hd begins.each stops.tree begins.text);
@@ -139,7 +141,7 @@ row_stops wanted bytes done rest line hd longer none text unended (inr (body, cu
 -- what is no row of one tree is no tree's text
 no_tree : (bytes : List ℕ) (line : ℕ) → NoRow IsOne bytes × IsFirstFault IsOne bytes line → ReadsTree bytes (Err (BadTree line))
 no_tree bytes line found = (
-  (λ tree text. found.0 (tree ∷ []) (omega arith) (text.tree, tt) (text.text ∙ sym (append_empty (tree_text tree)))),
+  (λ tree text. found.0 (tree ∷ []) (omega arith) (text.tree, tt) (text.text ∙ sym (append-nil (tree_text tree)))),
   found.1,
 )
 
@@ -165,7 +167,7 @@ tree_more bytes es rest next begins some =
     one_more_line : (trees : List (Entries Stamp)) (l : List ℕ) (a : List (List ℕ)) → length trees ≡ 1 → AllByRecursion HasText trees → (tree_lines es ++ l ∷ []) ++ a ≡ flat_map tree_lines trees → ⊥
     one_more_line trees l a one each same =
         let peeled = row_peeled (es ∷ []) trees (l ∷ a) (begins.tree, tt) each
-        (ap (λ xs. xs ++ l ∷ a) (append_empty (tree_lines es)) ∙ sym (append_assoc (tree_lines es) (l ∷ []) a) ∙ same) in
+        (ap (λ xs. xs ++ l ∷ a) (append-nil (tree_lines es)) ∙ sym (append_assoc (tree_lines es) (l ∷ []) a) ∙ same) in
         alone peeled.0 (omega (arith, ap length peeled.1)) peeled.2
       where
         alone : (more : List (Entries Stamp)) → length more ≡ 0 → l ∷ a ≡ flat_map tree_lines more → ⊥
@@ -192,12 +194,12 @@ pub texts_more : (bytes : List ℕ) (done longer : List (Entries Stamp)) (t : En
 texts_more bytes done longer t rest first behind next text begins grown =
     text ∙ ap (λ xs. flat_map tree_text done ++ xs) begins.text
     ∙ sym (append_assoc (flat_map tree_text done) (tree_text t) behind)
-    ∙ ap (λ xs. (flat_map tree_text done ++ xs) ++ behind) (sym (append_empty (tree_text t)))
+    ∙ ap (λ xs. (flat_map tree_text done ++ xs) ++ behind) (sym (append-nil (tree_text t)))
     ∙ ap (λ xs. xs ++ behind) (sym (flat_map-append tree_text done (t ∷ [])))
     ∙ ap (λ ts. flat_map tree_text ts ++ behind) (sym grown)
 
 pub each_more : (done longer : List (Entries Stamp)) (t : Entries Stamp) → AllByRecursion HasText done → HasText t → longer ≡ done ++ t ∷ [] → AllByRecursion HasText longer
-each_more done longer t each text grown = subst (AllByRecursion HasText) (sym grown) (all_join HasText done (t ∷ []) each (text, tt))
+each_more done longer t each text grown = subst (AllByRecursion HasText) (sym grown) (all_append HasText done (t ∷ []) each (text, tt))
 
 pub counted_more : (done longer : List (Entries Stamp)) (t : Entries Stamp) (rest : List ℕ) (first : ℕ) (behind : List ℕ) (next : ℕ) → first ≡ 1 + length (flat_map tree_lines done) → BeginsText rest first t behind next → longer ≡ done ++ t ∷ [] → next ≡ 1 + length (flat_map tree_lines longer)
 counted_more done longer t rest first behind next counted begins grown =

@@ -1,32 +1,28 @@
 -- What keeps a list of entries a tree.
 use Rattle.std.proofs.Common.{◌≡◌, ℕ, ◌+◌, ◌<◌, ◌≤◌, Bool, true, false, cond, not, ◌||◌, List, [], ◌∷◌, length, Option, Some, None, is_some, refl, sym, ap, ◌∙◌, subst, arith}
-use Rattle.std.specs.Prelude.{IsTrue, T, slice_get, nat_le}
+use Rattle.std.specs.Prelude.{IsTrue, slice_get, nat_le}
 use Rattle.std.specs.List.{insert}
 use Rattle.std.specs.Ordering.{eq_by_cmp}
 use Rattle.std.specs.FinMap.{put}
 use Rattle.std.specs.FinMap.Entries.{is_sorted-put, find-put, length-put}
 use Rattle.std.proofs.lemmas.Bool.{true≢false, false≢true, or_parts, leb-false}
+use Rattle.std.proofs.lemmas.Float.{T_from_true}
 use Rattle.ext_text.specs.Path.{IsPath, path_cmp, parent}
-use Rattle.ext_text.specs.Order.{paths_total, paths_exact}
+use Rattle.ext_text.specs.Order.{paths_total}
+use Rattle.ext_text.proofs.Facts.{true_from_T}
+use Rattle.ext_text.proofs.PathFronts.{same_path}
 use Rattle.ext_tree.specs.declared.entry.Entry.{Entry}
 use Rattle.ext_tree.specs.declared.tree.TreeErr.TheVariants.{Exists, NotDirectory, Limit}
 use Rattle.ext_tree.specs.Tree.{Entries, IsTree, IsTreeWithin, lookup, is_dir_at, is_folder, most_entries}
 use Rattle.ext_tree.specs.Refusals.{insert_refusal, is_root}
 use Rattle.ext_tree.specs.Place.{place}
-use Rattle.ext_tree.proofs.Place.{equal, find_there, insert_here}
+use Rattle.ext_tree.proofs.Place.{find_there, insert_here}
 
 -- the folder of an entry is one, by whatever spelling
 pub folder_of : {C : Type 0} (es : Entries C) (i : ℕ) (e : List (List ℕ) × Entry C) (folder : List (List ℕ)) → IsTree es → slice_get es i ≡ Some e → eq_by_cmp path_cmp folder (parent e.0) ≡ true → IsTrue (is_folder es folder)
 folder_of es i e folder tree at same =
     let there = find_there path_cmp paths_total es i e tree.sorted at in
-    subst (λ f. IsTrue (is_folder es f)) (sym (paths_exact folder (parent e.0) (equal _ same))) (tree.parents e.0 (ap is_some there))
-
-as_test : (b : Bool) → T b → b ≡ true
-as_test true h = refl
-as_test false h = absurd h
-
-from_test : (b : Bool) → b ≡ true → T b
-from_test b h = subst T (sym h) tt
+    subst (λ f. IsTrue (is_folder es f)) (sym (same_path folder (parent e.0) same)) (tree.parents e.0 (ap is_some there))
 
 none_there : {C : Type 0} (o : Option (Entry C)) → is_some o ≡ false → is_dir_at o ≡ true → ⊥
 none_there None h dir = false≢true dir
@@ -59,7 +55,7 @@ is_free es p h =
 at_put : {C : Type 0} (es : Entries C) (p q : List (List ℕ)) (e : Entry C) (P : List (List ℕ) → Type 0) → P p → (IsTrue (is_some (lookup es q)) → P q) → IsTrue (is_some (lookup (put path_cmp p e es) q)) → P q
 at_put es p q e P here there h =
     elim (eq_by_cmp path_cmp q p) as (λ b. eq_by_cmp path_cmp q p ≡ b → is_some (cond b (Some e) (lookup es q)) ≡ true → P q) [
-      | true ↦ λ same _. subst P (sym (paths_exact q p (equal _ same))) here
+      | true ↦ λ same _. subst P (sym (same_path q p same)) here
       | false ↦ λ _ was. there was
     ] refl (sym (ap is_some (find-put path_cmp paths_total q p e es)) ∙ h)
 
@@ -69,7 +65,7 @@ folder_stays es p [] e absent h = refl
 folder_stays es p (n ∷ f) e absent h =
     ap is_dir_at (find-put path_cmp paths_total (n ∷ f) p e es)
     ∙ elim (eq_by_cmp path_cmp (n ∷ f) p) as (λ b. eq_by_cmp path_cmp (n ∷ f) p ≡ b → is_dir_at (cond b (Some e) (lookup es (n ∷ f))) ≡ true) [
-      | true ↦ λ same. absurd (none_there (lookup es (n ∷ f)) (ap (λ q. is_some (lookup es q)) (paths_exact (n ∷ f) p (equal _ same)) ∙ absent) h)
+      | true ↦ λ same. absurd (none_there (lookup es (n ∷ f)) (ap (λ q. is_some (lookup es q)) (same_path (n ∷ f) p same) ∙ absent) h)
       | false ↦ λ _. h
     ] refl
 
@@ -85,12 +81,12 @@ tree_put es p e is path h =
     let room = free.room in
     record {
       tree = record {
-        sorted = as_test _ (is_sorted-put path_cmp paths_total p e es (from_test _ tree.sorted));
+        sorted = true_from_T _ (is_sorted-put path_cmp paths_total p e es (T_from_true _ tree.sorted));
         root = root_stays es p e free.below tree.root;
         paths = λ q. at_put es p q e IsPath path (tree.paths q);
         parents = λ q. at_put es p q e (λ x. IsTrue (is_folder (put path_cmp p e es) (parent x))) (folder_stays es p (parent p) e free.absent free.folder) (λ was. folder_stays es p (parent q) e free.absent (tree.parents q was));
       };
-      count = subst (λ n. n ≤ most_entries) (sym (length-put path_cmp paths_total p e es (from_test _ tree.sorted) ∙ ap (λ b. cond b (length es) (length es + 1)) free.absent)) (omega arith);
+      count = subst (λ n. n ≤ most_entries) (sym (length-put path_cmp paths_total p e es (T_from_true _ tree.sorted) ∙ ap (λ b. cond b (length es) (length es + 1)) free.absent)) (omega arith);
     }
 
 -- what the entry is put into at its place, where the place and the refusal are asked of the list and the path as they

@@ -1,9 +1,10 @@
 -- Which path may stand behind the last entry of a tree.
-use Rattle.std.proofs.Common.{◌≡◌, ◌≢◌, ℕ, zero, suc, ◌+◌, ◌-◌, ◌<◌, ◌≤◌, Bool, true, false, cond, ◌||◌, List, [], ◌∷◌, ◌++◌, length, take, Option, Some, None, is_some, refl, sym, ap, ◌∙◌, subst, arith, get_or, take_all}
+use Rattle.std.proofs.Common.{◌≡◌, ◌≢◌, ℕ, suc, ◌+◌, ◌-◌, ◌<◌, ◌≤◌, Bool, true, false, cond, ◌||◌, List, [], ◌∷◌, ◌++◌, length, take, Option, Some, None, is_some, refl, sym, ap, ◌∙◌, subst, arith, get_or, take_all}
 use Rattle.std.specs.Prelude.{nat_lt, nat_eq, ◌⊎◌, ◌↔◌, IsTrue}
 use Rattle.std.proofs.Math.Seq.{take-suc}
 use mathlib.Core.Logic.{inl, inr}
 use Rattle.std.proofs.lemmas.Bool.{false≢true, true≢false, and_parts, and_from, or_cases, cases_lt, lt-ltb, ltb-true, eqb-true, eq-eqb}
+use Rattle.std.proofs.lemmas.Float.{T_from_true}
 use Rattle.std.specs.declared.cmp.Ordering.{Ordering}
 use Rattle.std.specs.declared.cmp.Ordering.TheVariants.{Less}
 use Rattle.std.specs.Ordering.{is_lt, is_gt, is_eq, ordering_reverse, eq_by_cmp}
@@ -11,50 +12,15 @@ use Rattle.std.specs.Cmp.{tied_itself}
 use Rattle.std.specs.List.{AllByRecursion}
 use Rattle.std.specs.FinMap.{find}
 use Rattle.std.specs.FinMap.Entries.{find-append}
-use Rattle.ext_text.specs.Order.{paths_total, paths_exact}
+use Rattle.ext_text.specs.Order.{paths_total}
 use Rattle.ext_text.specs.Path.{IsPath, path_cmp, parent, is_front}
+use Rattle.ext_text.proofs.Facts.{true_from_T, is_less}
+use Rattle.ext_text.proofs.PathFronts.{same_path, convex, front_whole, front_short, length-parent, parent_front, parent_less, parent_other}
 use Rattle.ext_tree.specs.declared.entry.Entry.{Entry}
 use Rattle.ext_tree.specs.Tree.{Entries, IsTree, lookup, is_dir, is_dir_at, is_folder}
 use Rattle.ext_tree.specs.Reading.{stands_after}
-use Rattle.ext_tree.proofs.Orders.{as_T, is_T, is_less, is_equal, find-join, sorted_front, front_below, sorted_push, all_below, find_above, found_below}
-use Rattle.ext_tree.proofs.PathFronts.{convex, front_take, front_whole, front_short, length-parent, parent_front, parent_less}
-
--- ---- what a tree has
-
-pub root_none : {C : Type 0} (es : Entries C) → IsTree es → (p : List (List ℕ)) → is_some (lookup es p) ≡ true → 0 < length p
-root_none es tree [] found = absurd (false≢true (sym (ap is_some tree.root) ∙ found))
-root_none es tree (n ∷ p) found = omega arith
-
-some_dir : {C : Type 0} (o : Option (Entry C)) → is_dir_at o ≡ true → is_some o ≡ true
-some_dir None is = absurd (false≢true is)
-some_dir (Some e) is = refl
-
-pub folder_dir : {C : Type 0} (es : Entries C) (p : List (List ℕ)) → 0 < length p → is_folder es p ≡ true → is_dir_at (lookup es p) ≡ true
-folder_dir es [] some folder = absurd (omega arith)
-folder_dir es (n ∷ p) some folder = folder
-
-pub dir_folder : {C : Type 0} (es : Entries C) (p : List (List ℕ)) → is_dir_at (lookup es p) ≡ true → is_folder es p ≡ true
-dir_folder es [] dir = refl
-dir_folder es (n ∷ p) dir = dir
-
-folder_some : {C : Type 0} (es : Entries C) (p : List (List ℕ)) → 0 < length p → is_folder es p ≡ true → is_some (lookup es p) ≡ true
-folder_some es p some folder = some_dir (lookup es p) (folder_dir es p some folder)
-
--- each proper front of an entry's path is a directory
-fronts_within : {C : Type 0} (es : Entries C) → IsTree es → (most : ℕ) (r q : List (List ℕ)) → length q ≤ most → is_some (lookup es q) ≡ true → is_front r q ≡ true → length r < length q → is_folder es r ≡ true
-fronts_within es tree zero r q small found front short = absurd (omega arith)
-fronts_within es tree (suc most) r q small found front short =
-    let len : length (parent q) + 1 ≡ length q = length-parent q (omega arith) in
-    let within : is_front r (parent q) ≡ true = front_take (length q - 1) r q front (omega arith) in
-    elim (cases_lt (length r) (length (parent q))) [
-      | inl proper ↦ fronts_within es tree most r (parent q) (omega arith) (folder_some es (parent q) (omega arith) (tree.parents q found)) within proper
-      | inr not_less ↦
-          let short' : length r ≤ length (parent q) = front_short r (parent q) within in
-          subst (λ x. is_folder es x ≡ true) (sym (front_whole r (parent q) within (omega arith))) (tree.parents q found)
-    ]
-
-pub fronts : {C : Type 0} (es : Entries C) → IsTree es → (r q : List (List ℕ)) → is_some (lookup es q) ≡ true → is_front r q ≡ true → length r < length q → is_folder es r ≡ true
-fronts es tree r q found front short = fronts_within es tree (length q) r q (omega arith) found front short
+use Rattle.ext_tree.proofs.Orders.{find-join, sorted_front, front_below, sorted_push, all_below, find_above, found_below}
+use Rattle.ext_tree.proofs.Fronts.{root_none, some_dir, folder_dir, dir_folder, folder_some, fronts}
 
 -- ---- one more entry at the end
 
@@ -65,7 +31,7 @@ at_end es p e none q = find-append path_cmp paths_total es p e q none
 at_other : {C : Type 0} (es : Entries C) (p : List (List ℕ)) (e : Entry C) → find path_cmp p es ≡ None → (q : List (List ℕ)) → (q ≢ p) → lookup (es ++ (p, e) ∷ []) q ≡ lookup es q
 at_other es p e none q other =
     elim (eq_by_cmp path_cmp q p) as (λ b. eq_by_cmp path_cmp q p ≡ b → lookup (es ++ (p, e) ∷ []) q ≡ lookup es q) [
-      | true ↦ λ tied. absurd (other (paths_exact q p (is_equal _ tied)))
+      | true ↦ λ tied. absurd (other (same_path q p tied))
       | false ↦ λ apart. at_end es p e none q ∙ ap (λ b. cond b (Some e) (lookup es q)) apart
     ] refl
 
@@ -73,7 +39,7 @@ at_other es p e none q other =
 found_end : {C : Type 0} (es : Entries C) (p : List (List ℕ)) (e : Entry C) → find path_cmp p es ≡ None → (q : List (List ℕ)) → is_some (lookup (es ++ (p, e) ∷ []) q) ≡ true → (q ≡ p) ⊎ (is_some (lookup es q) ≡ true)
 found_end es p e none q found =
     elim (eq_by_cmp path_cmp q p) as (λ b. eq_by_cmp path_cmp q p ≡ b → (q ≡ p) ⊎ (is_some (lookup es q) ≡ true)) [
-      | true ↦ λ tied. inl (paths_exact q p (is_equal _ tied))
+      | true ↦ λ tied. inl (same_path q p tied)
       | false ↦ λ apart. inr (sym (ap is_some (at_end es p e none q ∙ ap (λ b. cond b (Some e) (lookup es q)) apart)) ∙ found)
     ] refl
 
@@ -89,7 +55,7 @@ pub push_tree : {C : Type 0} (es : Entries C) (p : List (List ℕ)) (e : Entry C
 push_tree es p e tree below path some folder =
     let none : find path_cmp p es ≡ None = find_above path_cmp paths_total p es below in
     record {
-      sorted = is_T _ (sorted_push path_cmp p e es (as_T _ tree.sorted) below);
+      sorted = true_from_T _ (sorted_push path_cmp p e es (T_from_true _ tree.sorted) below);
       root = at_other es p e none [] (λ same. absurd (root_not p some same)) ∙ tree.root;
       paths = λ q found. elim (found_end es p e none q found) [
         | inl same ↦ subst IsPath (sym same) path
@@ -135,12 +101,12 @@ folder_front es k e q below found some folder =
 -- without its last entry a tree is a tree
 pub pop_tree : {C : Type 0} (es : Entries C) (k : List (List ℕ)) (e : Entry C) → IsTree (es ++ (k, e) ∷ []) → IsTree es
 pop_tree es k e tree =
-    let below = front_below path_cmp es [] k e (as_T _ tree.sorted) in
+    let below = front_below path_cmp es [] k e (T_from_true _ tree.sorted) in
     let none : find path_cmp k es ≡ None = find_above path_cmp paths_total k es below in
     let still : (q : List (List ℕ)) → is_some (lookup es q) ≡ true → is_some (lookup (es ++ (k, e) ∷ []) q) ≡ true =
     λ q found. ap is_some (at_other es k e none q (none_other es k none q found)) ∙ found in
     record {
-      sorted = is_T _ (sorted_front path_cmp es ((k, e) ∷ []) (as_T _ tree.sorted));
+      sorted = true_from_T _ (sorted_front path_cmp es ((k, e) ∷ []) (T_from_true _ tree.sorted));
       root = front_lacks (lookup es []) (lookup ((k, e) ∷ []) []) (sym (find-join path_cmp [] es ((k, e) ∷ [])) ∙ tree.root);
       paths = λ q found. tree.paths q (still q found);
       parents = λ q found. folder_front es k e q below found (root_none (es ++ (k, e) ∷ []) tree q (still q found)) (tree.parents q (still q found));
@@ -151,7 +117,7 @@ pop_tree es k e tree =
 -- the last entry is found
 pub last_found : {C : Type 0} (es : Entries C) (q : List (List ℕ)) (f : Entry C) → IsTree (es ++ (q, f) ∷ []) → lookup (es ++ (q, f) ∷ []) q ≡ Some f
 last_found es q f tree =
-    let none : find path_cmp q es ≡ None = find_above path_cmp paths_total q es (front_below path_cmp es [] q f (as_T _ tree.sorted)) in
+    let none : find path_cmp q es ≡ None = find_above path_cmp paths_total q es (front_below path_cmp es [] q f (T_from_true _ tree.sorted)) in
     at_end es q f none q ∙ ap (λ r. cond (is_eq r) (Some f) (lookup es q)) (tied_itself paths_total q)
 
 not_past : (r : Ordering) → r ≡ Less → is_gt r ≡ false
@@ -160,7 +126,7 @@ not_past r less = ap is_gt less
 -- what is found is not past the last entry
 found_last : {C : Type 0} (es : Entries C) (q : List (List ℕ)) (f : Entry C) → IsTree (es ++ (q, f) ∷ []) → (r : List (List ℕ)) → is_some (lookup (es ++ (q, f) ∷ []) r) ≡ true → is_gt (path_cmp r q) ≡ false
 found_last es q f tree r found =
-    let below = front_below path_cmp es [] q f (as_T _ tree.sorted) in
+    let below = front_below path_cmp es [] q f (T_from_true _ tree.sorted) in
     elim (found_end es q f (find_above path_cmp paths_total q es below) r found) [
       | inl same ↦ ap (λ x. is_gt (path_cmp x q)) same ∙ ap is_gt (tied_itself paths_total q)
       | inr before ↦ not_past _ (found_below path_cmp paths_total r q es below before)
@@ -179,7 +145,7 @@ follows_tree es q f p e tree path passed =
     let there : is_some (lookup (es ++ (q, f) ∷ []) q) ≡ true = ap is_some (last_found es q f tree) in
     let long : 0 < length q = root_none (es ++ (q, f) ∷ []) tree q there in
     push_tree (es ++ (q, f) ∷ []) p e tree
-    (all_below path_cmp paths_total p q f es (front_below path_cmp es [] q f (as_T _ tree.sorted)) less)
+    (all_below path_cmp paths_total p q f es (front_below path_cmp es [] q f (T_from_true _ tree.sorted)) less)
     path
     (past_some q p less)
     (elim (cases_lt (length (parent p)) (length q)) [
@@ -206,7 +172,7 @@ follows_tree es q f p e tree path passed =
 pub tree_follows : {C : Type 0} (es : Entries C) (q : List (List ℕ)) (f : Entry C) (p : List (List ℕ)) (e : Entry C) → IsTree ((es ++ (q, f) ∷ []) ++ (p, e) ∷ []) → stands_after (q, f) p ≡ true
 tree_follows es q f p e whole =
     let tree : IsTree (es ++ (q, f) ∷ []) = pop_tree (es ++ (q, f) ∷ []) p e whole in
-    let below = front_below path_cmp (es ++ (q, f) ∷ []) [] p e (as_T _ whole.sorted) in
+    let below = front_below path_cmp (es ++ (q, f) ∷ []) [] p e (T_from_true _ whole.sorted) in
     let none : find path_cmp p (es ++ (q, f) ∷ []) ≡ None = find_above path_cmp paths_total p (es ++ (q, f) ∷ []) below in
     let found : is_some (lookup ((es ++ (q, f) ∷ []) ++ (p, e) ∷ []) p) ≡ true =
     ap is_some (last_found (es ++ (q, f) ∷ []) p e whole) in
@@ -233,9 +199,6 @@ tree_follows es q f p e whole =
     root_front : (a b : List (List ℕ)) → length a ≤ 0 → is_front a b ≡ true
     root_front [] b short = refl
     root_front (n ∷ a) b short = absurd (omega arith)
-
-    parent_other : (a : List (List ℕ)) → 0 < length a → parent a ≢ a
-    parent_other a some same = true≢false (ap is_lt (sym (parent_less a some)) ∙ ap (λ x. is_lt (path_cmp x a)) same ∙ ap is_lt (tied_itself paths_total a))
 
     in_front : (r : List (List ℕ)) → (r ≢ p) → find path_cmp p (es ++ (q, f) ∷ []) ≡ None → is_folder ((es ++ (q, f) ∷ []) ++ (p, e) ∷ []) r ≡ true → is_folder (es ++ (q, f) ∷ []) r ≡ true
     in_front [] other none folder = refl

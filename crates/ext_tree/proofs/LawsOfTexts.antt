@@ -1,6 +1,6 @@
 -- The laws of tree texts.
 use Rattle.std.proofs.Common.{◌≡◌, ℕ, List, [], ◌∷◌, ◌++◌, drop, take-append-drop, sym, ap, ◌∙◌}
-use Rattle.std.proofs.lemmas.List.{append_cancel_left}
+use Rattle.std.proofs.lemmas.List.{append-nil, append_cancel_left}
 use Rattle.std.specs.List.{flat_map}
 use Rattle.ext_tree.specs.declared.stamp.Stamp.{Stamp}
 use Rattle.ext_tree.specs.Tree.{Entries}
@@ -8,7 +8,7 @@ use Rattle.ext_tree.specs.TreeText.{HasText, tree_lines, tree_text}
 use Rattle.ext_tree.specs.FirstFault.{whole_lines}
 use Rattle.ext_tree.specs.TextLaws.{OneTreeOfText, OneTextOfTree, NoFrontOfText, OneListOfRow, NoFaultInRow}
 use Rattle.ext_tree.proofs.WholeLines.{whole_lines-text}
-use Rattle.ext_tree.proofs.Rows.{append_empty, one_tree, row_peeled}
+use Rattle.ext_tree.proofs.Rows.{one_tree, row_peeled}
 use Rattle.ext_tree.proofs.Faults.{tree_lacks, row_lines}
 
 -- the lines behind a tree's text
@@ -17,7 +17,7 @@ text_lines es rest text = whole_lines-text (tree_lines es) rest (tree_lacks es t
 
 pub front_law : NoFrontOfText
 front_law bytes more s t first second =
-    let whole : tree_text s ++ more ≡ tree_text t ++ [] = ap (λ xs. xs ++ more) (sym first.text) ∙ second.text ∙ sym (append_empty (tree_text t)) in
+    let whole : tree_text s ++ more ≡ tree_text t ++ [] = ap (λ xs. xs ++ more) (sym first.text) ∙ second.text ∙ sym (append-nil (tree_text t)) in
     let lines : tree_lines s ++ whole_lines more ≡ tree_lines t ++ whole_lines [] = sym (text_lines s more first.tree) ∙ ap whole_lines whole ∙ text_lines t [] second.tree in
     let same : s ≡ t = (one_tree s t (whole_lines more) (whole_lines []) first.tree second.tree lines).0 in
     append_cancel_left (tree_text s) more [] (whole ∙ ap (λ es. tree_text es ++ []) (sym same))
@@ -32,12 +32,12 @@ text_law t bytes other first second = first.text ∙ sym second.text
 
 pub row_law : OneListOfRow
 row_law bytes ss ts first second =
-    let lines : flat_map tree_lines ss ++ [] ≡ flat_map tree_lines ts = append_empty (flat_map tree_lines ss) ∙ sym (row_lines bytes ss first.each first.text) ∙ row_lines bytes ts second.each second.text in
+    let lines : flat_map tree_lines ss ++ [] ≡ flat_map tree_lines ts = append-nil (flat_map tree_lines ss) ∙ sym (row_lines bytes ss first.each first.text) ∙ row_lines bytes ts second.each second.text in
     let peeled = row_peeled ss ts [] first.each second.each lines in
     whole peeled.0 peeled.2 peeled.1
   where
     whole : (more : List (Entries Stamp)) → [] ≡ flat_map tree_lines more → ts ≡ ss ++ more → ss ≡ ts
-    whole [] none is = sym (is ∙ append_empty ss)
+    whole [] none is = sym (is ∙ append-nil ss)
     whole (t ∷ more) none is = absurd (cc)
 
 pub fault_law : NoFaultInRow

@@ -2,11 +2,9 @@ pub mod Place
 pub mod Fronts
 pub mod Kept
 pub mod Orders
-pub mod PathFronts
 pub mod LastEntry
 pub mod Octal
 pub mod Printed
-pub mod LineCuts
 pub mod OctalText
 pub mod LineNumbers
 pub mod LineFields

@@ -14,7 +14,7 @@ use Rattle.ext_text.specs.declared.path.PathErr.{PathErr}
 use Rattle.ext_text.specs.declared.path.PathErr.TheVariants.{OutOfMemory, TooLong, TooDeep, BadName}
 use Rattle.ext_text.proofs.Parts.{parts_some, split_none, split_cut}
 use Rattle.ext_tree.specs.TreeText.{IsDigest, IsTarget}
-use Rattle.ext_tree.proofs.LineCuts.{Differs, cut_once, differs, lacks_append, lacks_cons, lacks_nil}
+use Rattle.ext_text.proofs.Cuts.{Differs, cut_once, differs, lacks_append, lacks_cons, lacks_nil}
 use Rattle.ext_tree.proofs.LineNumbers.{decimal_lacks}
 
 -- ---- digests
@@ -79,7 +79,7 @@ path_lacks byte [] low names = lacks_nil byte
 path_lacks byte (n ∷ []) low names = plain_lacks byte n low (name_plain n names.0)
 path_lacks byte (n ∷ m ∷ p) low names =
     lacks_append byte n (47 ∷ path_text (m ∷ p)) (plain_lacks byte n low (name_plain n names.0))
-    (lacks_cons byte 47 (path_text (m ∷ p)) (λ e. omega arith) (path_lacks byte (m ∷ p) low names.1))
+    (lacks_cons byte 47 (path_text (m ∷ p)) (differs byte 47 (λ e. omega arith)) (path_lacks byte (m ∷ p) low names.1))
 
 split_text : (p : List (List ℕ)) → AllByRecursion IsName p → 0 < length p
     → slice_split (λ b. eqb b 47) (path_text p) ≡ p

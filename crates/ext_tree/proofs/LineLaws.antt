@@ -8,7 +8,7 @@ use Rattle.ext_tree.specs.TreeText.{HasLine, IsDigest, IsTarget, entry_line, mod
 use Rattle.ext_tree.specs.declared.entry.Entry.{Entry}
 use Rattle.ext_tree.specs.declared.entry.Entry.TheVariants.{Dir, File, Link}
 use Rattle.ext_tree.specs.declared.stamp.Stamp.{Stamp}
-use Rattle.ext_tree.proofs.LineCuts.{cut_once, cut_same, lacks_append, lacks_cons, lacks_nil}
+use Rattle.ext_text.proofs.Cuts.{cut_once, cut_same, differs, lacks_append, lacks_cons, lacks_nil}
 use Rattle.ext_tree.proofs.LineFields.{digest_injective, digest_lacks, path_injective, path_lacks, plain_lacks, target_cut}
 use Rattle.ext_tree.proofs.LineNumbers.{decimal_lacks, mode_lacks}
 use Rattle.ext_tree.proofs.OctalText.{mode_injective}
@@ -93,10 +93,10 @@ line_not_end (p, Link t) e = other_kind 108 101 _ _ (λ z. omega arith) e
 
 -- a field without newlines, its space, and a rest without newlines
 field_lacks : (field rest : List ℕ) → Lacks 10 field → Lacks 10 rest → Lacks 10 (field ++ 32 ∷ rest)
-field_lacks field rest p q = lacks_append 10 field (32 ∷ rest) p (lacks_cons 10 32 rest (λ e. omega arith) q)
+field_lacks field rest p q = lacks_append 10 field (32 ∷ rest) p (lacks_cons 10 32 rest refl q)
 
 kind_lacks : (kind : ℕ) → 10 < kind → Lacks 10 (kind ∷ [])
-kind_lacks kind high = lacks_cons 10 kind [] (λ e. omega arith) (lacks_nil 10)
+kind_lacks kind high = lacks_cons 10 kind [] (differs 10 kind (λ e. omega arith)) (lacks_nil 10)
 
 -- an entry's line has no newline in it
 pub line_lacks : (x : List (List ℕ) × Entry Stamp) → HasLine x → Lacks 10 (entry_line x)

@@ -10,14 +10,15 @@ use Rattle.std.specs.Fmt.{decimal}
 use Rattle.std.specs.Str.Parse.{AllDigits, digits_value}
 use Rattle.ext_text.specs.Cut.{Lacks}
 use Rattle.ext_tree.specs.TreeText.{mode_text}
-use Rattle.ext_tree.proofs.LineCuts.{lacks_cons, lacks_nil}
-use Rattle.ext_tree.proofs.OctalText.{BeginsHigh, octal_digit, octal_first, octal_is_IsNumeral}
+use Rattle.ext_text.proofs.Cuts.{differs, lacks_cons, lacks_nil}
+use Rattle.ext_tree.proofs.Octal.{octal_digit}
+use Rattle.ext_tree.proofs.OctalText.{BeginsHigh, octal_first, octal_is_IsNumeral}
 
 -- digits hold no byte before `0`
 digits_lack : (base byte : ℕ) (ds : List ℕ) → base ≤ 10 → byte < 48 → AllDigits base ds → Lacks byte ds
 digits_lack base byte [] small low d = lacks_nil byte
 digits_lack base byte (c ∷ cs) small low d =
-    lacks_cons byte c cs (λ e. omega (arith, digit_from_value c (omega (arith, d.0)))) (digits_lack base byte cs small low d.1)
+    lacks_cons byte c cs (differs byte c (λ e. omega (arith, digit_from_value c (omega (arith, d.0))))) (digits_lack base byte cs small low d.1)
 
 pub decimal_lacks : (byte n : ℕ) → byte < 48 → n < 2 ^ 64 → Lacks byte (decimal n)
 decimal_lacks byte n low small = digits_lack 10 byte (decimal n) (omega arith) low (decimal_is_IsNumeral n small).0.1

@@ -1,7 +1,7 @@
 -- A number's octal digits: those of its eighth, and one more.
 use Rattle.std.proofs.Common.{◌≡◌, ℕ, suc, zero, ◌+◌, ◌/◌, ◌%◌, ◌^◌, ◌<◌, ◌≤◌, false, cond, List, [], ◌∷◌, ◌++◌, refl, sym, ap, ◌∙◌, append_assoc, eq-eqb, ⊎_elim, arith}
 use Rattle.std.specs.Fmt.{digits, digits_onto, digit_glyph}
-use Rattle.std.proofs.lemmas.Bool.{cases_lt, ne_eqb, lt-ltb}
+use Rattle.std.proofs.lemmas.Bool.{cases_lt, ne_eqb}
 
 abbrev spell : ℕ → ℕ → List ℕ → List ℕ
 spell k n acc = digits_onto k 8 false n acc
@@ -31,15 +31,16 @@ spell_enough (suc j) (suc k) n acc p q = ⊎_elim
     (λ l. spell_next (suc j) n acc l ∙ spell_enough j k (n / 8) (last_glyph n ∷ acc) (omega arith) (omega arith) ∙ sym (spell_next (suc k) n acc l))
     (cases_lt n 8)
 
-glyph : (d : ℕ) → d < 8 → digit_glyph false d ≡ 48 + d
-glyph d h = ap (λ b. cond b (48 + d) (87 + d)) (lt-ltb d 10 (omega arith))
+glyph : (n : ℕ) → last_glyph n ≡ 48 + n % 8
+glyph n = grind (arith)
 
-pub octal_digit : (n : ℕ) → n < 8 → digits 8 false n ≡ (48 + n % 8) ∷ []
+pub octal_digit : (n : ℕ) → n < 8 → digits 8 false n ≡ (48 + n) ∷ []
 unfolding digits
-octal_digit n h = spell_last 63 n [] h ∙ ap (λ d. d ∷ []) (glyph (n % 8) (omega arith))
+octal_digit n small =
+    let same : n % 8 ≡ n = omega arith in spell_last 63 n [] small ∙ ap (λ (x : ℕ). x ∷ []) (glyph n ∙ omega arith)
 
-pub octal_step : (n : ℕ) → 8 ≤ n → n < 2 ^ 16 → digits 8 false n ≡ digits 8 false (n / 8) ++ (48 + n % 8) ∷ []
+pub octal_step : (n : ℕ) → 8 ≤ n → n < 8 ^ 64 → digits 8 false n ≡ digits 8 false (n / 8) ++ (48 + n % 8) ∷ []
 unfolding digits
 octal_step n h small =
     spell_next 63 n [] h ∙ spell_enough 62 63 (n / 8) (last_glyph n ∷ []) (omega arith) (omega arith) ∙ spell-append 64 (n / 8) (last_glyph n ∷ [])
-    ∙ ap (λ d. digits 8 false (n / 8) ++ d ∷ []) (glyph (n % 8) (omega arith))
+    ∙ (λ i. spell 64 (n / 8) [] ++ glyph n i ∷ [])

@@ -1,14 +1,15 @@
 -- The octal text of a number: its digits have its value, and it is the only text without a zero in front that has it.
-use Rattle.std.proofs.Common.{◌≡◌, ℕ, zero, suc, ◌+◌, ◌*◌, ◌/◌, ◌%◌, ◌^◌, ◌<◌, ◌≤◌, false, cond, List, [], ◌∷◌, ◌++◌, length, length-append, get_or, refl, sym, ap, ◌∙◌, subst, arith, append_assoc, ⊎_elim}
-use Rattle.std.proofs.lemmas.Bool.{ne_eqb, eq-eqb, cases_lt}
+use Rattle.std.proofs.Common.{◌≡◌, ℕ, zero, suc, ◌+◌, ◌*◌, ◌/◌, ◌%◌, ◌^◌, ◌<◌, ◌≤◌, false, List, [], ◌∷◌, ◌++◌, length, length-append, get_or, refl, sym, ap, ◌∙◌, subst, arith, append_assoc, ⊎_elim}
+use Rattle.std.proofs.lemmas.Bool.{cases_lt}
 use Rattle.std.proofs.lemmas.List.{append-nil}
 use Rattle.std.proofs.lemmas.Str.{digit_value_digit}
 use Rattle.std.proofs.lemmas.Str.Parse.{digit_from_value}
 use Rattle.std.proofs.lemmas.Fmt.{digits_is_IsNumeral}
 use Rattle.std.specs.Char.{digit_value}
-use Rattle.std.specs.Fmt.{digits, digits_onto, digit_glyph}
+use Rattle.std.specs.Fmt.{digits}
 use Rattle.std.specs.Str.Parse.{AllDigits, IsNumeral, digits_value, digits_value_after}
 use Rattle.ext_tree.specs.TreeText.{mode_text}
+use Rattle.ext_tree.proofs.Octal.{octal_digit, octal_step}
 
 -- octal digits are a numeral of the number
 pub octal_is_IsNumeral : (n : ℕ) → n < 8 ^ 64
@@ -18,53 +19,6 @@ octal_is_IsNumeral n small = digits_is_IsNumeral 8 false (omega arith) (omega ar
 pub mode_injective : (m n : ℕ) → m ≤ 4095 → n ≤ 4095 → mode_text m ≡ mode_text n → m ≡ n
 mode_injective m n p q e =
     sym (octal_is_IsNumeral m (omega arith)).1 ∙ ap (digits_value 8) e ∙ (octal_is_IsNumeral n (omega arith)).1
-
-abbrev spell : ℕ → ℕ → List ℕ → List ℕ
-spell k n acc = digits_onto k 8 false n acc
-
-abbrev last_glyph : ℕ → ℕ
-last_glyph n = digit_glyph false (n % 8)
-
-last_glyph_is : (n : ℕ) → last_glyph n ≡ 48 + n % 8
-last_glyph_is n = grind (arith)
-
-spell_last : (k n : ℕ) (acc : List ℕ) → n < 8 → spell (suc k) n acc ≡ last_glyph n ∷ acc
-spell_last k n acc h =
-    ap (λ t. cond t (last_glyph n ∷ acc) (spell k (n / 8) (last_glyph n ∷ acc))) (eq-eqb (n / 8) 0 (omega arith))
-
-spell_next : (k n : ℕ) (acc : List ℕ) → 8 ≤ n → spell (suc k) n acc ≡ spell k (n / 8) (last_glyph n ∷ acc)
-spell_next k n acc h =
-    ap (λ t. cond t (last_glyph n ∷ acc) (spell k (n / 8) (last_glyph n ∷ acc))) (ne_eqb (n / 8) 0 (λ e. omega arith))
-
-spell-append : (k n : ℕ) (acc : List ℕ) → spell k n acc ≡ spell k n [] ++ acc
-spell-append zero n acc = refl
-spell-append (suc k) n acc = ⊎_elim
-    (λ l. spell_last k n acc l ∙ ap (λ x. x ++ acc) (sym (spell_last k n [] l)))
-    (λ l. spell_next k n acc l ∙ spell-append k (n / 8) (last_glyph n ∷ acc) ∙ sym (append_assoc (spell k (n / 8) []) (last_glyph n ∷ []) acc) ∙ ap (λ x. x ++ acc) (sym (spell_next k n [] l ∙ spell-append k (n / 8) (last_glyph n ∷ []))))
-    (cases_lt n 8)
-
--- the digit limit does not matter once it is large enough
-spell_enough : (j k n : ℕ) (acc : List ℕ) → n < 8 ^ suc j → n < 8 ^ suc k → spell (suc j) n acc ≡ spell (suc k) n acc
-spell_enough zero k n acc p q = spell_last zero n acc (omega arith) ∙ sym (spell_last k n acc (omega arith))
-spell_enough (suc j) zero n acc p q =
-    spell_last (suc j) n acc (omega arith) ∙ sym (spell_last zero n acc (omega arith))
-spell_enough (suc j) (suc k) n acc p q = ⊎_elim
-    (λ l. spell_last (suc j) n acc l ∙ sym (spell_last (suc k) n acc l))
-    (λ l. spell_next (suc j) n acc l ∙ spell_enough j k (n / 8) (last_glyph n ∷ acc) (omega arith) (omega arith) ∙ sym (spell_next (suc k) n acc l))
-    (cases_lt n 8)
-
--- one digit
-pub octal_digit : (n : ℕ) → n < 8 → mode_text n ≡ (48 + n) ∷ []
-unfolding digits
-octal_digit n small =
-    let same : n % 8 ≡ n = omega arith in spell_last 63 n [] small ∙ ap (λ (x : ℕ). x ∷ []) (last_glyph_is n ∙ omega arith)
-
--- and one more digit
-pub octal_step : (n : ℕ) → 8 ≤ n → n < 8 ^ 64 → mode_text n ≡ mode_text (n / 8) ++ (48 + n % 8) ∷ []
-unfolding digits
-octal_step n h small =
-    spell_next 63 n [] h ∙ spell_enough 62 63 (n / 8) (last_glyph n ∷ []) (omega arith) (omega arith) ∙ spell-append 64 (n / 8) (last_glyph n ∷ [])
-    ∙ (λ i. spell 64 (n / 8) [] ++ last_glyph_is n i ∷ [])
 
 le_value_after : (n : ℕ) (ds : List ℕ) → n ≤ digits_value_after 8 n ds
 le_value_after n [] = omega arith

@@ -1,31 +1,15 @@
 -- Lists of entries in the order of their keys, cut in two: what is found in the whole, and that both parts are in order.
 use Rattle.std.proofs.Common.{◌≡◌, Bool, true, false, cond, ◌&&◌, List, [], ◌∷◌, ◌++◌, Option, Some, None, is_some, refl, ap, ◌∙◌, T}
 use Rattle.std.proofs.lemmas.Bool.{false≢true}
+use Rattle.std.proofs.lemmas.Float.{T_from_true}
 use Rattle.std.specs.declared.cmp.Ordering.{Ordering}
-use Rattle.std.specs.declared.cmp.Ordering.TheVariants.{Less, Equal, Greater}
+use Rattle.std.specs.declared.cmp.Ordering.TheVariants.{Less}
 use Rattle.std.specs.Ordering.{is_lt, is_eq, ordering_reverse, eq_by_cmp}
 use Rattle.std.specs.Cmp.{IsTotalOrder, tied_itself}
 use Rattle.std.specs.List.{AllByRecursion}
 use Rattle.std.specs.FinMap.{find, is_sorted}
 use Rattle.std.specs.FinMap.Entries.{below_all}
-
-pub as_T : (b : Bool) → b ≡ true → T b
-as_T true is = tt
-as_T false is = absurd (false≢true is)
-
-pub is_T : (b : Bool) → T b → b ≡ true
-is_T true holds = refl
-is_T false holds = absurd holds
-
-pub is_less : (r : Ordering) → is_lt r ≡ true → r ≡ Less
-is_less Less is = refl
-is_less Equal is = absurd (false≢true is)
-is_less Greater is = absurd (false≢true is)
-
-pub is_equal : (r : Ordering) → is_eq r ≡ true → r ≡ Equal
-is_equal Less is = absurd (false≢true is)
-is_equal Equal is = refl
-is_equal Greater is = absurd (false≢true is)
+use Rattle.ext_text.proofs.Facts.{true_from_T, is_less, is_equal}
 
 pub both_T : (a b : Bool) → T a → T b → T (a && b)
 both_T true b p q = q
@@ -78,12 +62,12 @@ module _ {K X : Type 0} (R : K → K → Ordering) where
   pub front_below : (es fs : List (K × X)) (k : K) (v : X) → T (is_sorted R (es ++ (k, v) ∷ fs)) → AllByRecursion (λ e. R e.0 k ≡ Less) es
   front_below [] fs k v h = tt
   front_below (e ∷ es) fs k v h = (
-    is_less _ (is_T _ (first_T _ _ (below_back e.0 es ((k, v) ∷ fs) (first_T _ _ h)))),
+    is_less _ (true_from_T _ (first_T _ _ (below_back e.0 es ((k, v) ∷ fs) (first_T _ _ h)))),
     front_below es fs k v (second_T _ _ h),
   )
 
   below_push : (x k : K) (v : X) (es : List (K × X)) → T (below_all R x es) → R x k ≡ Less → T (below_all R x (es ++ (k, v) ∷ []))
-  below_push x k v [] h less = both_T _ _ (as_T _ (ap is_lt less)) tt
+  below_push x k v [] h less = both_T _ _ (T_from_true _ (ap is_lt less)) tt
   below_push x k v (e ∷ es) h less = both_T _ _ (first_T _ _ h) (below_push x k v es (second_T _ _ h) less)
 
   -- an entry above all others keeps a list in order

@@ -5,29 +5,15 @@ use Rattle.std.specs.Prelude.{IsTrue, slice_get}
 use Rattle.std.specs.List.{AllWithin, insert}
 use Rattle.std.specs.List.Sorted.{IsPartitionedBy, IsPartitionPoint}
 use Rattle.std.specs.Cmp.{IsTotalOrder, tied_itself}
-use Rattle.std.specs.Ordering.{is_lt, is_eq, is_gt, ordering_reverse, eq_by_cmp}
+use Rattle.std.specs.Ordering.{is_eq, is_gt, ordering_reverse, eq_by_cmp}
 use Rattle.std.specs.declared.cmp.Ordering.{Ordering}
 use Rattle.std.specs.declared.cmp.Ordering.TheVariants.{Less, Equal, Greater}
 use Rattle.std.specs.FinMap.{find, put, is_sorted}
 use Rattle.std.specs.FinMap.Entries.{below_all, by_order}
 use Rattle.std.proofs.lemmas.Bool.{and_parts, true≢false, false≢true}
 use Rattle.std.proofs.lemmas.Option.{get_or_from_slice_get, slice_get_within}
+use Rattle.ext_text.proofs.Facts.{is_less, is_greater}
 use Rattle.ext_tree.specs.Place.{is_past, place}
-
-less : (o : Ordering) → is_lt o ≡ true → o ≡ Less
-less Less h = refl
-less Equal h = absurd (false≢true h)
-less Greater h = absurd (false≢true h)
-
-greater : (o : Ordering) → is_gt o ≡ true → o ≡ Greater
-greater Less h = absurd (false≢true h)
-greater Equal h = absurd (false≢true h)
-greater Greater h = refl
-
-pub equal : (o : Ordering) → is_eq o ≡ true → o ≡ Equal
-equal Less h = absurd (false≢true h)
-equal Equal h = refl
-equal Greater h = absurd (false≢true h)
 
 -- what a look-up of a key finds at an entry
 abbrev pub found_at : {K X : Type 0} → (K → K → Ordering) → K → Option (K × X) → Option X
@@ -40,9 +26,9 @@ past_before o k x y h g = o.antisymm k x ∙ ap ordering_reverse (o.trans x y k 
 
 module _ {K X : Type 0} (R : K → K → Ordering) where
   -- an entry of a list stands above what is below all of the list
-  below_at : (x : K) (es : List (K × X)) (j : ℕ) (d : K × X) → below_all R x es ≡ true → j < length es → R x (get_or es j d).0 ≡ Less
+  pub below_at : (x : K) (es : List (K × X)) (j : ℕ) (d : K × X) → below_all R x es ≡ true → j < length es → R x (get_or es j d).0 ≡ Less
   below_at x [] j d h lt = absurd (omega arith)
-  below_at x (e ∷ es) zero d h lt = less _ (and_parts _ _ h).0
+  below_at x (e ∷ es) zero d h lt = is_less _ (and_parts _ _ h).0
   below_at x (e ∷ es) (suc j) d h lt = below_at x es j d (and_parts _ _ h).1 (omega arith)
 
   -- a place is found once all before it is passed and nothing behind it is
@@ -59,14 +45,14 @@ module _ {K X : Type 0} (R : K → K → Ordering) where
     partitioned k (e ∷ es) h zero zero d le lt p = p
     partitioned k (e ∷ es) h (suc i) zero d le lt p = absurd (omega arith)
     partitioned k (e ∷ es) h zero (suc j) d le lt p =
-        ap is_gt (past_before o k e.0 (get_or es j d).0 (below_at e.0 es j d (and_parts _ _ h).0 (omega arith)) (greater _ p))
+        ap is_gt (past_before o k e.0 (get_or es j d).0 (below_at e.0 es j d (and_parts _ _ h).0 (omega arith)) (is_greater _ p))
     partitioned k (e ∷ es) h (suc i) (suc j) d le lt p = partitioned k es (and_parts _ _ h).1 i j d (omega arith) (omega arith) p
 
     -- a key below all of the entries is not found
     unfound : (k x : K) (es : List (K × X)) → R k x ≡ Less → below_all R x es ≡ true → find R k es ≡ None
     unfound k x [] h below = refl
     unfound k x (e ∷ es) h below =
-        ap (λ r. cond (is_eq r) (Some e.1) (find R k es)) (o.trans k x e.0 h (less _ (and_parts _ _ below).0)) ∙ unfound k x es h (and_parts _ _ below).1
+        ap (λ r. cond (is_eq r) (Some e.1) (find R k es)) (o.trans k x e.0 h (is_less _ (and_parts _ _ below).0)) ∙ unfound k x es h (and_parts _ _ below).1
 
     -- a look-up reads at the place alone
     pub find_here : (k : K) (es : List (K × X)) → IsTrue (is_sorted R es) → find R k es ≡ found_at R k (slice_get es (place R k es))

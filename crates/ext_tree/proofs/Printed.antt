@@ -1,10 +1,11 @@
 -- The text of a tree, line by line.
-use Rattle.std.proofs.Common.{Bor, ◌≡◌, ℕ, ◌-◌, ◌≤◌, List, [], ◌∷◌, ◌++◌, length, map, take, drop, get_or, refl, sym, ap, ◌∙◌, append_assoc, append-nil, arith}
+use Rattle.std.proofs.Common.{Bor, ◌≡◌, ℕ, ◌-◌, ◌≤◌, List, [], ◌∷◌, ◌++◌, length, map, take, drop, get_or, refl, sym, ap, ◌∙◌, append_assoc, arith}
 use Rattle.std.specs.Prelude.{codes}
 use Rattle.std.specs.List.{flat_map}
 use Rattle.std.proofs.lemmas.List.{take_all}
 use Rattle.std.proofs.lemmas.List.Folds.{flat_map-map}
 use Rattle.ext_text.specs.Path.{path_text}
+use Rattle.ext_text.proofs.Parts.{path_text-cons}
 use Rattle.ext_tree.specs.declared.entry.Entry.{Entry}
 use Rattle.ext_tree.specs.declared.stamp.Stamp.{Stamp}
 use Rattle.ext_tree.specs.Tree.{Entries}
@@ -25,11 +26,6 @@ all_printed es i text h is =
     ∙ ap (λ rest. codes "hostext-tree 1\n" ++ rest) (sym (lines_then_end es))
 
 -- a path's text is its first name, and each other name with its slash
-path_text-cons : (name : List ℕ) (names : List (List ℕ)) → path_text (name ∷ names) ≡ name ++ flat_map (λ n. 47 ∷ n) names
-path_text-cons name [] = sym (append-nil name)
-path_text-cons name (next ∷ names) = ap (λ rest. name ++ 47 ∷ rest) (path_text-cons next names)
-
--- the same of a list that is taken apart by its length
 path_text-parts : (names : List (List ℕ)) (first : List ℕ) → 1 ≤ length names → first ≡ get_or names 0 first → path_text names ≡ first ++ flat_map (λ n. 47 ∷ n) (take (length names - 1) (drop 1 names))
 path_text-parts [] first h is = absurd (omega arith)
 path_text-parts (name ∷ names) first h is =

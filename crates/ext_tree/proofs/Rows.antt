@@ -1,5 +1,6 @@
 -- Rows of trees' lines are read in one way only, and what may stand next in them.
 use Rattle.std.proofs.Common.{◌≡◌, ℕ, List, [], ◌∷◌, ◌++◌, refl, sym, ap, ◌∙◌, subst, append_assoc}
+use Rattle.std.proofs.lemmas.List.{append-nil}
 use Rattle.std.specs.Prelude.{codes, map}
 use mathlib.Core.Logic.{inl, inr}
 use Rattle.std.specs.List.{AllByRecursion, flat_map}
@@ -9,10 +10,6 @@ use Rattle.ext_tree.specs.TreeText.{HasLine, HasText, entry_line, tree_lines}
 use Rattle.ext_tree.specs.Reading.{MayStand}
 use Rattle.ext_tree.proofs.LineLaws.{line_injective, line_not_end}
 use Rattle.ext_tree.proofs.TextFronts.{lines_of, front_next}
-
-pub append_empty : {X : Type 0} (xs : List X) → xs ++ [] ≡ xs
-append_empty [] = refl
-append_empty (x ∷ xs) = ap (λ ys. x ∷ ys) (append_empty xs)
 
 -- ---- the lines of one tree
 
@@ -33,7 +30,7 @@ pub next_line : (done es fs : Entries Stamp) (l : List ℕ) (a b : List (List �
 next_line done [] [] l a b he hf text same = let head : l ≡ codes "end" = cc in inl head
 next_line done [] (y ∷ fs) l a b he hf text same =
     let head : l ≡ entry_line y = cc in
-    inr (y, subst (λ xs. HasText (xs ++ y ∷ [])) (sym (append_empty done)) (front_next done y fs text), head)
+    inr (y, subst (λ xs. HasText (xs ++ y ∷ [])) (sym (append-nil done)) (front_next done y fs text), head)
 next_line done (x ∷ es) [] l a b he hf text same = let head : entry_line x ≡ codes "end" = cc in absurd (line_not_end x head)
 next_line done (x ∷ es) (y ∷ fs) l a b he hf text same =
     let head : entry_line x ≡ entry_line y = cc in

@@ -1,11 +1,13 @@
 -- Trees that have a text: their entries have lines, their fronts have texts, and which entry may be added.
-use Rattle.std.proofs.Common.{◌≡◌, ◌≢◌, ℕ, ◌<◌, Bool, false, List, [], ◌∷◌, ◌++◌, length, Option, Some, None, refl, sym, ap, ◌∙◌, subst, arith, append_assoc, length-append}
+use Rattle.std.proofs.Common.{◌≡◌, ◌≢◌, ℕ, ◌<◌, Bool, false, List, [], ◌∷◌, ◌++◌, length, Option, Some, None, sym, ◌∙◌, subst, arith, append_assoc, length-append}
 use Rattle.std.specs.Prelude.{codes, IsTrue, ◌↔◌}
 use mathlib.Core.Logic.{inl, inr}
 use Rattle.std.proofs.lemmas.Bool.{false≢true}
 use Rattle.std.specs.List.{AllByRecursion}
+use Rattle.std.proofs.lemmas.List.{append-nil}
 use Rattle.ext_text.specs.Order.{paths_total}
 use Rattle.ext_text.specs.Path.{IsPath, path_cmp}
+use Rattle.ext_text.proofs.Lists.{all_append, all_front, all_back, all_both, all_weaker}
 use Rattle.ext_tree.specs.declared.entry.Entry.{Entry}
 use Rattle.ext_tree.specs.declared.stamp.Stamp.{Stamp}
 use Rattle.ext_tree.specs.Tree.{Entries, IsTree}
@@ -13,29 +15,8 @@ use Rattle.ext_tree.specs.TreeText.{HasLine, HasText, IsWritable, ReadsLine}
 use Rattle.ext_tree.specs.Reading.{MayStand}
 use Rattle.ext_tree.proofs.LineLaws.{line_injective, line_not_end}
 use Rattle.ext_tree.proofs.Orders.{each_found}
-use Rattle.ext_tree.proofs.LastEntry.{root_none, pop_tree, empty_tree}
-
--- ---- lists
-
-pub all_front : {X : Type 0} (P : X → Type 0) (xs ys : List X) → AllByRecursion P (xs ++ ys) → AllByRecursion P xs
-all_front P [] ys all = tt
-all_front P (x ∷ xs) ys all = (all.0, all_front P xs ys all.1)
-
-pub all_back : {X : Type 0} (P : X → Type 0) (xs ys : List X) → AllByRecursion P (xs ++ ys) → AllByRecursion P ys
-all_back P [] ys all = all
-all_back P (x ∷ xs) ys all = all_back P xs ys all.1
-
-pub all_join : {X : Type 0} (P : X → Type 0) (xs ys : List X) → AllByRecursion P xs → AllByRecursion P ys → AllByRecursion P (xs ++ ys)
-all_join P [] ys front back = back
-all_join P (x ∷ xs) ys front back = (front.0, all_join P xs ys front.1 back)
-
-all_both : {X : Type 0} (P Q : X → Type 0) (xs : List X) → AllByRecursion P xs → AllByRecursion Q xs → AllByRecursion (λ x. P x × Q x) xs
-all_both P Q [] p q = tt
-all_both P Q (x ∷ xs) p q = ((p.0, q.0), all_both P Q xs p.1 q.1)
-
-all_map : {X : Type 0} (P Q : X → Type 0) → ((x : X) → P x → Q x) → (xs : List X) → AllByRecursion P xs → AllByRecursion Q xs
-all_map P Q gives [] p = tt
-all_map P Q gives (x ∷ xs) p = (gives x p.0, all_map P Q gives xs p.1)
+use Rattle.ext_tree.proofs.Fronts.{root_none}
+use Rattle.ext_tree.proofs.LastEntry.{pop_tree, empty_tree}
 
 -- ---- texts
 
@@ -47,7 +28,7 @@ pub lines_of : (es : Entries Stamp) → HasText es → AllByRecursion HasLine es
 lines_of es text =
     let paths : AllByRecursion (λ x. IsPath x.0 × (0 < length x.0)) es =
     each_found path_cmp paths_total (λ p. IsPath p × (0 < length p)) es (λ p found. (text.within.tree.paths p found, root_none es text.within.tree p found)) in
-    all_map (λ x. (IsPath x.0 × (0 < length x.0)) × IsWritable x.1) HasLine
+    all_weaker (λ x. (IsPath x.0 × (0 < length x.0)) × IsWritable x.1) HasLine
     (λ x (path, writable). record { path = path.0; below = path.1; writable = writable }) es
     (all_both (λ x. IsPath x.0 × (0 < length x.0)) (λ x. IsWritable x.1) es paths text.each)
 
@@ -69,11 +50,7 @@ regrouped es x more = sym (append_assoc es (x ∷ []) more)
 
 -- and so has each front
 pub front_text : (es more : Entries Stamp) → HasText (es ++ more) → HasText es
-front_text es [] text = subst HasText (append_nil es) text
-  where
-    append_nil : (xs : Entries Stamp) → xs ++ [] ≡ xs
-    append_nil [] = refl
-    append_nil (x ∷ xs) = ap (λ ys. x ∷ ys) (append_nil xs)
+front_text es [] text = subst HasText (append-nil es) text
 front_text es (x ∷ more) text = pop_text es x (front_text (es ++ x ∷ []) more (subst HasText (regrouped es x more) text))
 
 -- the front up to the next entry
@@ -83,7 +60,7 @@ front_next es x more text = front_text (es ++ x ∷ []) more (subst HasText (reg
 push_text : (es : Entries Stamp) (x : List (List ℕ) × Entry Stamp) → HasText es → HasLine x → length es < 262144 → IsTree (es ++ x ∷ []) → HasText (es ++ x ∷ [])
 push_text es x text line room tree = record {
   within = record { tree = tree; count = omega (arith, length-append es (x ∷ [])) };
-  each = all_join (λ y. IsWritable y.1) es (x ∷ []) text.each (line.writable, tt);
+  each = all_append (λ y. IsWritable y.1) es (x ∷ []) text.each (line.writable, tt);
 }
 
 -- where there is room, an entry may be added exactly where the longer list is a tree

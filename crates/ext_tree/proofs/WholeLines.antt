@@ -1,68 +1,13 @@
 -- The lines of bytes, one by one.
-use Rattle.std.proofs.Common.{◌≡◌, ℕ, zero, suc, ◌-◌, ◌<◌, true, false, not, List, [], ◌∷◌, ◌++◌, length, take, refl, sym, ap, ◌∙◌, subst, arith, append_assoc, eqb}
-use Rattle.std.specs.Prelude.{◌⊎◌}
-use mathlib.Core.Logic.{inl, inr}
-use Rattle.std.proofs.lemmas.Bool.{false≢true, not-true, eq-eqb, eqb-true}
-use Rattle.std.specs.List.{AllByRecursion, All, slice_split}
+use Rattle.std.proofs.Common.{◌≡◌, ℕ, suc, ◌-◌, ◌<◌, List, [], ◌∷◌, ◌++◌, length, take, refl, sym, ap, ◌∙◌, arith, append_assoc, eqb}
+use Rattle.std.proofs.lemmas.Bool.{eq-eqb}
+use Rattle.std.specs.List.{AllByRecursion, slice_split}
 use Rattle.std.proofs.lemmas.List.Splits.{slice_split_none, slice_split_at, length-slice_split}
 use Rattle.std.proofs.lemmas.List.Concat.{flat_map-append}
 use Rattle.ext_text.specs.Cut.{Lacks, IsCut}
+use Rattle.ext_text.proofs.Cuts.{lacks_all}
 use Rattle.ext_tree.specs.TreeText.{lines_text}
 use Rattle.ext_tree.specs.FirstFault.{whole_lines}
-
--- ---- a byte that is lacked
-
-pub lacks_empty : (byte : ℕ) → Lacks byte []
-lacks_empty byte = λ k d short. absurd (omega arith)
-
-pub lacks_cons : (byte b : ℕ) (bytes : List ℕ) → not (eqb b byte) ≡ true → Lacks byte bytes → Lacks byte (b ∷ bytes)
-lacks_cons byte b bytes other lacks zero d short = other
-lacks_cons byte b bytes other lacks (suc k) d short = lacks k d (omega arith)
-
-pub lacks_tail : (byte b : ℕ) (bytes : List ℕ) → Lacks byte (b ∷ bytes) → Lacks byte bytes
-lacks_tail byte b bytes lacks = λ k d short. lacks (suc k) d (omega arith)
-
-pub lacks_head : (byte b : ℕ) (bytes : List ℕ) → Lacks byte (b ∷ bytes) → eqb b byte ≡ false
-lacks_head byte b bytes lacks = not-true (eqb b byte) (lacks 0 b (omega arith))
-
-lacks_all : (byte : ℕ) (bytes : List ℕ) → Lacks byte bytes → All (λ b. eqb b byte ≡ false) bytes
-lacks_all byte bytes lacks = λ k d short. not-true _ (lacks k d short)
-
--- ---- cuts
-
-cut_more : (b : ℕ) (bytes : List ℕ) → not (eqb b 10) ≡ true → (Lacks 10 bytes) ⊎ ((line : List ℕ) × (more : List ℕ) × IsCut 10 bytes line more) → (Lacks 10 (b ∷ bytes)) ⊎ ((line : List ℕ) × (more : List ℕ) × IsCut 10 (b ∷ bytes) line more)
-cut_more b bytes other (inl lacks) = inl (lacks_cons 10 b bytes other lacks)
-cut_more b bytes other (inr (line, more, cut)) = inr (b ∷ line, more, record { whole = ap (λ xs. b ∷ xs) cut.whole; front_lacks = lacks_cons 10 b line other cut.front_lacks })
-
--- bytes lack the newline or have a first line
-pub cut_or_lacks : (bytes : List ℕ) → (Lacks 10 bytes) ⊎ ((line : List ℕ) × (more : List ℕ) × IsCut 10 bytes line more)
-cut_or_lacks [] = inl (lacks_empty 10)
-cut_or_lacks (b ∷ bytes) =
-    elim (eqb b 10) as (λ t. eqb b 10 ≡ t → (Lacks 10 (b ∷ bytes)) ⊎ ((line : List ℕ) × (more : List ℕ) × IsCut 10 (b ∷ bytes) line more)) [
-      | true ↦ λ is. inr ([], bytes, record { whole = ap (λ x. x ∷ bytes) (eqb-true b 10 is); front_lacks = lacks_empty 10 })
-      | false ↦ λ other. cut_more b bytes (ap not other) (cut_or_lacks bytes)
-    ] refl
-
--- there is one first line
-pub one_cut : (l m x y : List ℕ) → Lacks 10 l → Lacks 10 m → l ++ 10 ∷ x ≡ m ++ 10 ∷ y → l ≡ m
-one_cut [] [] x y a b same = refl
-one_cut [] (c ∷ m) x y a b same = let head : 10 ≡ c = cc in absurd (false≢true (sym (lacks_head 10 c m b) ∙ eq-eqb c 10 (sym head)))
-one_cut (c ∷ l) [] x y a b same = let head : c ≡ 10 = cc in absurd (false≢true (sym (lacks_head 10 c l a) ∙ eq-eqb c 10 head))
-one_cut (c ∷ l) (d ∷ m) x y a b same =
-    let head : c ≡ d = cc in
-    let tail : l ++ 10 ∷ x ≡ m ++ 10 ∷ y = cc in
-    let rest : l ≡ m = one_cut l m x y (lacks_tail 10 c l a) (lacks_tail 10 d m b) tail in
-    λ i. head i ∷ rest i
-
--- bytes without the newline have no first line
-pub no_cut : (bytes line more : List ℕ) → Lacks 10 bytes → IsCut 10 bytes line more → ⊥
-no_cut bytes line more lacks cut = never line more (subst (Lacks 10) cut.whole lacks)
-  where
-    never : (l m : List ℕ) → Lacks 10 (l ++ 10 ∷ m) → ⊥
-    never [] m all = false≢true (sym (lacks_head 10 10 m all) ∙ eq-eqb 10 10 refl)
-    never (b ∷ l) m all = never l m (lacks_tail 10 b (l ++ 10 ∷ m) all)
-
--- ---- whole lines
 
 front_of : {X : Type 0} (x : X) (xs : List X) → 0 < length xs → take (length (x ∷ xs) - 1) (x ∷ xs) ≡ x ∷ take (length xs - 1) xs
 front_of x xs some =

@@ -1,5 +1,5 @@
 use Rattle.std.proofs.Common.{arith}
-use Rattle.ext_tree.proofs.LineCuts.{cut_field, cut_none}
+use Rattle.ext_text.proofs.Cuts.{cut_field, cut_none}
 use Rattle.ext_tree.proofs.LineNumbers.{mode_lacks}
 use Rattle.ext_tree.proofs.fields.cut_mode.Goals as goal
 

@@ -1,5 +1,5 @@
 use Rattle.std.proofs.Common.{arith, sym, ◌∙◌}
-use Rattle.ext_tree.proofs.LineCuts.{cut_once}
+use Rattle.ext_text.proofs.Cuts.{cut_once}
 use Rattle.ext_tree.proofs.LineNumbers.{decimal_lacks}
 use Rattle.ext_tree.proofs.fields.cut_stamp.Goals as goal
 

@@ -1,7 +1,7 @@
 use Rattle.std.proofs.Common.{sym, ◌∙◌, subst}
 use Rattle.std.proofs.lemmas.Bool.{false≢true}
 use Rattle.ext_tree.specs.TreeText.{IsTarget}
-use Rattle.ext_tree.proofs.LineCuts.{cut_same}
+use Rattle.ext_text.proofs.Cuts.{cut_same}
 use Rattle.ext_tree.proofs.LineFields.{target_cut}
 use Rattle.ext_tree.proofs.fields.cut_target.Goals as goal
 
