@@ -1,17 +1,13 @@
 -- Tests along the fronts of a path, and lists of entries that have none of its fronts.
-use Rattle.std.proofs.Common.{◌≡◌, ℕ, Bool, true, false, cond, ◌&&◌, ◌||◌, T, List, [], ◌∷◌, Some, None, refl, sym, ap, ◌∙◌, subst}
+use Rattle.std.proofs.Common.{◌≡◌, ℕ, Bool, true, false, cond, ◌||◌, T, List, [], ◌∷◌, Some, None, refl, sym, ap, ◌∙◌, subst}
 use Rattle.std.proofs.lemmas.Bool.{false≢true, and_parts, and_from, or_right, or_left}
 use Rattle.std.proofs.lemmas.Float.{T_from_true}
-use Rattle.std.specs.declared.cmp.Ordering.{Ordering}
-use Rattle.std.specs.declared.cmp.Ordering.TheVariants.{Less, Equal, Greater}
-use Rattle.std.specs.Ordering.{is_eq, is_lt, eq_by_cmp, ordering_then, ordering_reverse}
-use Rattle.std.specs.Cmp.{Equal-is, tied_itself}
-use Rattle.std.specs.Cmp.Lexicographic.{nat_list_cmp_total}
-use Rattle.std.specs.FinMap.{find, slice_cmp-IsAntisymmetric, nat_cmp-IsAntisymmetric}
+use Rattle.std.specs.declared.cmp.Ordering.TheVariants.{Less}
+use Rattle.std.specs.Ordering.{is_lt, eq_by_cmp}
+use Rattle.std.specs.FinMap.{find}
 use Rattle.std.specs.FinMap.Entries.{below_all}
 use Rattle.ext_text.specs.Name.{name_cmp}
 use Rattle.ext_text.specs.Path.{path_cmp, is_front}
-use Rattle.ext_text.specs.Order.{paths_exact, paths_total}
 use Rattle.ext_text.proofs.Facts.{true_from_T, is_less}
 use Rattle.ext_text.proofs.PathFronts.{same_name, tied_name, same_path, front_order}
 use Rattle.ext_layer.specs.Verdicts.{some_front}
