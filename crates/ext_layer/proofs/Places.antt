@@ -1,5 +1,6 @@
 -- Where an upper entry lies in a lower list: behind what stands before its path, in place of the row that it hides.
 use Rattle.std.proofs.Common.{◌≡◌, ℕ, zero, suc, ◌+◌, ◌<◌, Bool, true, false, cond, not, ◌&&◌, ◌||◌, T, List, [], ◌∷◌, ◌++◌, length, get_or, take, drop, Some, refl, sym, ap, ◌∙◌, subst, arith}
+use Rattle.std.proofs.Math.Bool.{or-false, and-true}
 use Rattle.std.proofs.lemmas.Bool.{false≢true, false_from_ne_true, and_parts, and_from, and_right, not-true}
 use Rattle.std.proofs.lemmas.Float.{T_from_true}
 use Rattle.std.specs.declared.cmp.Ordering.TheVariants.{Less, Equal, Greater}
@@ -79,10 +80,6 @@ hides_itself : (c : Bool) (k : List (List ℕ)) → cond c (is_front k k) (eq_by
 hides_itself true k = front_self k
 hides_itself false k = tied_path k k refl
 
-or_false : (b : Bool) → (b || false) ≡ b
-or_false true = refl
-or_false false = refl
-
 -- what comes before a path comes before all that stands behind it
 below_before : {X : Type 0} (k e : List (List ℕ)) (es : List (List (List ℕ) × X)) → path_cmp k e ≡ Less → T (below_all path_cmp e es) → T (below_all path_cmp k es)
 below_before k e [] o h = tt
@@ -95,10 +92,6 @@ pub sorted_drop : {X : Type 0} (n : ℕ) (es : List (List (List ℕ) × X)) → 
 sorted_drop zero es h = h
 sorted_drop (suc n) [] h = h
 sorted_drop (suc n) (e ∷ es) h = sorted_drop n es (T_from_true _ (and_parts (below_all path_cmp e.0 es) (is_sorted path_cmp es) (true_from_T _ h)).1)
-
-and_true : (b : Bool) → b ≡ (b && true)
-and_true true = refl
-and_true false = refl
 
 -- where one entry stands before a path, so do all in front of it
 pub skip : {X : Type 0} (p : List (List ℕ)) (n : ℕ) (es : List (List (List ℕ) × X)) (d : List (List ℕ) × X) → T (is_sorted path_cmp es) → n < length es → is_lt (path_cmp (get_or es n d).0 p) ≡ true → place p es ≡ suc n + place p (drop (suc n) es)
@@ -164,7 +157,7 @@ module _ {C : Type 0} where
 
   -- the entry's mark is raised by the first entry of a list that begins at its path
   first_mark : (u : List (List ℕ) × (Entry C × Bool)) (es : Marked C) → starts_from u.0 es ≡ true → T (is_sorted path_cmp es) → over_entry u es ≡ over_first u es
-  first_mark u [] from h = λ i. (u.0, (u.1.0, or_false u.1.1 i))
+  first_mark u [] from h = λ i. (u.0, (u.1.0, or-false u.1.1 i))
   first_mark u (e ∷ es) from h =
       let x = and_parts (below_all path_cmp e.0 es) (is_sorted path_cmp es) (true_from_T _ h) in
       let at = not-true _ from in
@@ -173,7 +166,7 @@ module _ {C : Type 0} where
         | Less ↦ λ o.
             let turned : path_cmp e.0 u.0 ≡ Greater = paths_total.antisymm e.0 u.0 ∙ ap ordering_reverse o in
             ap cuts_at (absent u.0 u.0 (front_self u.0) es (below_before u.0 e.0 es o (T_from_true _ x.0))) ∙ sym (and_right e.1.1 false refl) ∙ ap (λ r. e.1.1 && is_eq r) (sym turned)
-        | Equal ↦ λ o. and_true e.1.1 ∙ ap (λ r. e.1.1 && is_eq r) (sym (paths_total.antisymm e.0 u.0 ∙ ap ordering_reverse o))
+        | Equal ↦ λ o. sym (and-true e.1.1) ∙ ap (λ r. e.1.1 && is_eq r) (sym (paths_total.antisymm e.0 u.0 ∙ ap ordering_reverse o))
         | Greater ↦ λ o. absurd (false≢true (sym at ∙ ap is_lt (paths_total.antisymm e.0 u.0 ∙ ap ordering_reverse o)))
       ] refl in
       λ i. (u.0, (u.1.0, u.1.1 || mark i))

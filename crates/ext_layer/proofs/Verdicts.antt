@@ -1,5 +1,6 @@
 -- What marked lists say at each path: laid over one another, they say what the first that does not let it pass says.
 use Rattle.std.proofs.Common.{◌≡◌, ℕ, Bool, true, false, cond, not, ◌||◌, T, List, [], ◌∷◌, ◌++◌, Option, Some, None, refl, sym, ap, ◌∙◌, subst}
+use Rattle.std.proofs.Math.Bool.{or-false}
 use Rattle.std.proofs.lemmas.Bool.{false≢true, false_from_ne_true, and_parts}
 use Rattle.std.proofs.lemmas.Float.{T_from_true}
 use Rattle.std.specs.Ordering.{eq_by_cmp}
@@ -18,10 +19,6 @@ pub first_assoc : {C : Type 0} (a b c : Verdict C) → first_of_two (first_of_tw
 first_assoc (shown_as e) b c = refl
 first_assoc cut_off b c = refl
 first_assoc let_pass b c = refl
-
-or_false : (b : Bool) → b ≡ (b || false)
-or_false true = refl
-or_false false = refl
 
 module _ {C : Type 0} where
   -- what an entry laid over a list leaves of each look-up
@@ -112,7 +109,7 @@ module _ {C : Type 0} where
       let cut_one = some_front (λ q. cuts_at (find path_cmp q (u ∷ []))) p in
       let each : (q : List (List ℕ)) → cuts_at (find path_cmp q (u ∷ us)) ≡ (cuts_at (find path_cmp q us) || cuts_at (find path_cmp q (u ∷ []))) = λ q. elim (eq_by_cmp path_cmp q u.0) as (λ b. eq_by_cmp path_cmp q u.0 ≡ b → cuts_at (cond b (Some u.1) (find path_cmp q us)) ≡ (cuts_at (find path_cmp q us) || cuts_at (cond b (Some u.1) None))) [
         | true ↦ λ t. ap (λ o. cuts_at o || u.1.1) (sym (here q t))
-        | false ↦ λ t. or_false (cuts_at (find path_cmp q us))
+        | false ↦ λ t. sym (or-false (cuts_at (find path_cmp q us)))
       ] refl in
       let cut_both : some_front (λ q. cuts_at (find path_cmp q (u ∷ us))) p ≡ (cut_rest || cut_one) = some_front-same _ _ p (λ q f. each q) ∙ some_front-or (λ q. cuts_at (find path_cmp q us)) (λ q. cuts_at (find path_cmp q (u ∷ []))) p in
       ap (judged (find path_cmp p (u ∷ us))) cut_both
