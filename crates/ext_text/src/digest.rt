@@ -1,6 +1,6 @@
-ghost use Rattle.std.specs.Prelude.{◌≡◌, ◌↔◌, length, IsSome, IfSome};
+ghost use Rattle.std.specs.Prelude.{◌≡◌, ◌<◌, ◌↔◌, length, slice_index, IsSome, IfSome};
 ghost use Rattle.std.specs.List.{AllPass};
-ghost use Rattle.hex.specs.Hex.{decode_of, is_hex_digit};
+ghost use Rattle.hex.specs.Hex.{decode_of, encode_lower, is_hex_digit, lower_digits};
 
 use hex::FromHex;
 
@@ -19,4 +19,24 @@ impl Digest {
             Err(_) => None,
         }
     }
+    /// The 64 hexadecimal digits that spell it, the letters in lower case.
+    pub fn digits(&self) -> [u8; 64]
+        ensures { result ≡ encode_lower self.now.0 }
+    {
+        let mut digits = [0; 64];
+        'bytes: for at in 0..32 {
+            digits[2 * at] = digit_of(self.0[at] / 16);
+            digits[2 * at + 1] = digit_of(self.0[at] % 16);
+        }
+        digits
+    }
+}
+
+// The digit of a value, by arithmetic alone: so a processor finds the digits of many values at once, as it could not by
+// a table.
+fn digit_of(value: u8) -> u8
+    requires { value < 16 }
+    ensures { result ≡ slice_index lower_digits value }
+{
+    b'0' + value + 39 * (value > 9) as u8
 }

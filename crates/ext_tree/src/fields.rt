@@ -121,11 +121,7 @@ fn digest_of(field: &[u8]) -> Option<Digest>
 fn prints_as(digest: &Digest, field: &[u8]) -> bool
     ensures { IsTrue result ↔ (field.now ≡ encode_lower digest.now.0) }
 {
-    let mut text = [0; 64];
-    match hex::encode_to_slice(digest.0.as_slice(), &mut text) {
-        Ok(()) => field == text.as_slice(),
-        Err(_) => false,
-    }
+    field == digest.digits().as_slice()
 }
 
 // A mode, one space, and what follows.

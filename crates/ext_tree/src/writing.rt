@@ -109,8 +109,6 @@ fn append_decimal(text: &mut Vec<u8>, number: u64) -> Result<(), OutOfMemory>
 fn append_hex(text: &mut Vec<u8>, digest: &Digest) -> Result<(), OutOfMemory>
     ensures { OnOk result (text.new.items ≡ text.old.items ++ encode_lower digest.now.0) }
 {
-    let mut digits = [0; 64];
-    hex::encode_to_slice(digest.0.as_slice(), &mut digits).unwrap();
-    text.extend_from_slice(&digits)?;
+    text.extend_from_slice(&digest.digits())?;
     Ok(())
 }
