@@ -1,3 +1,4 @@
+pub mod AsciiNames
 pub mod Cuts
 pub mod Facts
 pub mod Lists

@@ -1,4 +1,4 @@
-ghost use Rattle.std.specs.Prelude.{◌≡◌, ◌↔◌, IsTrue, IfOk};
+ghost use Rattle.std.specs.Prelude.{◌≡◌, ◌↔◌, ◌&&◌, nat_lt, IsTrue, IsUtf8, IfOk};
 ghost use Rattle.std.specs.List.{AllPass};
 ghost use Rattle.ext_text.specs.Name.{IsName, ReadsName, is_name_byte};
 
@@ -70,8 +70,29 @@ fn is_name(bytes: &[u8]) -> bool
         && bytes.len() <= MOST_BYTES
         && bytes != b".".as_slice()
         && bytes != b"..".as_slice()
-        && bytes.iter().all(|byte| is_name_byte(*byte))
-        && str::from_utf8(bytes).is_ok()
+        && is_name_text(bytes)
+}
+
+// Text of name bytes. Most names are ASCII, which is text by its bytes alone.
+fn is_name_text(bytes: &[u8]) -> bool
+    ensures { IsTrue result ↔ (AllPass is_name_byte bytes.now × IsUtf8 bytes.now) }
+{
+    is_ascii_name_text(bytes)
+        || (bytes.iter().all(|byte| is_name_byte(*byte)) && str::from_utf8(bytes).is_ok())
+}
+
+// Name bytes of ASCII alone.
+fn is_ascii_name_text(bytes: &[u8]) -> bool
+    ensures { IsTrue result ↔ AllPass (λ b. is_name_byte b && nat_lt b 128) bytes.now }
+{
+    bytes.iter().all(|byte| is_ascii_name_byte(*byte))
+}
+
+// A name byte of ASCII.
+fn is_ascii_name_byte(byte: u8) -> bool
+    ensures { result ≡ (is_name_byte byte && nat_lt byte 128) }
+{
+    byte >= b' ' && byte < 0x7F && byte != b'/'
 }
 
 impl Name {
