@@ -19,7 +19,7 @@ use Rattle.ext_text.proofs.Facts.{is_equal}
 names_total : IsTotalOrder name_cmp
 names_total = nat_list_cmp_total
 
-names_exact : IsAntisymmetric name_cmp
+pub names_exact : IsAntisymmetric name_cmp
 names_exact = slice_cmp-IsAntisymmetric nat_cmp-IsAntisymmetric
 
 pub same_name : (n m : List ℕ) → eq_by_cmp name_cmp n m ≡ true → n ≡ m
@@ -37,6 +37,9 @@ tied_path p q same = subst (λ r. eq_by_cmp path_cmp p r ≡ true) same (ap is_e
 pub some_name : (p : List (List ℕ)) → p ≢ [] → 0 < length p
 some_name [] some = absurd (some refl)
 some_name (n ∷ p) some = omega arith
+
+pub names_tied : (n : List ℕ) → name_cmp n n ≡ Equal
+names_tied n = tied_itself names_total n
 
 -- ---- fronts
 

@@ -238,7 +238,7 @@ tree_first p e tree =
 -- ---- what `may_follow` answers
 
 -- a list that is not empty ends with its last element
-ends : {X : Type 0} (xs : List X) (d : X) → 0 < length xs → d ≡ get_or xs (length xs - 1) d → xs ≡ take (length xs - 1) xs ++ d ∷ []
+pub ends : {X : Type 0} (xs : List X) (d : X) → 0 < length xs → d ≡ get_or xs (length xs - 1) d → xs ≡ take (length xs - 1) xs ++ d ∷ []
 ends xs d some is =
     let place : length xs - 1 < length xs = omega arith in
     let whole : suc (length xs - 1) ≡ length xs = omega arith in

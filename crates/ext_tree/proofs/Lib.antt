@@ -3,6 +3,7 @@ pub mod Fronts
 pub mod Kept
 pub mod Orders
 pub mod LastEntry
+pub mod PastFront
 pub mod Octal
 pub mod Printed
 pub mod OctalText

@@ -1,5 +1,8 @@
 // Which path may stand behind the entries of a tree, by a look at the last of them alone.
-ghost use Rattle.std.specs.Prelude.{◌≡◌, [], ◌∷◌, ◌++◌, ◌↔◌, IsTrue};
+ghost use Rattle.std.specs.Prelude.{◌≡◌, [], ◌∷◌, ◌++◌, ◌↔◌, IsTrue, MatchOption, slice_get};
+ghost use Rattle.std.specs.Option.{option_copied};
+ghost use Rattle.std.specs.Ordering.{is_lt};
+ghost use Rattle.ext_text.specs.Name.{name_cmp};
 ghost use Rattle.ext_text.specs.Path.{is_front};
 ghost use Rattle.ext_tree.specs.Tree.{IsTree, is_dir};
 ghost use Rattle.ext_tree.specs.Reading.{stands_after};
@@ -20,15 +23,36 @@ pub fn may_follow<C>(entries: &[(Path, Entry<C>)], path: &Path) -> bool
     }
 }
 
-// Whether the path may stand behind the last entry.
+// Whether the path may stand behind the last entry. The names of its folder are compared once, with the last path's:
+// behind them the last path has a smaller name, or nothing, and is then the folder itself.
 fn stands_after<C>(last: &(Path, Entry<C>), path: &Path) -> bool
     ensures { result ≡ stands_after last.now path.now }
 {
     let (last_path, entry) = last;
-    let parent = path.parent();
-    last_path.cmp(path).is_lt()
-        && is_front(parent, last_path.names())
-        && (parent.len() < last_path.names().len() || is_dir(entry))
+    match path.names() {
+        [] => false,
+        [folder @ .., name] => {
+            is_front(folder, last_path.names())
+                && comes_after(name_at(last_path.names(), folder.len()), entry, name)
+        }
+    }
+}
+
+// Whether a name comes after the last entry, which has this name in the same folder or is the folder.
+fn comes_after<C>(last_name: Option<&Name>, entry: &Entry<C>, name: &Name) -> bool
+    ensures { MatchOption (option_copied last_name.entry) (result ≡ is_dir entry.now) (λ last. result ≡ is_lt (name_cmp last name.now)) }
+{
+    match last_name {
+        None => is_dir(entry),
+        Some(last) => last.cmp(name).is_lt(),
+    }
+}
+
+// The name at a place.
+fn name_at(names: &[Name], place: usize) -> Option<&Name>
+    ensures { option_copied result ≡ slice_get names.now place }
+{
+    names.get(place)
 }
 
 // Whether the second list of names begins with the first.
