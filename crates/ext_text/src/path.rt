@@ -1,9 +1,9 @@
-ghost use Rattle.std.specs.Prelude.{◌≡◌, ◌+◌, ◌-◌, ◌<◌, ◌≤◌, [], ◌∷◌, ◌++◌, ◌^◌, length, take, ◌==◌, IsTrue, IfOk, IfErr, OnErr, OnOk, count_by};
+ghost use Rattle.std.specs.Prelude.{◌≡◌, ◌+◌, ◌-◌, ◌<◌, ◌≤◌, [], ◌∷◌, ◌++◌, ◌^◌, length, take, ◌==◌, IsTrue, IfOk, IfErr, OnErr, OnOk, MatchOption, count_by};
+ghost use Rattle.ext_text.specs.Cut.{IsCut, Lacks};
 ghost use Rattle.std.specs.List.{AllByRecursion, flat_map, slice_split, sum_by};
 ghost use Rattle.ext_text.specs.Name.{IsName};
 ghost use Rattle.ext_text.specs.Path.{IsPath, IsPartsErr, ReadsPath, Lengthens, path_text, path_parts, parent, is_front};
 
-use crate::cut::cut_at;
 use crate::memory::OutOfMemory;
 use crate::name::{Name, NameErr};
 use std::alloc::{AllocError, AllocFailed, Global};
@@ -187,11 +187,16 @@ impl Path {
     }
 }
 
-// How many parts a text has between its slashes.
+// How many parts a text has between its slashes. Sixteen bits hold the count, of which a processor adds many at once.
 fn count_of_parts(bytes: &[u8]) -> usize
+    requires { length bytes.now ≤ 4096 }
     ensures { result ≡ count_by (λ b. b == 47) bytes.now + 1 }
 {
-    bytes.iter().filter(|byte| **byte == b'/').count() + 1
+    let mut slashes = 0u16;
+    'bytes: for byte in bytes {
+        slashes += (*byte == b'/') as u16;
+    }
+    slashes as usize + 1
 }
 
 // Adds the names between the slashes, or finds a part that is none.
@@ -201,12 +206,28 @@ fn append_parts(names: &mut Vec<Name>, bytes: &[u8]) -> Result<(), PathErr>
 {
     let mut rest = bytes;
     'parts: loop {
-        match cut_at(rest, b'/') {
+        match cut_part(rest) {
             Some((part, behind)) => {
                 push_name(names, part)?;
                 rest = behind;
             }
             None => return push_name(names, rest),
+        }
+    }
+}
+
+// The part before the first slash, and the text behind it. Most parts are short, so each byte is looked at in turn.
+fn cut_part(bytes: &[u8]) -> Option<(&[u8], &[u8])>
+    ensures { MatchOption result (Lacks 47 bytes.now) (λ cut. IsCut 47 bytes.now cut.0.now cut.1.now) }
+{
+    match bytes.iter().position(|byte| *byte == b'/') {
+        None => None,
+        Some(place) => {
+            let (part, rest) = bytes.split_at(place);
+            match rest {
+                [] => None,
+                [_slash, behind @ ..] => Some((part, behind)),
+            }
         }
     }
 }
