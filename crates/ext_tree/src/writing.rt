@@ -39,7 +39,22 @@ pub fn write_tree(alloc: Global, tree: &Tree<Stamp>) -> Result<Text, OutOfMemory
 pub fn write_entries(alloc: Global, entries: &[&(Path, Entry<Stamp>)]) -> Result<Text, OutOfMemory>
     ensures { IfOk result (λ text. text ≡ tree_text (map (λ x. x.now) entries.now)) }
 {
-    let mut text = Vec::from_slice(alloc, HEADER)?;
+    write_entries_over(Text::new(alloc), entries)
+}
+
+/// The same, written into the memory of an older text, whose bytes go.
+///
+/// # Errors
+/// Want of memory alone.
+pub fn write_entries_over(
+    older: Text,
+    entries: &[&(Path, Entry<Stamp>)],
+) -> Result<Text, OutOfMemory>
+    ensures { IfOk result (λ text. text ≡ tree_text (map (λ x. x.now) entries.now)) }
+{
+    let mut text = older.into_vec();
+    text.clear();
+    text.extend_from_slice(HEADER)?;
     for entry in entries {
         append_line(&mut text, &entry.0, &entry.1)?;
     }
