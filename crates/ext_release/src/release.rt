@@ -1,9 +1,10 @@
-ghost use Rattle.std.specs.Prelude.{◌≡◌, ℕ, List, [], IfOk, OnOk, None};
+ghost use Rattle.std.specs.Prelude.{◌≡◌, ℕ, List, [], IfOk, OnOk, None, Some, if◌then◌else◌};
 ghost use Rattle.std.specs.Option.{option_copied, unwrap_or};
 ghost use Rattle.std.specs.FinMap as map;
+ghost use Rattle.std.specs.Str.{bytes_eq};
 ghost use Rattle.std.specs.String.{string_bytes};
 ghost use Rattle.ext_release.specs.Line.{Sets};
-ghost use Rattle.ext_release.specs.Release.{assigned, leaves};
+ghost use Rattle.ext_release.specs.Release.{assigned, leaves, map_of};
 ghost use Rattle.ext_release.specs.Words.{has_word, words_of};
 
 use crate::blanks::{append_words, has_word};
@@ -34,6 +35,28 @@ impl Model for Release {
     ghost view = { λ r. map_of r.values.entries };
 }
 
+// Puts a value at a key. A key that is there already is not copied.
+fn put(
+    alloc: Global,
+    values: &mut BTreeMap<String, String>,
+    key: &str,
+    value: String,
+) -> Result<(), OutOfMemory>
+    ensures { OnOk result ((q : List ℕ) → map.get (map_of values.new.entries) q ≡ (if bytes_eq key.now q then Some (string_bytes value) else map.get (map_of values.old.entries) q)) }
+{
+    match values.get_mut(key) {
+        Some(held) => {
+            *held = value;
+            Ok(())
+        }
+        None => {
+            let key = String::from_str(alloc, key)?;
+            let _ = values.insert(key, value)?;
+            Ok(())
+        }
+    }
+}
+
 impl Release {
     // Nothing is assigned.
     pub(crate) fn new(alloc: Global) -> Release
@@ -58,9 +81,7 @@ impl Release {
             let _ = self.values.remove(key);
             return Ok(());
         }
-        let key = String::from_str(self.alloc, key)?;
-        let _ = self.values.insert(key, value)?;
-        Ok(())
+        put(self.alloc, &mut self.values, key, value)
     }
 
     /// The value of a key, as its last assignment gives it; `None` exactly where the key has none or an empty one.
