@@ -1,5 +1,5 @@
 -- A look-up in the map of a release is a look-up in the map of texts that holds it.
-use Rattle.std.proofs.Common.{◌≡◌, ℕ, List, [], ◌∷◌, cond, Bool, true, false, eqb, length, refl, sym, ap, ◌∙◌}
+use Rattle.std.proofs.Common.{◌≡◌, ℕ, List, [], ◌∷◌, cond, Bool, true, false, refl, sym, ap, ◌∙◌}
 use Rattle.std.specs.Prelude.{None, Option, Some, String}
 use Rattle.std.specs.BTreeMap.{BTreeMap, UpdatesBy, is_at}
 use Rattle.std.specs.Cmp.Lexicographic.{nat_list_cmp_total, slice_cmp}
@@ -11,7 +11,7 @@ use Rattle.std.specs.Str.{bytes_eq}
 use Rattle.std.specs.String.{string_bytes, string_cmp}
 use Rattle.std.proofs.lemmas.Map.Text.{btree_map_updates_text}
 use Rattle.ext_text.specs.Name.{name_cmp}
-use Rattle.ext_release.specs.Release.{leaves, map_of, texts}
+use Rattle.ext_release.specs.Release.{map_of, texts}
 
 mapped : {A B : Type 0} (f : A → B) (b : Bool) (x : A) (o : Option A) → option_map f (cond b (Some x) o) ≡ cond b (Some (f x)) (option_map f o)
 mapped f true x o = refl
@@ -37,11 +37,3 @@ updated key m n w change q =
 
 pub get-none : {Z : Type 0} (es : List (String Z × String Z)) → es ≡ [] → (q : List ℕ) → get (map_of es) q ≡ None
 get-none es none q = ap (λ (xs : List (String _ × String _)). get (map_of xs) q) none ∙ get-empty name_cmp q
-
-pub leaves_none : (b : Bool) (value : List ℕ) (old : Option (List ℕ)) → eqb (length value) 0 ≡ true → cond b None old ≡ leaves (cond b (Some value) None) old
-leaves_none true value old h = rw h refl
-leaves_none false value old h = refl
-
-pub leaves_value : (b : Bool) (value : List ℕ) (old : Option (List ℕ)) → eqb (length value) 0 ≡ false → cond b (Some value) old ≡ leaves (cond b (Some value) None) old
-leaves_value true value old h = rw h refl
-leaves_value false value old h = refl

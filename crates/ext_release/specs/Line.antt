@@ -59,7 +59,7 @@ sets key (Some value) = Sets key value
 
 -- an assignment to what is no key is skipped
 abbrev pub assigns : List ℕ → List ℕ → ReleaseLine
-assigns key text = cond (is_key key) (sets key (unquoted (after_blanks text))) Skipped
+assigns key text = cond (is_key key) (sets key (unquoted (trimmed text))) Skipped
 
 -- a text without `=` is skipped
 abbrev pub assignment : Option (List ℕ × List ℕ) → ReleaseLine

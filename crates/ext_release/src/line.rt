@@ -19,7 +19,7 @@ fn strip_carriage_return(line: &[u8]) -> &[u8]
 }
 
 // The text without the blanks in front.
-pub(crate) fn after_blanks(text: &str) -> &str
+fn after_blanks(text: &str) -> &str
     ensures { result.now ≡ after_blanks text.now }
 {
     let mut rest = text;

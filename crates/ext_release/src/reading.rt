@@ -6,7 +6,7 @@ ghost use Rattle.ext_release.specs.Reading.{FollowsAs, IsNextLine};
 ghost use Rattle.ext_release.specs.Release.{IsRelease, ReadsRelease};
 
 use crate::cutting::cut;
-use crate::line::{after_blanks, is_key, text_of, trimmed};
+use crate::line::{is_key, text_of, trimmed};
 use crate::release::Release;
 use crate::value::unquoted;
 use ext_text::{OutOfMemory, cut_at};
@@ -40,7 +40,7 @@ fn assign(release: &mut Release, key: &str, text: &str) -> Result<bool, OutOfMem
     requires { is_key key.now ≡ true }
     ensures { IfOk result (FollowsAs (assigns key.now text.now) release.old release.new) }
 {
-    match unquoted(release.allocator(), after_blanks(text))? {
+    match unquoted(release.allocator(), trimmed(text))? {
         None => Ok(false),
         Some(value) => {
             release.set(key, value)?;

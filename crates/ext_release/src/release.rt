@@ -35,28 +35,6 @@ impl Model for Release {
     ghost view = { λ r. map_of r.values.entries };
 }
 
-// Puts a value at a key. A key that is there already is not copied.
-fn put(
-    alloc: Global,
-    values: &mut BTreeMap<String, String>,
-    key: &str,
-    value: String,
-) -> Result<(), OutOfMemory>
-    ensures { OnOk result ((q : List ℕ) → map.get (map_of values.new.entries) q ≡ (if bytes_eq key.now q then Some (string_bytes value) else map.get (map_of values.old.entries) q)) }
-{
-    match values.get_mut(key) {
-        Some(held) => {
-            *held = value;
-            Ok(())
-        }
-        None => {
-            let key = String::from_str(alloc, key)?;
-            let _ = values.insert(key, value)?;
-            Ok(())
-        }
-    }
-}
-
 impl Release {
     // Nothing is assigned.
     pub(crate) fn new(alloc: Global) -> Release
@@ -66,22 +44,6 @@ impl Release {
             alloc,
             values: BTreeMap::new(alloc),
         }
-    }
-
-    // Where its texts are kept.
-    pub(crate) fn allocator(&self) -> Global {
-        self.alloc
-    }
-
-    // Sets a key to a value; to an empty one, the key has none.
-    pub(crate) fn set(&mut self, key: &str, value: String) -> Result<(), OutOfMemory>
-        ensures { OnOk result ((q : List ℕ) → map.get self.new q ≡ leaves (assigned (Sets key.now (string_bytes value)) q) (map.get self.old q)) }
-    {
-        if value.as_str().is_empty() {
-            let _ = self.values.remove(key);
-            return Ok(());
-        }
-        put(self.alloc, &mut self.values, key, value)
     }
 
     /// The value of a key, as its last assignment gives it; `None` exactly where the key has none or an empty one.
@@ -117,4 +79,49 @@ impl Release {
             None => false,
         }
     }
+
+    // Where its texts are kept.
+    pub(crate) fn allocator(&self) -> Global {
+        self.alloc
+    }
+
+    // Sets a key to a value; to an empty one, the key has none.
+    pub(crate) fn set(&mut self, key: &str, value: String) -> Result<(), OutOfMemory>
+        ensures { OnOk result ((q : List ℕ) → map.get self.new q ≡ leaves (assigned (Sets key.now (string_bytes value)) q) (map.get self.old q)) }
+    {
+        if value.as_str().is_empty() {
+            unset(&mut self.values, key);
+            return Ok(());
+        }
+        put(self.alloc, &mut self.values, key, value)
+    }
+}
+
+// Puts a value at a key. A key that is there already is not copied.
+fn put(
+    alloc: Global,
+    values: &mut BTreeMap<String, String>,
+    key: &str,
+    value: String,
+) -> Result<(), OutOfMemory>
+    ensures { OnOk result ((q : List ℕ) → map.get (map_of values.new.entries) q ≡ (if bytes_eq key.now q then Some (string_bytes value) else map.get (map_of values.old.entries) q)) }
+{
+    match values.get_mut(key) {
+        Some(held) => {
+            *held = value;
+            Ok(())
+        }
+        None => {
+            let key = String::from_str(alloc, key)?;
+            let _ = values.insert(key, value)?;
+            Ok(())
+        }
+    }
+}
+
+// Takes a key out.
+fn unset(values: &mut BTreeMap<String, String>, key: &str)
+    ensures { (q : List ℕ) → map.get (map_of values.new.entries) q ≡ (if bytes_eq key.now q then None else map.get (map_of values.old.entries) q) }
+{
+    let _ = values.remove(key);
 }
