@@ -3,6 +3,6 @@ pub mod Cuts
 pub mod Lines
 pub mod Quotes
 pub mod SoFar
-pub mod Utf8
 pub mod Texts
+pub mod Utf8
 pub mod Words

@@ -1,5 +1,5 @@
 // What one line of a release file says.
-ghost use Rattle.std.specs.Prelude.{◌≡◌, ◌≤◌, ◌==◌, true, false, length, MatchOption, IsUtf8};
+ghost use Rattle.std.specs.Prelude.{◌≡◌, true, false, MatchOption};
 ghost use Rattle.std.specs.List.{list_all};
 ghost use Rattle.std.specs.Str.Lines.{strip_carriage_return};
 ghost use Rattle.ext_release.specs.Line.{after_blanks, before_blanks, begins_key, is_key, is_key_byte, is_text, is_text_byte, trimmed};

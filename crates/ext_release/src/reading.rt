@@ -10,7 +10,7 @@ use crate::line::{is_key, text_of, trimmed};
 use crate::release::Release;
 use crate::value::unquoted;
 use ext_text::{OutOfMemory, cut_at};
-use std::alloc::{AllocError, AllocFailed, Global};
+use std::alloc::Global;
 use thiserror::Error;
 
 /// Why bytes are no release file.
@@ -80,12 +80,15 @@ fn next_line(text: &[u8]) -> (&[u8], Option<&[u8]>)
     }
 }
 
-/// What a release file assigns. Its lines end at newlines, and so does the file or not; a carriage return at the end of
+/// What a release file assigns. Its lines end at newlines, the last one perhaps not; one carriage return at the end of
 /// a line and blanks, spaces and tabs, at both ends do not count. A line is skipped where no `=` stands in it, or where
 /// what stands before the first is no key of the form `[A-Z_][A-Z0-9_]*`: an empty line and a comment are such lines. What
-/// stands behind the `=` is the value, without blanks at both ends: in double quotes, where a backslash before `"`, `$`,
-/// a backquote or a backslash vanishes; in single quotes, where nothing is special; or without quotes, where a backslash
-/// keeps the byte behind it and vanishes.
+/// stands behind the `=` is the value, without blanks at both ends: in double quotes, where a backslash vanishes before
+/// `"`, `$`, a backquote or a backslash and stays before any other byte; in single quotes, where nothing is special; or
+/// without quotes, where a backslash keeps the byte behind it and vanishes. The last assignment of a key counts, and an
+/// empty value counts as none.
+///
+/// Quotes, comments and empty lines are os-release(5)'s; the rest of the rule is this project's own.
 ///
 /// # Errors
 /// `BadRelease` with the first line, counted from 1, that is no UTF-8, holds a control byte other than a tab, or assigns

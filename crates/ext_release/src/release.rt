@@ -80,7 +80,7 @@ impl Release {
         }
     }
 
-    // Where its texts are kept.
+    // The memory that its texts are kept in.
     pub(crate) fn allocator(&self) -> Global {
         self.alloc
     }

@@ -1,5 +1,5 @@
 // The value that the text of an assignment stands for.
-ghost use Rattle.std.specs.Prelude.{◌≡◌, ◌<◌, ◌≤◌, [], ◌∷◌, ◌++◌, length, IfOk, MatchOption, OnOk, Some};
+ghost use Rattle.std.specs.Prelude.{◌≡◌, ◌<◌, ◌≤◌, ◌∷◌, ◌++◌, length, IfOk, Some};
 ghost use Rattle.std.specs.Option.{option_map};
 ghost use Rattle.std.specs.String.{string_bytes};
 ghost use Rattle.ext_release.specs.Value.{bare, closed, cut, cut_double, is_special, unquoted, with_front};
@@ -8,7 +8,7 @@ use crate::cutting::{cut, cut_mark, split_around};
 use ext_text::OutOfMemory;
 use std::alloc::Global;
 
-// Whether a backslash before the byte vanishes inside double quotes.
+// Whether a backslash vanishes before the byte inside double quotes.
 fn is_special(byte: u8) -> bool
     ensures { result ≡ is_special byte }
 {
