@@ -19,6 +19,7 @@ impl Digest {
             Err(_) => None,
         }
     }
+
     /// The 64 hexadecimal digits that spell it, the letters in lower case.
     pub fn digits(&self) -> [u8; 64]
         ensures { result ≡ encode_lower self.now.0 }

@@ -140,6 +140,10 @@ fn texts_lists_modes_and_digests(rt: HostRuntime) -> Result<(), Fail> {
     assert!(rt; Mode::new(0o10000).is_none());
     let digest = Digest::read(b"BA7816bf8f01cfea414140de5dae2223b00361a396177a9cb410ff61f20015ad");
     assert_eq!(rt; digest.map(|digest| digest.0[0]), Some(0xba));
+    assert_eq!(rt;
+        digest.map(|digest| digest.digits()),
+        Some(*b"ba7816bf8f01cfea414140de5dae2223b00361a396177a9cb410ff61f20015ad")
+    );
     assert!(rt; Digest::read(b"ba78").is_none());
     assert_eq!(rt;
         cut_at(b"a b c", b' '),
