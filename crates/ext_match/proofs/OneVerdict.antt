@@ -1,5 +1,5 @@
 -- No two verdicts hold of the same files.
-use Rattle.std.proofs.Common.{◌≡◌, Bool, refl, rules}
+use Rattle.std.proofs.Common.{refl, rules}
 use Rattle.ext_match.specs.Verdict.{OneVerdict}
 use Rattle.ext_match.specs.declared.verdict.Verdict.TheVariants.{Fits, Scope, Architecture, NoId, Id, Level, Version}
 

@@ -1,7 +1,7 @@
 -- Whether an extension fits a host, by their release files: after systemd-sysext(8). That an extension without an ID doesn't
 -- fit, what the level decides, that VERSION_ID is looked at only where the host sets it, the order of the reasons and the
 -- force are this project's own.
-use Rattle.std.specs.Prelude.{◌≡◌, ℕ, Bool, true, false, ◌⊎◌, List, codes, Option, Some, IfSome, IsSome}
+use Rattle.std.specs.Prelude.{◌≡◌, ℕ, Bool, true, false, ◌⊎◌, List, codes, Some, IfSome, IsSome}
 use Rattle.std.specs.FinMap.{FinMap, get}
 use Rattle.std.specs.Option.{unwrap_or}
 use Rattle.ext_text.specs.Arch.{arch_name}
