@@ -1,6 +1,10 @@
+ghost use Rattle.ext_match.specs.Class.{IsExtension};
+
 use crate::{Verdict, judge};
 use ext_release::read_release;
 use ext_text::{Arch, Class, Scope};
+use std::alloc::Global;
+use std::process::Abort;
 use std::test::Fail;
 
 const DEBIAN: &[u8] = b"ID=debian\nVERSION_ID=12\n";
@@ -9,116 +13,85 @@ const LEVELLED: &[u8] = b"ID=debian\nVERSION_ID=12\nSYSEXT_LEVEL=2\n";
 
 const CONFIGURED: &[u8] = b"ID=debian\nVERSION_ID=12\nCONFEXT_LEVEL=2\n";
 
-// The class, the scope, the release file of the host, that of the extension, the verdict for a host of x86-64.
-const TABLE: [(Class, Scope, &[u8], &[u8], Verdict); 50] = [
+// The scope of the host, its release file, that of the extension, and the verdict.
+type Row = (Scope, &'static [u8], &'static [u8], Verdict);
+
+// Of system extensions.
+const SYSEXT: [Row; 42] = [
     // the lists of scopes
     (
-        Class::Sysext,
         Scope::System,
         DEBIAN,
         b"ID=debian\nVERSION_ID=12\nSYSEXT_SCOPE=initrd",
         Verdict::Scope,
     ),
     (
-        Class::Sysext,
         Scope::Initrd,
         DEBIAN,
         b"ID=debian\nVERSION_ID=12\nSYSEXT_SCOPE=initrd",
         Verdict::Fits,
     ),
     (
-        Class::Sysext,
         Scope::Initrd,
         DEBIAN,
         b"ID=debian\nVERSION_ID=12",
         Verdict::Scope,
     ),
     (
-        Class::Sysext,
         Scope::System,
         DEBIAN,
         b"ID=debian\nVERSION_ID=12",
         Verdict::Fits,
     ),
     (
-        Class::Sysext,
         Scope::Portable,
         DEBIAN,
         b"ID=debian\nVERSION_ID=12",
         Verdict::Fits,
     ),
     (
-        Class::Sysext,
         Scope::System,
         DEBIAN,
         b"ID=_any\nSYSEXT_SCOPE='portable\tinitrd  system'",
         Verdict::Fits,
     ),
     (
-        Class::Sysext,
         Scope::Initrd,
         DEBIAN,
         b"ID=_any\nSYSEXT_SCOPE='portable\tinitrd  system'",
         Verdict::Fits,
     ),
     (
-        Class::Sysext,
         Scope::Portable,
         DEBIAN,
         b"ID=_any\nSYSEXT_SCOPE='system initrd'",
         Verdict::Scope,
     ),
     (
-        Class::Sysext,
         Scope::System,
         DEBIAN,
         b"ID=_any\nSYSEXT_SCOPE=sys,system",
         Verdict::Scope,
     ),
     (
-        Class::Sysext,
         Scope::System,
         DEBIAN,
         b"ID=_any\nSYSEXT_SCOPE=' '",
         Verdict::Scope,
     ),
     (
-        Class::Sysext,
         Scope::System,
         DEBIAN,
         b"ID=_any\nSYSEXT_SCOPE=",
         Verdict::Fits,
     ),
     (
-        Class::Sysext,
         Scope::System,
         DEBIAN,
         b"ID=_any\nCONFEXT_SCOPE=initrd",
         Verdict::Fits,
     ),
     (
-        Class::Confext,
-        Scope::System,
-        DEBIAN,
-        b"ID=_any\nCONFEXT_SCOPE=initrd",
-        Verdict::Scope,
-    ),
-    (
-        Class::Confext,
-        Scope::System,
-        DEBIAN,
-        b"ID=_any\nSYSEXT_SCOPE=initrd",
-        Verdict::Fits,
-    ),
-    (
-        Class::Confext,
-        Scope::Initrd,
-        DEBIAN,
-        b"ID=_any",
-        Verdict::Scope,
-    ),
-    (
-        Class::Sysext,
         Scope::System,
         DEBIAN,
         b"ARCHITECTURE=arm64\nSYSEXT_SCOPE=initrd",
@@ -126,116 +99,79 @@ const TABLE: [(Class, Scope, &[u8], &[u8], Verdict); 50] = [
     ),
     // the architecture
     (
-        Class::Sysext,
         Scope::System,
         DEBIAN,
         b"ID=debian\nVERSION_ID=12\nARCHITECTURE=arm64",
         Verdict::Architecture,
     ),
     (
-        Class::Sysext,
         Scope::System,
         DEBIAN,
         b"ID=debian\nVERSION_ID=12\nARCHITECTURE=x86-64",
         Verdict::Fits,
     ),
     (
-        Class::Sysext,
         Scope::System,
         DEBIAN,
         b"ID=debian\nVERSION_ID=12\nARCHITECTURE=_any",
         Verdict::Fits,
     ),
     (
-        Class::Sysext,
         Scope::System,
         DEBIAN,
         b"ID=debian\nVERSION_ID=12\nARCHITECTURE=",
         Verdict::Fits,
     ),
     (
-        Class::Sysext,
         Scope::System,
         DEBIAN,
         b"ID=_any\nARCHITECTURE=x86",
         Verdict::Architecture,
     ),
-    (
-        Class::Confext,
-        Scope::System,
-        DEBIAN,
-        b"ARCHITECTURE=x86_64",
-        Verdict::Architecture,
-    ),
     // the ID
+    (Scope::System, DEBIAN, b"VERSION_ID=12", Verdict::NoId),
+    (Scope::System, DEBIAN, b"ID=\nVERSION_ID=12", Verdict::NoId),
+    (Scope::System, b"", b"", Verdict::NoId),
     (
-        Class::Sysext,
-        Scope::System,
-        DEBIAN,
-        b"VERSION_ID=12",
-        Verdict::NoId,
-    ),
-    (
-        Class::Sysext,
-        Scope::System,
-        DEBIAN,
-        b"ID=\nVERSION_ID=12",
-        Verdict::NoId,
-    ),
-    (Class::Sysext, Scope::System, b"", b"", Verdict::NoId),
-    (
-        Class::Sysext,
         Scope::System,
         DEBIAN,
         b"ID=_any\nVERSION_ID=99",
         Verdict::Fits,
     ),
     (
-        Class::Sysext,
         Scope::System,
         LEVELLED,
         b"ID=_any\nSYSEXT_LEVEL=1",
         Verdict::Fits,
     ),
     (
-        Class::Sysext,
         Scope::System,
         DEBIAN,
         b"ID=ubuntu\nVERSION_ID=12",
         Verdict::Id,
     ),
     (
-        Class::Sysext,
         Scope::System,
         DEBIAN,
         b"ID=Debian\nVERSION_ID=12",
         Verdict::Id,
     ),
     (
-        Class::Sysext,
         Scope::System,
         b"VERSION_ID=12",
         b"ID=linux\nVERSION_ID=12",
         Verdict::Fits,
     ),
-    (Class::Sysext, Scope::System, b"", "ID=linux", Verdict::Fits),
+    (Scope::System, b"", b"ID=linux", Verdict::Fits),
+    (Scope::System, b"ID=", b"ID=linux", Verdict::Fits),
+    (Scope::System, b"", b"ID=debian", Verdict::Id),
     (
-        Class::Sysext,
-        Scope::System,
-        b"ID=",
-        b"ID=linux",
-        Verdict::Fits,
-    ),
-    (Class::Sysext, Scope::System, b"", "ID=debian", Verdict::Id),
-    (
-        Class::Sysext,
         Scope::System,
         DEBIAN,
         b"ID=linux\nVERSION_ID=12",
         Verdict::Id,
     ),
     (
-        Class::Sysext,
         Scope::System,
         LEVELLED,
         b"ID=ubuntu\nSYSEXT_LEVEL=2",
@@ -243,106 +179,109 @@ const TABLE: [(Class, Scope, &[u8], &[u8], Verdict); 50] = [
     ),
     // the level
     (
-        Class::Sysext,
         Scope::System,
         LEVELLED,
         b"ID=debian\nSYSEXT_LEVEL=1\nVERSION_ID=12",
         Verdict::Level,
     ),
     (
-        Class::Sysext,
         Scope::System,
         LEVELLED,
         b"ID=debian\nSYSEXT_LEVEL=2\nVERSION_ID=99",
         Verdict::Fits,
     ),
     (
-        Class::Sysext,
         Scope::System,
         LEVELLED,
         b"ID=debian\nSYSEXT_LEVEL=02\nVERSION_ID=12",
         Verdict::Level,
     ),
     (
-        Class::Sysext,
         Scope::System,
         LEVELLED,
         b"ID=debian\nVERSION_ID=12",
         Verdict::Fits,
     ),
     (
-        Class::Sysext,
         Scope::System,
         LEVELLED,
         b"ID=debian\nSYSEXT_LEVEL=\nVERSION_ID=99",
         Verdict::Version,
     ),
     (
-        Class::Sysext,
         Scope::System,
         DEBIAN,
         b"ID=debian\nSYSEXT_LEVEL=2\nVERSION_ID=99",
         Verdict::Version,
     ),
     (
-        Class::Sysext,
         Scope::System,
         LEVELLED,
         b"ID=debian\nCONFEXT_LEVEL=1\nVERSION_ID=12",
-        Verdict::Fits,
-    ),
-    (
-        Class::Confext,
-        Scope::System,
-        CONFIGURED,
-        b"ID=debian\nCONFEXT_LEVEL=1\nVERSION_ID=12",
-        Verdict::Level,
-    ),
-    (
-        Class::Confext,
-        Scope::System,
-        CONFIGURED,
-        b"ID=debian\nCONFEXT_LEVEL=2\nVERSION_ID=99",
-        Verdict::Fits,
-    ),
-    (
-        Class::Confext,
-        Scope::System,
-        LEVELLED,
-        b"ID=debian\nSYSEXT_LEVEL=1\nVERSION_ID=12",
         Verdict::Fits,
     ),
     // the version
     (
-        Class::Sysext,
         Scope::System,
         DEBIAN,
         b"ID=debian\nVERSION_ID=11",
         Verdict::Version,
     ),
+    (Scope::System, DEBIAN, b"ID=debian", Verdict::Version),
     (
-        Class::Sysext,
-        Scope::System,
-        DEBIAN,
-        b"ID=debian",
-        Verdict::Version,
-    ),
-    (
-        Class::Sysext,
         Scope::System,
         DEBIAN,
         b"ID=debian\nVERSION_ID=12.0",
         Verdict::Version,
     ),
     (
-        Class::Sysext,
         Scope::System,
         b"ID=arch",
         b"ID=arch\nVERSION_ID=5",
         Verdict::Fits,
     ),
+];
+
+// Of configuration extensions, whose keys are their own.
+const CONFEXT: [Row; 8] = [
     (
-        Class::Confext,
+        Scope::System,
+        DEBIAN,
+        b"ID=_any\nCONFEXT_SCOPE=initrd",
+        Verdict::Scope,
+    ),
+    (
+        Scope::System,
+        DEBIAN,
+        b"ID=_any\nSYSEXT_SCOPE=initrd",
+        Verdict::Fits,
+    ),
+    (Scope::Initrd, DEBIAN, b"ID=_any", Verdict::Scope),
+    (
+        Scope::System,
+        DEBIAN,
+        b"ARCHITECTURE=x86_64",
+        Verdict::Architecture,
+    ),
+    (
+        Scope::System,
+        CONFIGURED,
+        b"ID=debian\nCONFEXT_LEVEL=1\nVERSION_ID=12",
+        Verdict::Level,
+    ),
+    (
+        Scope::System,
+        CONFIGURED,
+        b"ID=debian\nCONFEXT_LEVEL=2\nVERSION_ID=99",
+        Verdict::Fits,
+    ),
+    (
+        Scope::System,
+        LEVELLED,
+        b"ID=debian\nSYSEXT_LEVEL=1\nVERSION_ID=12",
+        Verdict::Fits,
+    ),
+    (
         Scope::System,
         b"ID=arch\nVERSION_ID=",
         b"ID=arch\nVERSION_ID=5",
@@ -350,15 +289,23 @@ const TABLE: [(Class, Scope, &[u8], &[u8], Verdict); 50] = [
     ),
 ];
 
-#[test]
-fn the_first_part_that_fails_is_the_verdict(rt: HostRuntime) -> Result<(), Fail> {
-    for (class, scope, host, ext, verdict) in TABLE {
-        let host = read_release(rt.alloc(), host)?;
-        let image = read_release(rt.alloc(), ext)?;
-        let found = judge(&host, &image, class, scope, Arch::X86_64, false);
-        assert_eq!(rt; found, verdict, "{ext:?}");
-        let forced = judge(&host, &image, class, scope, Arch::X86_64, true);
+// Judges each row for a host of x86-64, and forces it.
+fn check_rows(rt: &impl Abort, alloc: Global, class: Class, rows: &[Row]) -> Result<(), Fail>
+    requires { IsExtension class }
+{
+    for (scope, host, ext, verdict) in rows {
+        let host = read_release(alloc, host)?;
+        let image = read_release(alloc, ext)?;
+        let found = judge(&host, &image, class, *scope, Arch::X86_64, false);
+        assert_eq!(rt; found, *verdict, "{ext:?}");
+        let forced = judge(&host, &image, class, *scope, Arch::X86_64, true);
         assert_eq!(rt; forced, Verdict::Fits);
     }
     Ok(())
+}
+
+#[test]
+fn the_first_part_that_fails_is_the_verdict(rt: HostRuntime) -> Result<(), Fail> {
+    check_rows(&rt, rt.alloc(), Class::Sysext, &SYSEXT)?;
+    check_rows(&rt, rt.alloc(), Class::Confext, &CONFEXT)
 }
