@@ -89,8 +89,8 @@ const SYSTEMD: [&[&str]; 67] = [
     &["20240101"],
 ];
 
-// Pairs that it orders otherwise: directly after a mark it neither skips a byte nor looks for a mark of lower rank. Here
-// the first is the greater one.
+// Pairs that it orders otherwise: directly after a mark it no longer skips bytes, nor looks for the end or for a mark that
+// does not rank above that one. Here the first is the greater one.
 const OTHERWISE: [(&str, &str); 4] = [("1~", "1~~"), ("~_2", "~b1"), ("-.1", "-"), ("1-_2", "1-b")];
 
 #[test]
