@@ -1,7 +1,6 @@
 //! Verdicts: whether an extension fits a host, by what their release files assign.
 //!
-//! [`judge`] decides, and takes no memory. The lists of extensions, their merges and the extensions of portable services
-//! all ask it.
+//! [`judge`] decides, and takes no memory. It is for whatever lists extensions or merges them; nothing asks it yet.
 #![tactic(auto)]
 
 mod class;
