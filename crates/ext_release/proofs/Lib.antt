@@ -6,3 +6,4 @@ pub mod SoFar
 pub mod Texts
 pub mod Utf8
 pub mod Words
+pub mod Quoting

@@ -13,5 +13,5 @@ mod release;
 mod tests;
 mod value;
 
-pub use reading::{ReleaseErr, a_file_has_one_release, read_release};
+pub use reading::{ReleaseErr, a_file_has_one_release, quoted_texts_are_read_back, read_release};
 pub use release::Release;

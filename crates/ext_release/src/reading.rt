@@ -2,6 +2,7 @@ ghost use Rattle.std.specs.Prelude.{◌≡◌, ℕ, List, true, IfOk};
 ghost use Rattle.std.specs.FinMap.{FinMap};
 ghost use Rattle.ext_text.specs.Name.{name_cmp};
 ghost use Rattle.ext_release.specs.Line.{assigns, is_key, is_text, line_of, meaning};
+ghost use Rattle.ext_release.specs.Quoting.{DoubleQuotesKeep, SingleQuotesKeep};
 ghost use Rattle.ext_release.specs.Reading.{FollowsAs, IsNextLine};
 ghost use Rattle.ext_release.specs.Release.{IsRelease, ReadsRelease};
 
@@ -115,4 +116,11 @@ pub fn read_release(alloc: Global, bytes: &[u8]) -> Result<Release, ReleaseErr>
 /// A file has one release: two maps that both are its release are equal.
 pub fn a_file_has_one_release()
     ensures { (bytes : List ℕ) (a b : FinMap name_cmp (List ℕ)) → IsRelease bytes a → IsRelease bytes b → a ≡ b }
+{}
+
+/// What is written in quotes is read back as the value: in double quotes every text that can stand on a line, with a
+/// backslash before each byte that is special there, and in single quotes every such text without one.
+pub fn quoted_texts_are_read_back()
+    ensures double { DoubleQuotesKeep }
+    ensures single { SingleQuotesKeep }
 {}
