@@ -12,7 +12,7 @@ use Rattle.ext_io.specs.Stopped.{Stopped, PieceStopped}
 -- a front of so many bytes was written, and no fault was forgotten
 pub record HasWritten (old new : Option (List ℕ)) (before after : ℕ) (bytes : List ℕ) (at : ℕ) : Type 0 where
   pub within : at ≤ length bytes
-  pub front : Appends old new (take at bytes)
+  pub prefix : Appends old new (take at bytes)
   pub count : before ≤ after
 
 -- these bytes were taken, at most one more than so many, and no fault was forgotten
@@ -38,7 +38,7 @@ writes_on old mid new before amid after bytes at n has some then no_less =
     let next : Appends mid new (take n (drop at bytes)) = rw (← rest) then in
     record {
       within = omega (arith, length-drop at bytes, has.within);
-      front = appends_on old mid new bytes at n has.front next;
+      prefix = appends_on old mid new bytes at n has.prefix next;
       count = omega (arith, has.count);
     }
 

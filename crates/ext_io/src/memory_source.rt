@@ -78,7 +78,7 @@ impl Source for MemorySource {
             self.faults = self.faults.saturating_add(1);
             return Err(Failed);
         }
-        let count = copy_front(&self.text.bytes()[self.at..], buf, self.piece);
+        let count = copy_prefix(&self.text.bytes()[self.at..], buf, self.piece);
         self.at += count;
         Ok(count)
     }
@@ -92,7 +92,7 @@ pub(crate) fn is_listed(fails: &Calls, call: u64) -> bool
 }
 
 // Copies a front of the bytes into the buffer, at most so many, and gives how many.
-fn copy_front(bytes: &[u8], buf: &mut [u8], most: usize) -> usize
+fn copy_prefix(bytes: &[u8], buf: &mut [u8], most: usize) -> usize
     ensures count { result ≡ min (min most (length buf.old)) (length bytes.now) }
     ensures within { result ≤ length buf.new }
     ensures moved { bytes.now ≡ take result buf.new ++ drop result bytes.now }

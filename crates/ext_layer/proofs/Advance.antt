@@ -55,24 +55,24 @@ module _ {C : Type 0} where
       ∙ invariant
 
   -- the same, over what each call of the code gives
-  pub advance_calls : (upper lower merged : List (Item C)) (from : ℕ) (laid : Item C) {rest before behind grown longer : List (Item C)} {i n m : ℕ} {item : Item C} {whole : Marked C}
+  pub advance_calls : (upper lower merged : List (Item C)) (from : ℕ) (laid : Item C) {rest before after grown longer : List (Item C)} {i n m : ℕ} {item : Item C} {whole : Marked C}
       → is_sorted path_cmp (all_seen upper) ≡ true → is_sorted path_cmp (all_seen lower) ≡ true
       → i < length upper → item ≡ get_or upper i item
-      → rest ≡ drop from lower → before ≡ take n rest → behind ≡ drop n rest
+      → rest ≡ drop from lower → before ≡ take n rest → after ≡ drop n rest
       → grown ≡ merged ++ before → longer ≡ grown ++ laid ∷ []
       → n ≡ place (seen item).0 (all_seen rest)
-      → seen laid ≡ over_first (seen item) (all_seen behind)
-      → m ≡ hidden (seen item) (all_seen behind)
+      → seen laid ≡ over_first (seen item) (all_seen after)
+      → m ≡ hidden (seen item) (all_seen after)
       → all_seen merged ++ over (all_seen (drop i upper)) (all_seen (drop from lower)) ≡ whole
       → all_seen longer ++ over (all_seen (drop (i + 1) upper)) (all_seen (drop (from + (n + m)) lower)) ≡ whole
-  advance_calls upper lower merged from laid {rest = rest} {i = i} {n = n} {m = m} {item = item} {whole = whole} sorted-upper sorted-lower lt item-is rest-is before-is behind-is grown-is longer-is n-is laid-is m-is invariant =
-      let behind-at = behind-is ∙ ap (drop n) rest-is in
+  advance_calls upper lower merged from laid {rest = rest} {i = i} {n = n} {m = m} {item = item} {whole = whole} sorted-upper sorted-lower lt item-is rest-is before-is after-is grown-is longer-is n-is laid-is m-is invariant =
+      let after-at = after-is ∙ ap (drop n) rest-is in
       let longer-at = longer-is ∙ ap (λ l. l ++ laid ∷ []) (grown-is ∙ ap (λ l. merged ++ l) (before-is ∙ ap (take n) rest-is)) in
       ap (λ l. all_seen l ++ over (all_seen (drop (i + 1) upper)) (all_seen (drop (from + (n + m)) lower))) longer-at
       ∙ advance upper lower merged i from n m item laid whole lt item-is sorted-upper sorted-lower
       (n-is ∙ ap (λ l. place (seen item).0 (all_seen l)) rest-is)
-      (laid-is ∙ ap (λ l. over_first (seen item) (all_seen l)) behind-at)
-      (m-is ∙ ap (λ l. hidden (seen item) (all_seen l)) behind-at)
+      (laid-is ∙ ap (λ l. over_first (seen item) (all_seen l)) after-at)
+      (m-is ∙ ap (λ l. hidden (seen item) (all_seen l)) after-at)
       invariant
 
   -- where the last item of a stride stands before an upper one, so does the whole stride

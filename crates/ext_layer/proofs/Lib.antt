@@ -1,4 +1,4 @@
-pub mod Fronts
+pub mod Prefixes
 pub mod Verdicts
 pub mod Places
 pub mod Advance

@@ -9,14 +9,14 @@ use Rattle.std.specs.Cmp.{tied_itself}
 use Rattle.std.specs.List.{prefix_len}
 use Rattle.std.specs.FinMap.{find, put, is_sorted}
 use Rattle.std.specs.FinMap.Entries.{below_all, where_key, by_order}
-use Rattle.ext_text.specs.Path.{path_cmp, is_front}
+use Rattle.ext_text.specs.Path.{path_cmp, is_prefix}
 use Rattle.ext_text.specs.Order.{paths_exact, paths_total}
 use Rattle.ext_text.proofs.Facts.{true_from_T, is_less}
-use Rattle.ext_text.proofs.PathFronts.{same_path, tied_path, front_self, front_order, convex}
+use Rattle.ext_text.proofs.PathPrefixes.{same_path, tied_path, prefix_self, prefix_order, convex}
 use Rattle.ext_tree.specs.declared.entry.Entry.{Entry}
 use Rattle.ext_tree.proofs.Place.{below_at}
 use Rattle.ext_layer.specs.Verdicts.{Marked, cuts_at, hides, over_entry, lay, over, place, hidden, over_first}
-use Rattle.ext_layer.proofs.Fronts.{absent}
+use Rattle.ext_layer.proofs.Prefixes.{absent}
 
 -- what follows the front of a list whose elements pass a test
 abbrev pub rest_of : {X : Type 0} → (X → Bool) → List X → List X
@@ -26,10 +26,10 @@ rest_of t (x ∷ xs) = cond (t x) (rest_of t xs) (x ∷ xs)
 one_more : (n : ℕ) → 1 + n ≡ suc n
 one_more n = omega arith
 
-pub drop_front : {X : Type 0} (t : X → Bool) (xs : List X) → drop (prefix_len t xs) xs ≡ rest_of t xs
-drop_front t [] = refl
-drop_front t (x ∷ xs) =
-    let rest = drop_front t xs in
+pub drop_prefix : {X : Type 0} (t : X → Bool) (xs : List X) → drop (prefix_len t xs) xs ≡ rest_of t xs
+drop_prefix t [] = refl
+drop_prefix t (x ∷ xs) =
+    let rest = drop_prefix t xs in
     elim (t x) as (λ b. drop (cond b (1 + prefix_len t xs) 0) (x ∷ xs) ≡ cond b (rest_of t xs) (x ∷ xs)) [
       | true ↦ ap (λ n. drop n (x ∷ xs)) (one_more (prefix_len t xs)) ∙ rest
       | false ↦ refl
@@ -45,11 +45,11 @@ after k e f from h =
     ] refl
 
 -- what comes after a path that an entry does not hide is not hidden either
-bare_after : (c : Bool) (k e f : List (List ℕ)) → is_lt (path_cmp e k) ≡ false → cond c (is_front k e) (eq_by_cmp path_cmp e k) ≡ false → path_cmp e f ≡ Less → cond c (is_front k f) (eq_by_cmp path_cmp f k) ≡ false
+bare_after : (c : Bool) (k e f : List (List ℕ)) → is_lt (path_cmp e k) ≡ false → cond c (is_prefix k e) (eq_by_cmp path_cmp e k) ≡ false → path_cmp e f ≡ Less → cond c (is_prefix k f) (eq_by_cmp path_cmp f k) ≡ false
 bare_after true k e f from bare h =
-    false_from_ne_true (is_front k f) (λ front. elim (path_cmp k e) as (λ o. path_cmp k e ≡ o → ⊥) [
-      | Less ↦ λ o. false≢true (sym bare ∙ convex k e f (ap is_gt o) (ap is_gt h) front)
-      | Equal ↦ λ o. false≢true (sym bare ∙ subst (λ z. is_front k z ≡ true) (paths_exact k e o) (front_self k))
+    false_from_ne_true (is_prefix k f) (λ prefix. elim (path_cmp k e) as (λ o. path_cmp k e ≡ o → ⊥) [
+      | Less ↦ λ o. false≢true (sym bare ∙ convex k e f (ap is_gt o) (ap is_gt h) prefix)
+      | Equal ↦ λ o. false≢true (sym bare ∙ subst (λ z. is_prefix k z ≡ true) (paths_exact k e o) (prefix_self k))
       | Greater ↦ λ o. false≢true (sym from ∙ ap is_lt (paths_total.antisymm e k ∙ ap ordering_reverse o))
     ] refl)
 bare_after false k e f from bare h =
@@ -76,8 +76,8 @@ starts_rest k (e ∷ es) =
       | false ↦ λ t. ap not t
     ] refl
 
-hides_itself : (c : Bool) (k : List (List ℕ)) → cond c (is_front k k) (eq_by_cmp path_cmp k k) ≡ true
-hides_itself true k = front_self k
+hides_itself : (c : Bool) (k : List (List ℕ)) → cond c (is_prefix k k) (eq_by_cmp path_cmp k k) ≡ true
+hides_itself true k = prefix_self k
 hides_itself false k = tied_path k k refl
 
 -- what comes before a path comes before all that stands behind it
@@ -110,8 +110,8 @@ module _ {C : Type 0} where
   pub lay_after : (u : List (List ℕ) × (Entry C × Bool)) (e : List (List ℕ) × (Entry C × Bool)) (es : Marked C) → path_cmp e.0 u.0 ≡ Less → lay u (e ∷ es) ≡ e ∷ lay u es
   lay_after u e es h =
       let later : path_cmp u.0 e.0 ≡ Greater = paths_total.antisymm u.0 e.0 ∙ ap ordering_reverse h in
-      let bare_by : (c : Bool) → cond c (is_front u.0 e.0) (eq_by_cmp path_cmp e.0 u.0) ≡ false = elim [
-        | true ↦ false_from_ne_true (is_front u.0 e.0) (λ f. front_order e.0 u.0 f h)
+      let bare_by : (c : Bool) → cond c (is_prefix u.0 e.0) (eq_by_cmp path_cmp e.0 u.0) ≡ false = elim [
+        | true ↦ false_from_ne_true (is_prefix u.0 e.0) (λ f. prefix_order e.0 u.0 f h)
         | false ↦ ap is_eq h
       ] in
       let kept = where_key path_cmp (λ p. not (hides u p)) es in
@@ -165,7 +165,7 @@ module _ {C : Type 0} where
       elim (path_cmp u.0 e.0) as (λ o. path_cmp u.0 e.0 ≡ o → cuts_at (cond (is_eq o) (Some e.1) (find path_cmp u.0 es)) ≡ (e.1.1 && is_eq (path_cmp e.0 u.0))) [
         | Less ↦ λ o.
             let turned : path_cmp e.0 u.0 ≡ Greater = paths_total.antisymm e.0 u.0 ∙ ap ordering_reverse o in
-            ap cuts_at (absent u.0 u.0 (front_self u.0) es (below_before u.0 e.0 es o (T_from_true _ x.0))) ∙ sym (and_right e.1.1 false refl) ∙ ap (λ r. e.1.1 && is_eq r) (sym turned)
+            ap cuts_at (absent u.0 u.0 (prefix_self u.0) es (below_before u.0 e.0 es o (T_from_true _ x.0))) ∙ sym (and_right e.1.1 false refl) ∙ ap (λ r. e.1.1 && is_eq r) (sym turned)
         | Equal ↦ λ o. sym (and-true e.1.1) ∙ ap (λ r. e.1.1 && is_eq r) (sym (paths_total.antisymm e.0 u.0 ∙ ap ordering_reverse o))
         | Greater ↦ λ o. absurd (false≢true (sym at ∙ ap is_lt (paths_total.antisymm e.0 u.0 ∙ ap ordering_reverse o)))
       ] refl in
@@ -191,7 +191,7 @@ module _ {C : Type 0} where
   step_here u us es below from h =
       ap (over us) (lay_here u es from h)
       ∙ over_after (over_first u es) us (rest_of (λ e. hides u e.0) es) (subst (λ k. T (below_all path_cmp k us)) (sym (first_path u es)) below)
-      ∙ ap (λ l. over_first u es ∷ over us l) (sym (drop_front (λ e. hides u e.0) es))
+      ∙ ap (λ l. over_first u es ∷ over us l) (sym (drop_prefix (λ e. hides u e.0) es))
 
   -- the upper entry in front, laid at a place of a lower list
   abbrev step_at : List (List ℕ) × (Entry C × Bool) → Marked C → Marked C → ℕ → Marked C

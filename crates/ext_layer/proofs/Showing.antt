@@ -8,17 +8,17 @@ use Rattle.std.specs.List.{AllByRecursion}
 use Rattle.std.specs.Ordering.{is_lt, eq_by_cmp}
 use Rattle.std.specs.FinMap.{find, is_sorted}
 use Rattle.std.specs.FinMap.Entries.{below_all}
-use Rattle.ext_text.specs.Path.{path_cmp, is_front}
+use Rattle.ext_text.specs.Path.{path_cmp, is_prefix, is_proper_prefix}
 use Rattle.ext_text.proofs.Facts.{true_from_T}
 use Rattle.ext_text.proofs.Lists.{all_append}
-use Rattle.ext_text.proofs.PathFronts.{front_both}
-use Rattle.ext_tree.specs.Tree.{Entries, IsTree, IsTreeWithin, lookup, is_dir}
+use Rattle.ext_text.proofs.PathPrefixes.{prefix_both}
+use Rattle.ext_tree.specs.Tree.{Entries, IsTree, IsTreeWithin, lookup, is_directory}
 use Rattle.ext_tree.specs.declared.entry.Entry.{Entry}
-use Rattle.ext_layer.specs.Layered.{Passes, Shows, is_proper_front, is_solid_at}
+use Rattle.ext_layer.specs.Layered.{Passes, Shows, is_solid_at}
 use Rattle.ext_layer.specs.declared.item.Item.{Item}
 use Rattle.ext_layer.specs.Items.{all_seen}
-use Rattle.ext_layer.specs.Verdicts.{Joins, Marked, Verdict, shown_as, cut_off, let_pass, first_of_two, some_front, cuts_at, judged, verdict, marked, unmarked, row_verdict, over}
-use Rattle.ext_layer.proofs.Fronts.{some_front-none, some_front-at}
+use Rattle.ext_layer.specs.Verdicts.{Joins, Marked, Verdict, shown_as, cut_off, let_pass, first_of_two, some_prefix, cuts_at, judged, verdict, marked, unmarked, row_verdict, over}
+use Rattle.ext_layer.proofs.Prefixes.{some_prefix-none, some_prefix-at}
 use Rattle.ext_layer.proofs.Verdicts.{none_verdict, over_verdict, sorted_over, row_verdict-append}
 
 -- other values at the same keys
@@ -37,15 +37,15 @@ is_sorted-map g [] = refl
 is_sorted-map g (e ∷ es) = λ i. below_all-map g e.0 es i && is_sorted-map g es i
 
 -- a front of a path is the path or a proper front
-front_cases : {P : Type 0} (q p : List (List ℕ)) → is_front q p ≡ true → (q ≡ p → P) → (is_proper_front q p ≡ true → P) → P
-front_cases {P = P} q p f same proper =
-    elim (is_front p q) as (λ b. is_front p q ≡ b → P) [
-      | true ↦ λ back. same (front_both q p f back)
+prefix_cases : {P : Type 0} (q p : List (List ℕ)) → is_prefix q p ≡ true → (q ≡ p → P) → (is_proper_prefix q p ≡ true → P) → P
+prefix_cases {P = P} q p f same proper =
+    elim (is_prefix p q) as (λ b. is_prefix p q ≡ b → P) [
+      | true ↦ λ back. same (prefix_both q p f back)
       | false ↦ λ apart. proper (and_from _ _ f (not_from_false _ apart))
     ] refl
 
 abbrev pub with_mark : {C : Type 0} → Entry C → Entry C × Bool
-with_mark e = (e, not (is_dir e))
+with_mark e = (e, not (is_directory e))
 
 abbrev pub without_mark : {C : Type 0} → Entry C × Bool → Entry C
 without_mark x = x.0
@@ -104,7 +104,7 @@ module _ {C : Type 0} where
   pub layer_passes : (es : Entries C) (p : List (List ℕ)) → Passes es p → verdict (marked es) p ≡ let_pass
   layer_passes es p passes =
       let none : find path_cmp p (marked es) ≡ None = find_marked es p ∙ ap (option_map with_mark) passes.nothing in
-      let bare : some_front (λ q. cuts_at (find path_cmp q (marked es))) p ≡ false = some_front-none (λ q. cuts_at (find path_cmp q (marked es))) p (λ q f. front_cases q p f
+      let bare : some_prefix (λ q. cuts_at (find path_cmp q (marked es))) p ≡ false = some_prefix-none (λ q. cuts_at (find path_cmp q (marked es))) p (λ q f. prefix_cases q p f
       (λ same. ap (λ z. cuts_at (find path_cmp z (marked es))) same ∙ ap cuts_at none)
       (λ proper. cuts_marked es q ∙ not-true _ (passes.open_ q proper))) in
       λ i. judged (none i) (bare i)
@@ -115,7 +115,7 @@ module _ {C : Type 0} where
       record {
         nothing = not_marked (lookup es p) (sym (find_marked es p) ∙ x.0);
         open_ = λ q proper. not_from_false _ (false_from_ne_true (is_solid_at (lookup es q)) (λ solid.
-            false≢true (sym x.1 ∙ some_front-at (λ r. cuts_at (find path_cmp r (marked es))) q p (and_parts (is_front q p) (not (is_front p q)) proper).0 (cuts_marked es q ∙ solid))));
+            false≢true (sym x.1 ∙ some_prefix-at (λ r. cuts_at (find path_cmp r (marked es))) q p (and_parts (is_prefix q p) (not (is_prefix p q)) proper).0 (cuts_marked es q ∙ solid))));
       }
 
   -- what a row says is what shows
@@ -175,4 +175,4 @@ module _ {C : Type 0} where
       subst (Joins (xs ++ ys)) (sym (is ∙ (λ i. over (all_seen (us-is i)) (all_seen (ls-is i))))) (joins_both xs ys (all_seen us) (all_seen ls) upper lower)
 
   pub joins_parts : (n : ℕ) (layers : List (Entries C)) {xs ys : List (Entries C)} {ms : Marked C} → xs ≡ take n layers → ys ≡ drop n layers → Joins (xs ++ ys) ms → Joins layers ms
-  joins_parts n layers {ms = ms} front back joins = subst (λ l. Joins l ms) ((λ i. front i ++ back i) ∙ take-append-drop n layers) joins
+  joins_parts n layers {ms = ms} prefix back joins = subst (λ l. Joins l ms) ((λ i. prefix i ++ back i) ∙ take-append-drop n layers) joins

@@ -7,28 +7,28 @@ use Rattle.std.specs.Option.{option_map, is_some}
 use Rattle.std.specs.List.{AllByRecursion}
 use Rattle.std.specs.FinMap.{find}
 use Rattle.std.specs.FinMap.Entries.{same_entries}
-use Rattle.ext_text.specs.Path.{path_cmp, is_front, parent}
+use Rattle.ext_text.specs.Path.{path_cmp, is_prefix, parent, is_proper_prefix}
 use Rattle.ext_text.specs.Order.{paths_exact, paths_total}
 use Rattle.ext_text.proofs.Lists.{all_back}
-use Rattle.ext_text.proofs.PathFronts.{some_name, front_both, front_trans, parent_front, parent_other}
-use Rattle.ext_tree.specs.Tree.{Entries, IsTree, lookup, is_dir, is_dir_at, is_folder, most_entries}
+use Rattle.ext_text.proofs.PathPrefixes.{some_name, prefix_both, prefix_trans, parent_prefix, parent_other}
+use Rattle.ext_tree.specs.Tree.{Entries, IsTree, lookup, is_directory, is_directory_at, is_directory_or_root, most_entries}
 use Rattle.ext_tree.specs.declared.entry.Entry.{Entry}
-use Rattle.ext_layer.specs.Layered.{IsLayered, Passes, Shows, is_proper_front, is_solid_at}
+use Rattle.ext_layer.specs.Layered.{IsLayered, Passes, Shows, is_solid_at}
 use Rattle.ext_layer.specs.declared.item.Item.{Item}
 use Rattle.ext_layer.specs.Items.{seen, all_seen}
-use Rattle.ext_layer.specs.Verdicts.{Joins, Marked, Verdict, shown_as, cut_off, let_pass, first_of_two, some_front, cuts_at, judged, verdict, marked, unmarked, row_verdict}
+use Rattle.ext_layer.specs.Verdicts.{Joins, Marked, Verdict, shown_as, cut_off, let_pass, first_of_two, some_prefix, cuts_at, judged, verdict, marked, unmarked, row_verdict}
 use Rattle.ext_layer.proofs.Showing.{is_sorted-map, with_mark, without_mark, find_marked, lookup_unmarked, layer_passes, shown_unmarked, unmarked_shown, row_from_shows, shows_from_row}
 
-parent_above : (p : List (List ℕ)) → (p ≡ [] → ⊥) → is_proper_front (parent p) p ≡ true
+parent_above : (p : List (List ℕ)) → (p ≡ [] → ⊥) → is_proper_prefix (parent p) p ≡ true
 parent_above p below =
     let some = some_name p below in
-    and_from _ _ (parent_front p) (not_from_false _ (false_from_ne_true (is_front p (parent p)) (λ back. parent_other p some (front_both (parent p) p (parent_front p) back))))
+    and_from _ _ (parent_prefix p) (not_from_false _ (false_from_ne_true (is_prefix p (parent p)) (λ back. parent_other p some (prefix_both (parent p) p (parent_prefix p) back))))
 
-proper_trans : (r q p : List (List ℕ)) → is_proper_front r q ≡ true → is_proper_front q p ≡ true → is_proper_front r p ≡ true
+proper_trans : (r q p : List (List ℕ)) → is_proper_prefix r q ≡ true → is_proper_prefix q p ≡ true → is_proper_prefix r p ≡ true
 proper_trans r q p a b =
-    let x = and_parts (is_front r q) (not (is_front q r)) a in
-    let y = and_parts (is_front q p) (not (is_front p q)) b in
-    and_from _ _ (front_trans r q p x.0 y.0) (not_from_false _ (false_from_ne_true (is_front p r) (λ back. false≢true (sym (not-true _ y.1) ∙ front_trans p r q back x.0))))
+    let x = and_parts (is_prefix r q) (not (is_prefix q r)) a in
+    let y = and_parts (is_prefix q p) (not (is_prefix p q)) b in
+    and_from _ _ (prefix_trans r q p x.0 y.0) (not_from_false _ (false_from_ne_true (is_prefix p r) (λ back. false≢true (sym (not-true _ y.1) ∙ prefix_trans p r q back x.0))))
 
 some_of : {X : Type 0} (o : Option X) → is_some o ≡ true → (x : X) × (o ≡ Some x)
 some_of None h = absurd (false≢true h)
@@ -41,49 +41,49 @@ same_options None (Some x) there back = back x refl
 
 module _ {C : Type 0} where
   shows_dir : Verdict C → Bool
-  shows_dir (shown_as e) = is_dir e
+  shows_dir (shown_as e) = is_directory e
   shows_dir cut_off = false
   shows_dir let_pass = false
 
-  dir_judged : (o : Option (Entry C × Bool)) (b : Bool) → is_dir_at (option_map without_mark o) ≡ shows_dir (judged o b)
+  dir_judged : (o : Option (Entry C × Bool)) (b : Bool) → is_directory_at (option_map without_mark o) ≡ shows_dir (judged o b)
   unfolding shows_dir
   dir_judged None true = refl
   dir_judged None false = refl
   dir_judged (Some x) b = refl
 
-  dir_unmarked : (ms : Marked C) (q : List (List ℕ)) → shows_dir (verdict ms q) ≡ true → is_dir_at (lookup (unmarked ms) q) ≡ true
-  dir_unmarked ms q h = ap is_dir_at (lookup_unmarked ms q) ∙ dir_judged (find path_cmp q ms) _ ∙ h
+  dir_unmarked : (ms : Marked C) (q : List (List ℕ)) → shows_dir (verdict ms q) ≡ true → is_directory_at (lookup (unmarked ms) q) ≡ true
+  dir_unmarked ms q h = ap is_directory_at (lookup_unmarked ms q) ∙ dir_judged (find path_cmp q ms) _ ∙ h
 
-  dir_first : (o : Option (Entry C)) (b : Bool) (w : Verdict C) → is_dir_at o ≡ true → shows_dir (first_of_two (judged (option_map with_mark o) b) w) ≡ true
+  dir_first : (o : Option (Entry C)) (b : Bool) (w : Verdict C) → is_directory_at o ≡ true → shows_dir (first_of_two (judged (option_map with_mark o) b) w) ≡ true
   unfolding shows_dir
   dir_first None b w h = absurd (false≢true h)
   dir_first (Some e) b w h = h
 
   -- a layer with a directory shows a directory
-  dir_here : (es : Entries C) (q : List (List ℕ)) (w : Verdict C) → is_dir_at (lookup es q) ≡ true → shows_dir (first_of_two (verdict (marked es) q) w) ≡ true
+  dir_here : (es : Entries C) (q : List (List ℕ)) (w : Verdict C) → is_directory_at (lookup es q) ≡ true → shows_dir (first_of_two (verdict (marked es) q) w) ≡ true
   dir_here es q w h =
-      let cut = some_front (λ r. cuts_at (find path_cmp r (marked es))) q in
+      let cut = some_prefix (λ r. cuts_at (find path_cmp r (marked es))) q in
       ap (λ o. shows_dir (first_of_two (judged o cut) w)) (find_marked es q) ∙ dir_first (lookup es q) cut w h
 
-  passes_front : (es : Entries C) (q p : List (List ℕ)) → is_proper_front q p ≡ true → Passes es p → lookup es q ≡ None → Passes es q
-  passes_front es q p proper passes none = record { nothing = none; open_ = λ r h. passes.open_ r (proper_trans r q p h proper) }
+  passes_prefix : (es : Entries C) (q p : List (List ℕ)) → is_proper_prefix q p ≡ true → Passes es p → lookup es q ≡ None → Passes es q
+  passes_prefix es q p proper passes none = record { nothing = none; open_ = λ r h. passes.open_ r (proper_trans r q p h proper) }
 
-  dir_of_open : (e : Entry C) → not (is_solid_at (Some e)) ≡ true → is_dir e ≡ true
+  dir_of_open : (e : Entry C) → not (is_solid_at (Some e)) ≡ true → is_directory e ≡ true
   dir_of_open e h = not-false _ (not-true _ h)
 
   -- below layers that let a path pass, a directory above the path shows as a directory
-  dir_row : (above : List (Entries C)) (layer : Entries C) (below : List (Entries C)) (q p : List (List ℕ)) → AllByRecursion (λ es. Passes es p) above → is_proper_front q p ≡ true → is_dir_at (lookup layer q) ≡ true → shows_dir (row_verdict (above ++ layer ∷ below) q) ≡ true
+  dir_row : (above : List (Entries C)) (layer : Entries C) (below : List (Entries C)) (q p : List (List ℕ)) → AllByRecursion (λ es. Passes es p) above → is_proper_prefix q p ≡ true → is_directory_at (lookup layer q) ≡ true → shows_dir (row_verdict (above ++ layer ∷ below) q) ≡ true
   dir_row [] layer below q p passed proper here = dir_here layer q (row_verdict below q) here
   dir_row (a ∷ above) layer below q p passed proper here =
       let rest = dir_row above layer below q p passed.1 proper here in
       elim (lookup a q) as (λ o. lookup a q ≡ o → not (is_solid_at o) ≡ true → shows_dir (first_of_two (verdict (marked a) q) (row_verdict (above ++ layer ∷ below) q)) ≡ true) [
-        | None ↦ λ is _. ap (λ v. shows_dir (first_of_two v (row_verdict (above ++ layer ∷ below) q))) (layer_passes a q (passes_front a q p proper passed.0 is)) ∙ rest
-        | Some e ↦ λ is bare. dir_here a q (row_verdict (above ++ layer ∷ below) q) (ap is_dir_at is ∙ dir_of_open e bare)
+        | None ↦ λ is _. ap (λ v. shows_dir (first_of_two v (row_verdict (above ++ layer ∷ below) q))) (layer_passes a q (passes_prefix a q p proper passed.0 is)) ∙ rest
+        | Some e ↦ λ is bare. dir_here a q (row_verdict (above ++ layer ∷ below) q) (ap is_directory_at is ∙ dir_of_open e bare)
       ] refl (passed.0.open_ q proper)
 
-  folder_at : (layer es : Entries C) (q : List (List ℕ)) → is_folder layer q ≡ true → (is_dir_at (lookup layer q) ≡ true → is_dir_at (lookup es q) ≡ true) → is_folder es q ≡ true
-  folder_at layer es [] h dir = refl
-  folder_at layer es (n ∷ q) h dir = dir h
+  directory_at : (layer es : Entries C) (q : List (List ℕ)) → is_directory_or_root layer q ≡ true → (is_directory_at (lookup layer q) ≡ true → is_directory_at (lookup es q) ≡ true) → is_directory_or_root es q ≡ true
+  directory_at layer es [] h dir = refl
+  directory_at layer es (n ∷ q) h dir = dir h
 
   pub layered_from_joins : (layers : List (Entries C)) (ms : Marked C) → Joins layers ms → IsLayered layers (unmarked ms)
   layered_from_joins layers ms joins =
@@ -103,7 +103,7 @@ module _ {C : Type 0} where
               let x = some_of (lookup es p) h in
               let s = shown p x.0 x.1 in
               let below_root : p ≡ [] → ⊥ = λ e. false≢true (ap is_some (sym root) ∙ ap (λ q. is_some (lookup es q)) (sym e) ∙ h) in
-              folder_at s.layer es (parent p) ((tree_of p x.0 s).parents p (ap is_some s.here)) (λ dir.
+              directory_at s.layer es (parent p) ((tree_of p x.0 s).parents p (ap is_some s.here)) (λ dir.
               dir_unmarked ms (parent p) (ap shows_dir (joins.says (parent p) ∙ ap (λ l. row_verdict l (parent p)) s.split) ∙ dir_row s.above s.layer s.below (parent p) p s.passed (parent_above p below_root) dir));
         };
         shown = shown;

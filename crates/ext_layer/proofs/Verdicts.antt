@@ -6,14 +6,14 @@ use Rattle.std.proofs.lemmas.Float.{T_from_true}
 use Rattle.std.specs.Ordering.{eq_by_cmp}
 use Rattle.std.specs.FinMap.{find, is_sorted}
 use Rattle.std.specs.FinMap.Entries.{below_all, where_key, find-put, find-where_key, is_sorted-put, is_sorted-where_key}
-use Rattle.ext_text.specs.Path.{path_cmp, is_front}
+use Rattle.ext_text.specs.Path.{path_cmp, is_prefix}
 use Rattle.ext_text.specs.Order.{paths_exact, paths_total}
 use Rattle.ext_text.proofs.Facts.{true_from_T}
-use Rattle.ext_text.proofs.PathFronts.{same_path, tied_path, front_self, front_trans}
+use Rattle.ext_text.proofs.PathPrefixes.{same_path, tied_path, prefix_self, prefix_trans}
 use Rattle.ext_tree.specs.Tree.{Entries}
 use Rattle.ext_tree.specs.declared.entry.Entry.{Entry}
-use Rattle.ext_layer.specs.Verdicts.{Marked, Verdict, shown_as, cut_off, let_pass, first_of_two, some_front, cuts_at, judged, verdict, marked, row_verdict, hides, over_entry, lay, over}
-use Rattle.ext_layer.proofs.Fronts.{absent, some_front-same, some_front-none, some_front-at, some_front-or}
+use Rattle.ext_layer.specs.Verdicts.{Marked, Verdict, shown_as, cut_off, let_pass, first_of_two, some_prefix, cuts_at, judged, verdict, marked, row_verdict, hides, over_entry, lay, over}
+use Rattle.ext_layer.proofs.Prefixes.{absent, some_prefix-same, some_prefix-none, some_prefix-at, some_prefix-or}
 
 pub first_assoc : {C : Type 0} (a b c : Verdict C) → first_of_two (first_of_two a b) c ≡ first_of_two a (first_of_two b c)
 first_assoc (shown_as e) b c = refl
@@ -28,27 +28,27 @@ module _ {C : Type 0} where
       ∙ ap (cond (eq_by_cmp path_cmp q u.0) (Some (over_entry u ls).1)) (find-where_key path_cmp (λ p. not (hides u p)) q (λ x e. ap (λ z. not (hides u z)) (sym (paths_exact q x e))) ls)
 
   -- a path that an entry hides, other than its own, lies below an entry that cuts
-  hidden_below : (u : List (List ℕ) × (Entry C × Bool)) (p : List (List ℕ)) → eq_by_cmp path_cmp p u.0 ≡ false → hides u p ≡ true → (u.1.1 ≡ true) × (is_front u.0 p ≡ true)
+  hidden_below : (u : List (List ℕ) × (Entry C × Bool)) (p : List (List ℕ)) → eq_by_cmp path_cmp p u.0 ≡ false → hides u p ≡ true → (u.1.1 ≡ true) × (is_prefix u.0 p ≡ true)
   hidden_below u p apart =
-      elim u.1.1 as (λ c. cond c (is_front u.0 p) (eq_by_cmp path_cmp p u.0) ≡ true → (c ≡ true) × (is_front u.0 p ≡ true)) [
+      elim u.1.1 as (λ c. cond c (is_prefix u.0 p) (eq_by_cmp path_cmp p u.0) ≡ true → (c ≡ true) × (is_prefix u.0 p ≡ true)) [
         | true ↦ λ h. (refl, h)
         | false ↦ λ h. absurd (false≢true (sym apart ∙ h))
       ]
 
   -- an entry that cuts hides each path that it is a front of
-  hides_below : (u : List (List ℕ) × (Entry C × Bool)) (p : List (List ℕ)) → u.1.1 ≡ true → is_front u.0 p ≡ true → hides u p ≡ true
-  hides_below u p c f = ap (λ b. cond b (is_front u.0 p) (eq_by_cmp path_cmp p u.0)) c ∙ f
+  hides_below : (u : List (List ℕ) × (Entry C × Bool)) (p : List (List ℕ)) → u.1.1 ≡ true → is_prefix u.0 p ≡ true → hides u p ≡ true
+  hides_below u p c f = ap (λ b. cond b (is_prefix u.0 p) (eq_by_cmp path_cmp p u.0)) c ∙ f
 
   -- below an entry that does not hide a path, no front of the path is cut by it
-  not_cut_here : (u : List (List ℕ) × (Entry C × Bool)) (p q : List (List ℕ)) → hides u p ≡ false → is_front q p ≡ true → eq_by_cmp path_cmp q u.0 ≡ true → u.1.1 ≡ false
+  not_cut_here : (u : List (List ℕ) × (Entry C × Bool)) (p q : List (List ℕ)) → hides u p ≡ false → is_prefix q p ≡ true → eq_by_cmp path_cmp q u.0 ≡ true → u.1.1 ≡ false
   not_cut_here u p q bare f t =
-      false_from_ne_true u.1.1 (λ c. false≢true (sym bare ∙ hides_below u p c (subst (λ z. is_front z p ≡ true) (same_path q u.0 t) f)))
+      false_from_ne_true u.1.1 (λ c. false≢true (sym bare ∙ hides_below u p c (subst (λ z. is_prefix z p ≡ true) (same_path q u.0 t) f)))
 
-  not_hidden_here : (u : List (List ℕ) × (Entry C × Bool)) (p q : List (List ℕ)) → hides u p ≡ false → is_front q p ≡ true → eq_by_cmp path_cmp q u.0 ≡ false → hides u q ≡ false
+  not_hidden_here : (u : List (List ℕ) × (Entry C × Bool)) (p q : List (List ℕ)) → hides u p ≡ false → is_prefix q p ≡ true → eq_by_cmp path_cmp q u.0 ≡ false → hides u q ≡ false
   not_hidden_here u p q bare f apart =
-      false_from_ne_true (hides u q) (λ h. let x = hidden_below u q apart h in false≢true (sym bare ∙ hides_below u p x.0 (front_trans u.0 q p x.1 f)))
+      false_from_ne_true (hides u q) (λ h. let x = hidden_below u q apart h in false≢true (sym bare ∙ hides_below u p x.0 (prefix_trans u.0 q p x.1 f)))
 
-  same_cut : (u : List (List ℕ) × (Entry C × Bool)) (ls : Marked C) (p q : List (List ℕ)) → hides u p ≡ false → is_front q p ≡ true → cuts_at (find path_cmp q (lay u ls)) ≡ cuts_at (find path_cmp q ls)
+  same_cut : (u : List (List ℕ) × (Entry C × Bool)) (ls : Marked C) (p q : List (List ℕ)) → hides u p ≡ false → is_prefix q p ≡ true → cuts_at (find path_cmp q (lay u ls)) ≡ cuts_at (find path_cmp q ls)
   same_cut u ls p q bare f =
       ap cuts_at (find_lay u ls q)
       ∙ elim (eq_by_cmp path_cmp q u.0) as (λ b. eq_by_cmp path_cmp q u.0 ≡ b → cuts_at (cond b (Some (over_entry u ls).1) (cond (not (hides u q)) (find path_cmp q ls) None)) ≡ cuts_at (find path_cmp q ls)) [
@@ -56,7 +56,7 @@ module _ {C : Type 0} where
         | false ↦ λ t. ap (λ b. cuts_at (cond (not b) (find path_cmp q ls) None)) (not_hidden_here u p q bare f t)
       ] refl
 
-  no_cut : (u : List (List ℕ) × (Entry C × Bool)) (p q : List (List ℕ)) → hides u p ≡ false → is_front q p ≡ true → cuts_at (find path_cmp q (u ∷ [])) ≡ false
+  no_cut : (u : List (List ℕ) × (Entry C × Bool)) (p q : List (List ℕ)) → hides u p ≡ false → is_prefix q p ≡ true → cuts_at (find path_cmp q (u ∷ [])) ≡ false
   no_cut u p q bare f =
       elim (eq_by_cmp path_cmp q u.0) as (λ b. eq_by_cmp path_cmp q u.0 ≡ b → cuts_at (cond b (Some u.1) None) ≡ false) [
         | true ↦ λ t. not_cut_here u p q bare f t
@@ -75,18 +75,18 @@ module _ {C : Type 0} where
   -- one entry laid over a list says what it says alone, and else what the list says
   pub lay_verdict : (u : List (List ℕ) × (Entry C × Bool)) (ls : Marked C) (p : List (List ℕ)) → verdict (lay u ls) p ≡ first_of_two (verdict (u ∷ []) p) (verdict ls p)
   lay_verdict u ls p =
-      let cut_laid = some_front (λ q. cuts_at (find path_cmp q (lay u ls))) p in
-      let cut_one = some_front (λ q. cuts_at (find path_cmp q (u ∷ []))) p in
-      let cut_list = some_front (λ q. cuts_at (find path_cmp q ls)) p in
+      let cut_laid = some_prefix (λ q. cuts_at (find path_cmp q (lay u ls))) p in
+      let cut_one = some_prefix (λ q. cuts_at (find path_cmp q (u ∷ []))) p in
+      let cut_list = some_prefix (λ q. cuts_at (find path_cmp q ls)) p in
       let over_it : (h : Bool) → hides u p ≡ h → eq_by_cmp path_cmp p u.0 ≡ false → judged (cond (not h) (find path_cmp p ls) None) cut_laid ≡ first_of_two (judged None cut_one) (judged (find path_cmp p ls) cut_list) = elim [
         | true ↦ λ h apart.
             let x = hidden_below u p apart h in
-            let laid : cut_laid ≡ true = some_front-at (λ q. cuts_at (find path_cmp q (lay u ls))) u.0 p x.1 (cut_by_laid u ls x.0) in
-            let one : cut_one ≡ true = some_front-at (λ q. cuts_at (find path_cmp q (u ∷ []))) u.0 p x.1 (cut_by_one u x.0) in
+            let laid : cut_laid ≡ true = some_prefix-at (λ q. cuts_at (find path_cmp q (lay u ls))) u.0 p x.1 (cut_by_laid u ls x.0) in
+            let one : cut_one ≡ true = some_prefix-at (λ q. cuts_at (find path_cmp q (u ∷ []))) u.0 p x.1 (cut_by_one u x.0) in
             ap (judged None) laid ∙ ap (λ b. first_of_two (judged None b) (judged (find path_cmp p ls) cut_list)) (sym one)
         | false ↦ λ h apart.
-            let laid : cut_laid ≡ cut_list = some_front-same _ _ p (λ q f. same_cut u ls p q h f) in
-            let one : cut_one ≡ false = some_front-none _ p (λ q f. no_cut u p q h f) in
+            let laid : cut_laid ≡ cut_list = some_prefix-same _ _ p (λ q f. same_cut u ls p q h f) in
+            let one : cut_one ≡ false = some_prefix-none _ p (λ q f. no_cut u p q h f) in
             ap (judged (find path_cmp p ls)) laid ∙ ap (λ b. first_of_two (judged None b) (judged (find path_cmp p ls) cut_list)) (sym one)
       ] in
       ap (λ o. judged o cut_laid) (find_lay u ls p)
@@ -103,25 +103,25 @@ module _ {C : Type 0} where
   -- the first of the entries in order says something only where the later ones say nothing
   pub cons_verdict : (u : List (List ℕ) × (Entry C × Bool)) (us : Marked C) (p : List (List ℕ)) → T (below_all path_cmp u.0 us) → verdict (u ∷ us) p ≡ first_of_two (verdict us p) (verdict (u ∷ []) p)
   cons_verdict u us p below =
-      let gone : (q : List (List ℕ)) → is_front q u.0 ≡ true → find path_cmp q us ≡ None = λ q f. absent u.0 q f us below in
-      let here : (q : List (List ℕ)) → eq_by_cmp path_cmp q u.0 ≡ true → find path_cmp q us ≡ None = λ q t. gone q (subst (λ z. is_front q z ≡ true) (same_path q u.0 t) (front_self q)) in
-      let cut_rest = some_front (λ q. cuts_at (find path_cmp q us)) p in
-      let cut_one = some_front (λ q. cuts_at (find path_cmp q (u ∷ []))) p in
+      let gone : (q : List (List ℕ)) → is_prefix q u.0 ≡ true → find path_cmp q us ≡ None = λ q f. absent u.0 q f us below in
+      let here : (q : List (List ℕ)) → eq_by_cmp path_cmp q u.0 ≡ true → find path_cmp q us ≡ None = λ q t. gone q (subst (λ z. is_prefix q z ≡ true) (same_path q u.0 t) (prefix_self q)) in
+      let cut_rest = some_prefix (λ q. cuts_at (find path_cmp q us)) p in
+      let cut_one = some_prefix (λ q. cuts_at (find path_cmp q (u ∷ []))) p in
       let each : (q : List (List ℕ)) → cuts_at (find path_cmp q (u ∷ us)) ≡ (cuts_at (find path_cmp q us) || cuts_at (find path_cmp q (u ∷ []))) = λ q. elim (eq_by_cmp path_cmp q u.0) as (λ b. eq_by_cmp path_cmp q u.0 ≡ b → cuts_at (cond b (Some u.1) (find path_cmp q us)) ≡ (cuts_at (find path_cmp q us) || cuts_at (cond b (Some u.1) None))) [
         | true ↦ λ t. ap (λ o. cuts_at o || u.1.1) (sym (here q t))
         | false ↦ λ t. sym (or-false (cuts_at (find path_cmp q us)))
       ] refl in
-      let cut_both : some_front (λ q. cuts_at (find path_cmp q (u ∷ us))) p ≡ (cut_rest || cut_one) = some_front-same _ _ p (λ q f. each q) ∙ some_front-or (λ q. cuts_at (find path_cmp q us)) (λ q. cuts_at (find path_cmp q (u ∷ []))) p in
+      let cut_both : some_prefix (λ q. cuts_at (find path_cmp q (u ∷ us))) p ≡ (cut_rest || cut_one) = some_prefix-same _ _ p (λ q f. each q) ∙ some_prefix-or (λ q. cuts_at (find path_cmp q us)) (λ q. cuts_at (find path_cmp q (u ∷ []))) p in
       ap (judged (find path_cmp p (u ∷ us))) cut_both
       ∙ elim (eq_by_cmp path_cmp p u.0) as (λ b. eq_by_cmp path_cmp p u.0 ≡ b → judged (cond b (Some u.1) (find path_cmp p us)) (cut_rest || cut_one) ≡ first_of_two (judged (find path_cmp p us) cut_rest) (judged (cond b (Some u.1) None) cut_one)) [
         | true ↦ λ t.
-            let rest : cut_rest ≡ false = some_front-none _ p (λ q f. ap cuts_at (gone q (subst (λ z. is_front q z ≡ true) (same_path p u.0 t) f))) in
+            let rest : cut_rest ≡ false = some_prefix-none _ p (λ q f. ap cuts_at (gone q (subst (λ z. is_prefix q z ≡ true) (same_path p u.0 t) f))) in
             sym ((λ i. first_of_two (judged (here p t i) (rest i)) (shown_as u.1.0)))
         | false ↦ λ t. judged_or (find path_cmp p us) cut_rest cut_one
       ] refl
 
   pub none_verdict : (p : List (List ℕ)) → verdict {C = C} [] p ≡ let_pass
-  none_verdict p = ap (judged None) (some_front-none _ p (λ q f. refl))
+  none_verdict p = ap (judged None) (some_prefix-none _ p (λ q f. refl))
 
   -- at each path an upper list in order, laid over a lower one, says what it says, and else what the lower one says
   pub over_verdict : (us ls : Marked C) (p : List (List ℕ)) → T (is_sorted path_cmp us) → verdict (over us ls) p ≡ first_of_two (verdict us p) (verdict ls p)

@@ -7,8 +7,8 @@ use Rattle.std.specs.FinMap.{find, put, is_sorted}
 use Rattle.std.specs.FinMap.Entries.{where_key}
 use Rattle.std.specs.List.{AllByRecursion, prefix_len}
 use Rattle.std.specs.Ordering.{eq_by_cmp, is_lt}
-use Rattle.ext_text.specs.Path.{path_cmp, is_front}
-use Rattle.ext_tree.specs.Tree.{Entries, IsTree, is_dir}
+use Rattle.ext_text.specs.Path.{path_cmp, is_prefix}
+use Rattle.ext_tree.specs.Tree.{Entries, IsTree, is_directory}
 use Rattle.ext_tree.specs.declared.entry.Entry.{Entry}
 
 -- paths with what stands there, and whether it cuts
@@ -28,9 +28,9 @@ first_of_two cut_off w = cut_off
 first_of_two let_pass w = w
 
 -- the test passes at some front of the path, or at the path
-abbrev pub some_front : (List (List ℕ) → Bool) → List (List ℕ) → Bool
-some_front f [] = f []
-some_front f (n ∷ p) = f [] || some_front (λ q. f (n ∷ q)) p
+abbrev pub some_prefix : (List (List ℕ) → Bool) → List (List ℕ) → Bool
+some_prefix f [] = f []
+some_prefix f (n ∷ p) = f [] || some_prefix (λ q. f (n ∷ q)) p
 
 -- what stands there cuts
 abbrev pub cuts_at : {C : Type 0} → Option (Entry C × Bool) → Bool
@@ -45,11 +45,11 @@ judged None false = let_pass
 
 -- what a marked list says at a path
 abbrev pub verdict : {C : Type 0} → Marked C → List (List ℕ) → Verdict C
-verdict ms p = judged (find path_cmp p ms) (some_front (λ q. cuts_at (find path_cmp q ms)) p)
+verdict ms p = judged (find path_cmp p ms) (some_prefix (λ q. cuts_at (find path_cmp q ms)) p)
 
 -- the entries of a single layer: files and links cut
 abbrev pub marked : {C : Type 0} → Entries C → Marked C
-marked es = map (λ e. (e.0, (e.1, not (is_dir e.1)))) es
+marked es = map (λ e. (e.0, (e.1, not (is_directory e.1)))) es
 
 -- the entries without their marks
 abbrev pub unmarked : {C : Type 0} → Marked C → Entries C
@@ -62,7 +62,7 @@ row_verdict (es ∷ layers) p = first_of_two (verdict (marked es) p) (row_verdic
 
 -- whether an entry hides what a lower list has at a path
 abbrev pub hides : {C : Type 0} → List (List ℕ) × (Entry C × Bool) → List (List ℕ) → Bool
-hides u p = cond u.1.1 (is_front u.0 p) (eq_by_cmp path_cmp p u.0)
+hides u p = cond u.1.1 (is_prefix u.0 p) (eq_by_cmp path_cmp p u.0)
 
 -- the entry as it lies over a lower list: it cuts also where it lies over an entry that cuts
 abbrev pub over_entry : {C : Type 0} → List (List ℕ) × (Entry C × Bool) → Marked C → List (List ℕ) × (Entry C × Bool)

@@ -1,6 +1,6 @@
 // The items of marked lists, borrowed from the layers.
 ghost use Rattle.std.specs.Prelude.{◌≡◌, IfOk, not};
-ghost use Rattle.ext_tree.specs.Tree.{is_dir};
+ghost use Rattle.ext_tree.specs.Tree.{is_directory};
 ghost use Rattle.ext_layer.specs.Verdicts.{marked};
 ghost use Rattle.ext_layer.specs.Items.{all_seen};
 
@@ -17,7 +17,7 @@ pub struct Item<'a, C> {
 
 // Files and links cut; a directory alone does not.
 fn is_solid<C>(entry: &Entry<C>) -> bool
-    ensures { result ≡ not (is_dir entry.now) }
+    ensures { result ≡ not (is_directory entry.now) }
 {
     match entry {
         Entry::Dir(_mode) => false,

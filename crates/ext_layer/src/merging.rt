@@ -28,10 +28,10 @@ pub fn merged<'a, C>(
     'uppers: for item in upper {
         let (_passed, rest) = lower.split_at(from);
         let place = place_of(rest, item);
-        let (before, behind) = rest.split_at(place);
+        let (before, after) = rest.split_at(place);
         append(&mut merged, before)?;
-        merged.push(laid_over(item, behind))?;
-        from += place + hidden_behind(behind, item);
+        merged.push(laid_over(item, after))?;
+        from += place + hidden_after(after, item);
     }
     let (_passed, rest) = lower.split_at(from);
     append(&mut merged, rest)?;
@@ -96,7 +96,7 @@ fn stands_before<C>(item: &Item<C>, other: &Item<C>) -> bool
 }
 
 // How many lower items the upper one hides, of those that do not stand before it.
-fn hidden_behind<C>(lower: &[Item<C>], upper: &Item<C>) -> usize
+fn hidden_after<C>(lower: &[Item<C>], upper: &Item<C>) -> usize
     ensures count { result ≡ hidden (seen upper.now) (all_seen lower.now) }
     ensures within { result ≤ length lower.now }
 {
@@ -120,10 +120,10 @@ fn is_hidden<C>(item: &Item<C>, upper: &Item<C>) -> bool
 }
 
 // The upper item as it lies over the lower ones that do not stand before it.
-fn laid_over<'a, C>(upper: &Item<'a, C>, behind: &[Item<'a, C>]) -> Item<'a, C>
-    ensures { seen result ≡ over_first (seen upper.now) (all_seen behind.now) }
+fn laid_over<'a, C>(upper: &Item<'a, C>, after: &[Item<'a, C>]) -> Item<'a, C>
+    ensures { seen result ≡ over_first (seen upper.now) (all_seen after.now) }
 {
-    match behind {
+    match after {
         [] => *upper,
         [first, ..] => Item {
             pair: upper.pair,

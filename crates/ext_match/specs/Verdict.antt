@@ -5,7 +5,7 @@ use Rattle.std.specs.Prelude.{◌≡◌, ℕ, Bool, true, false, ◌⊎◌, List
 use Rattle.std.specs.FinMap.{FinMap, get}
 use Rattle.std.specs.Option.{unwrap_or}
 use Rattle.ext_text.specs.Arch.{arch_name}
-use Rattle.ext_text.specs.Name.{name_cmp}
+use Rattle.ext_text.specs.Name.{bytes_cmp}
 use Rattle.ext_text.specs.Scope.{scope_name}
 use Rattle.ext_text.specs.declared.arch.Arch.{Arch}
 use Rattle.ext_text.specs.declared.class.Class.{Class}
@@ -17,7 +17,7 @@ use Rattle.ext_match.specs.declared.verdict.Verdict.TheVariants as verdicts
 
 -- what a release file assigns
 abbrev pub Release : Type 0
-Release = FinMap name_cmp (List ℕ)
+Release = FinMap bytes_cmp (List ℕ)
 
 -- the scope is in the extension's list, or in `system portable` where it has none
 abbrev pub HasScope : Release → Class → Scope → Type 0

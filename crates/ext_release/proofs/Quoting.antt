@@ -4,7 +4,7 @@ use Rattle.std.specs.Prelude.{Some}
 use Rattle.std.specs.List.{AllByRecursion}
 use Rattle.std.specs.Option.{option_map}
 use Rattle.std.proofs.lemmas.Bool.{cases_Bool}
-use Rattle.ext_release.specs.Value.{cut, cut_double, closed, escaped, is_special, with_front}
+use Rattle.ext_release.specs.Value.{cut, cut_double, closed, escaped, is_special, with_prefix}
 use Rattle.ext_release.specs.Quoting.{escaped_text, DoubleQuotesKeep, SingleQuotesKeep}
 
 -- the first single quote is the one behind the text
@@ -23,7 +23,7 @@ neither false false false true h = cc
 neither false false false false h = (refl, refl)
 
 -- a byte that is not special stands for itself, where some byte is behind it
-plain_step : (b : ℕ) (rest : List ℕ) → is_special b ≡ false → 0 < length rest → cut_double (b ∷ rest) ≡ with_front (b ∷ []) (cut_double rest)
+plain_step : (b : ℕ) (rest : List ℕ) → is_special b ≡ false → 0 < length rest → cut_double (b ∷ rest) ≡ with_prefix (b ∷ []) (cut_double rest)
 plain_step b [] plain some = absurd (omega arith)
 plain_step b (c ∷ cs) plain some =
     let parts = neither (eqb b 34) (eqb b 36) (eqb b 96) (eqb b 92) plain in
@@ -33,20 +33,20 @@ escaped_special : (b : ℕ) → is_special b ≡ true → escaped b ≡ b ∷ []
 escaped_special b special = rw special refl
 
 -- a byte that is special stands for itself behind a backslash
-special_step : (b : ℕ) (rest : List ℕ) → is_special b ≡ true → cut_double (92 ∷ b ∷ rest) ≡ with_front (b ∷ []) (cut_double rest)
-special_step b rest special = ap (λ (front : List ℕ). with_front front (cut_double rest)) (escaped_special b special)
+special_step : (b : ℕ) (rest : List ℕ) → is_special b ≡ true → cut_double (92 ∷ b ∷ rest) ≡ with_prefix (b ∷ []) (cut_double rest)
+special_step b rest special = ap (λ (prefix : List ℕ). with_prefix prefix (cut_double rest)) (escaped_special b special)
 
-some_behind : (front : List ℕ) → 0 < length (front ++ 34 ∷ [])
-some_behind [] = omega arith
-some_behind (b ∷ bs) = omega arith
+some_after : (prefix : List ℕ) → 0 < length (prefix ++ 34 ∷ [])
+some_after [] = omega arith
+some_after (b ∷ bs) = omega arith
 
 -- the first quote that is not escaped is the one behind the text
 cut_escaped : (text : List ℕ) → cut_double (escaped_text text ++ 34 ∷ []) ≡ Some (text, [])
 cut_escaped [] = refl
 cut_escaped (b ∷ bs) =
     elim (cases_Bool (is_special b)) [
-      | inl special ↦ rw special (special_step b (escaped_text bs ++ 34 ∷ []) special ∙ ap (with_front (b ∷ [])) (cut_escaped bs))
-      | inr plain ↦ rw plain (plain_step b (escaped_text bs ++ 34 ∷ []) plain (some_behind (escaped_text bs)) ∙ ap (with_front (b ∷ [])) (cut_escaped bs))
+      | inl special ↦ rw special (special_step b (escaped_text bs ++ 34 ∷ []) special ∙ ap (with_prefix (b ∷ [])) (cut_escaped bs))
+      | inr plain ↦ rw plain (plain_step b (escaped_text bs ++ 34 ∷ []) plain (some_after (escaped_text bs)) ∙ ap (with_prefix (b ∷ [])) (cut_escaped bs))
     ]
 
 pub double_kept : DoubleQuotesKeep

@@ -4,7 +4,7 @@ use Rattle.std.specs.Prelude.{None, Option, Some}
 use Rattle.std.specs.FinMap.{FinMap, get}
 use Rattle.std.specs.List.{AllByRecursion}
 use Rattle.std.specs.Option.{option_or}
-use Rattle.ext_text.specs.Name.{name_cmp}
+use Rattle.ext_text.specs.Name.{bytes_cmp}
 use Rattle.ext_release.specs.Line.{is_faulty, line_of, lines_of}
 use Rattle.ext_release.specs.Reading.{FollowsAs, IsSoFar}
 use Rattle.ext_release.specs.Release.{IsRelease, assigned, last_assigned, leaves, some_value, value_after}
@@ -34,14 +34,14 @@ all_push : {X : Type 0} (P : X → Type 0) (xs : List X) (x : X) → AllByRecurs
 all_push P [] x all here = (here, tt)
 all_push P (y ∷ xs) x all here = (all.0, all_push P xs x all.1 here)
 
-pub start : (bytes : List ℕ) (release : FinMap name_cmp (List ℕ)) → ((key : List ℕ) → get release key ≡ None) → IsSoFar bytes bytes 0 release
+pub start : (bytes : List ℕ) (release : FinMap bytes_cmp (List ℕ)) → ((key : List ℕ) → get release key ≡ None) → IsSoFar bytes bytes 0 release
 start bytes release none = record { done = []; whole = refl; count = refl; size = omega arith; sound = tt; values = none }
 
-module _ (bytes rest line : List ℕ) (number : ℕ) (old : FinMap name_cmp (List ℕ)) (so : IsSoFar bytes rest number old) where
-  values_push : (new : FinMap name_cmp (List ℕ)) → FollowsAs (line_of line) old new true → (key : List ℕ) → get new key ≡ value_after (so.done ++ line ∷ []) key
+module _ (bytes rest line : List ℕ) (number : ℕ) (old : FinMap bytes_cmp (List ℕ)) (so : IsSoFar bytes rest number old) where
+  values_push : (new : FinMap bytes_cmp (List ℕ)) → FollowsAs (line_of line) old new true → (key : List ℕ) → get new key ≡ value_after (so.done ++ line ∷ []) key
   values_push new follows key = follows.1 key ∙ ap (leaves (assigned (line_of line) key)) (so.values key) ∙ sym (value_push so.done line key)
 
-  pub next : (more : List ℕ) (new : FinMap name_cmp (List ℕ)) → (lines_of rest ≡ line ∷ lines_of more) × (length more < length rest) → FollowsAs (line_of line) old new true → IsSoFar bytes more (number + 1) new
+  pub next : (more : List ℕ) (new : FinMap bytes_cmp (List ℕ)) → (lines_of rest ≡ line ∷ lines_of more) × (length more < length rest) → FollowsAs (line_of line) old new true → IsSoFar bytes more (number + 1) new
   next more new is follows =
       let size = so.size in
       let count = so.count in
@@ -54,7 +54,7 @@ module _ (bytes rest line : List ℕ) (number : ℕ) (old : FinMap name_cmp (Lis
         values = values_push new follows;
       }
 
-  pub finish : (new : FinMap name_cmp (List ℕ)) → lines_of rest ≡ line ∷ [] → FollowsAs (line_of line) old new true → IsRelease bytes new
+  pub finish : (new : FinMap bytes_cmp (List ℕ)) → lines_of rest ≡ line ∷ [] → FollowsAs (line_of line) old new true → IsRelease bytes new
   finish new is follows =
       let whole : lines_of bytes ≡ so.done ++ line ∷ [] = so.whole ∙ ap (λ (ls : List (List ℕ)). so.done ++ ls) is in
       record {

@@ -10,14 +10,14 @@ use Rattle.std.specs.Ordering.{nat_cmp}
 use Rattle.std.specs.Str.{bytes_eq}
 use Rattle.std.specs.String.{string_bytes, string_cmp}
 use Rattle.std.proofs.lemmas.Map.Text.{btree_map_updates_text}
-use Rattle.ext_text.specs.Name.{name_cmp}
+use Rattle.ext_text.specs.Name.{bytes_cmp}
 use Rattle.ext_release.specs.Release.{map_of, texts}
 
 mapped : {A B : Type 0} (f : A → B) (b : Bool) (x : A) (o : Option A) → option_map f (cond b (Some x) o) ≡ cond b (Some (f x)) (option_map f o)
 mapped f true x o = refl
 mapped f false x o = refl
 
-pub find-texts : {Z : Type 0} (key : List ℕ) (es : List (String Z × String Z)) → option_map string_bytes (lookup (is_at (λ k. slice_cmp nat_cmp key (string_bytes k))) es) ≡ find name_cmp key (texts es)
+pub find-texts : {Z : Type 0} (key : List ℕ) (es : List (String Z × String Z)) → option_map string_bytes (lookup (is_at (λ k. slice_cmp nat_cmp key (string_bytes k))) es) ≡ find bytes_cmp key (texts es)
 find-texts key [] = refl
 find-texts key (e ∷ es) = mapped string_bytes (is_at (λ k. slice_cmp nat_cmp key (string_bytes k)) e.0) e.1 _ ∙ ap (cond _ (Some (string_bytes e.1))) (find-texts key es)
 
@@ -36,4 +36,4 @@ updated key m n w change q =
     ∙ ap (cond (bytes_eq key q) (option_map string_bytes w)) (sym (get-texts q m.entries))
 
 pub get-none : {Z : Type 0} (es : List (String Z × String Z)) → es ≡ [] → (q : List ℕ) → get (map_of es) q ≡ None
-get-none es none q = ap (λ (xs : List (String _ × String _)). get (map_of xs) q) none ∙ get-empty name_cmp q
+get-none es none q = ap (λ (xs : List (String _ × String _)). get (map_of xs) q) none ∙ get-empty bytes_cmp q

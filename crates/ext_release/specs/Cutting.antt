@@ -7,9 +7,9 @@ abbrev pub Lacks : (ℕ → Bool) → List ℕ → Type 0
 Lacks p text = AllByRecursion (λ b. p b ≡ false) text
 
 -- the text is a front of which no byte passes, a byte that passes, and what stands behind it
-pub record IsCut (p : ℕ → Bool) (text front : List ℕ) (byte : ℕ) (behind : List ℕ) : Type 0 where
-  pub whole : text ≡ front ++ byte ∷ behind
-  pub lacks : Lacks p front
+pub record IsSplit (p : ℕ → Bool) (text prefix : List ℕ) (byte : ℕ) (after : List ℕ) : Type 0 where
+  pub whole : text ≡ prefix ++ byte ∷ after
+  pub lacks : Lacks p prefix
   pub passes : p byte ≡ true
 
 -- a double quote or a backslash

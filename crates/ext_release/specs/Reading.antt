@@ -3,21 +3,21 @@ use Rattle.std.specs.Prelude.{◌≡◌, ℕ, ◌+◌, ◌<◌, ◌≤◌, Bool,
 use Rattle.std.specs.Borrow.{Bor}
 use Rattle.std.specs.FinMap.{FinMap, get}
 use Rattle.std.specs.List.{AllByRecursion}
-use Rattle.ext_text.specs.Name.{name_cmp}
+use Rattle.ext_text.specs.Name.{bytes_cmp}
 use Rattle.ext_release.specs.Line.{ReleaseLine, is_faulty, line_of, lines_of}
 use Rattle.ext_release.specs.Release.{assigned, leaves, value_after}
 
 -- the first line of a text, and the text of the other lines, if there are any
 abbrev pub IsNextLine : List ℕ → List ℕ → Option (Bor (List ℕ)) → Type 0
-IsNextLine text line behind = MatchOption behind (lines_of text ≡ line ∷ []) (λ more. (lines_of text ≡ line ∷ lines_of more.now) × (length more.now < length text))
+IsNextLine text line after = MatchOption after (lines_of text ≡ line ∷ []) (λ more. (lines_of text ≡ line ∷ lines_of more.now) × (length more.now < length text))
 
 -- what a line means was done, unless it was told to be faulty
-abbrev pub FollowsAs : ReleaseLine → FinMap name_cmp (List ℕ) → FinMap name_cmp (List ℕ) → Bool → Type 0
+abbrev pub FollowsAs : ReleaseLine → FinMap bytes_cmp (List ℕ) → FinMap bytes_cmp (List ℕ) → Bool → Type 0
 FollowsAs line old new true = (is_faulty line ≡ false) × ((key : List ℕ) → get new key ≡ leaves (assigned line key) (get old key))
 FollowsAs line old new false = is_faulty line ≡ true
 
 -- so many lines were read, none of them is faulty, and the rest is left
-pub record IsSoFar (bytes rest : List ℕ) (number : ℕ) (release : FinMap name_cmp (List ℕ)) : Type 0 where
+pub record IsSoFar (bytes rest : List ℕ) (number : ℕ) (release : FinMap bytes_cmp (List ℕ)) : Type 0 where
   pub done : List (List ℕ)
   pub whole : lines_of bytes ≡ done ++ lines_of rest
   pub count : length done ≡ number

@@ -6,7 +6,7 @@ use Rattle.std.specs.List.{AllByRecursion}
 use Rattle.std.specs.Option.{option_or}
 use Rattle.std.specs.Str.{bytes_eq}
 use Rattle.std.specs.String.{string_bytes}
-use Rattle.ext_text.specs.Name.{name_cmp}
+use Rattle.ext_text.specs.Name.{bytes_cmp}
 use Rattle.ext_release.specs.declared.reading.ReleaseErr.{ReleaseErr}
 use Rattle.ext_release.specs.declared.reading.ReleaseErr.TheVariants.{OutOfMemory, BadRelease}
 use Rattle.ext_release.specs.Line.{ReleaseLine, Faulty, Skipped, Sets, is_faulty, line_of, lines_of}
@@ -17,7 +17,7 @@ texts [] = []
 texts (e ∷ es) = (string_bytes e.0, string_bytes e.1) ∷ texts es
 
 -- the map of the entries of a map of texts
-abbrev pub map_of : {Z : Type 0} → List (String Z × String Z) → FinMap name_cmp (List ℕ)
+abbrev pub map_of : {Z : Type 0} → List (String Z × String Z) → FinMap bytes_cmp (List ℕ)
 map_of es = from_entries (texts es)
 
 -- what one line assigns to a key
@@ -46,7 +46,7 @@ abbrev pub value_after : List (List ℕ) → List ℕ → Option (List ℕ)
 value_after ls key = some_value (last_assigned ls key)
 
 -- no line is faulty, and each key has the value that its last assignment gives it
-pub record IsRelease (bytes : List ℕ) (release : FinMap name_cmp (List ℕ)) : Type 0 where
+pub record IsRelease (bytes : List ℕ) (release : FinMap bytes_cmp (List ℕ)) : Type 0 where
   pub sound : AllByRecursion (λ l. is_faulty (line_of l) ≡ false) (lines_of bytes)
   pub values : (key : List ℕ) → get release key ≡ value_after (lines_of bytes) key
 
@@ -58,7 +58,7 @@ pub record IsFirstFault (bytes : List ℕ) (number : ℕ) : Type 0 where
   pub first : (k : ℕ) → k < number - 1 → is_faulty (line_of (slice_index_or (lines_of bytes) k [])) ≡ false
 
 -- what `read_release` answers
-abbrev pub ReadsRelease : List ℕ → Result (FinMap name_cmp (List ℕ)) ReleaseErr → Type 0
+abbrev pub ReadsRelease : List ℕ → Result (FinMap bytes_cmp (List ℕ)) ReleaseErr → Type 0
 ReadsRelease bytes (Ok release) = IsRelease bytes release
 ReadsRelease bytes (Err OutOfMemory) = Unit {0}
 ReadsRelease bytes (Err (BadRelease line)) = IsFirstFault bytes line

@@ -17,14 +17,14 @@ abbrev pub escaped : ℕ → List ℕ
 escaped b = cond (is_special b) (b ∷ []) (92 ∷ b ∷ [])
 
 -- what stands in front of the text before a cut
-abbrev pub with_front : List ℕ → Option (List ℕ × List ℕ) → Option (List ℕ × List ℕ)
-with_front front o = option_map (λ c. (front ++ c.0, c.1)) o
+abbrev pub with_prefix : List ℕ → Option (List ℕ × List ℕ) → Option (List ℕ × List ℕ)
+with_prefix prefix o = option_map (λ c. (prefix ++ c.0, c.1)) o
 
 -- what the text before the double quote that closes stands for, and the text behind that quote
 abbrev pub cut_double : List ℕ → Option (List ℕ × List ℕ)
 cut_double [] = None
 cut_double (b ∷ []) = cond (b == 34) (Some ([], [])) None
-cut_double (b ∷ c ∷ cs) = cond (b == 34) (Some ([], c ∷ cs)) (cond (b == 92) (with_front (escaped c) (cut_double cs)) (with_front (b ∷ []) (cut_double (c ∷ cs))))
+cut_double (b ∷ c ∷ cs) = cond (b == 34) (Some ([], c ∷ cs)) (cond (b == 92) (with_prefix (escaped c) (cut_double cs)) (with_prefix (b ∷ []) (cut_double (c ∷ cs))))
 
 -- the text inside quotes: the quote closes, and nothing stands behind it
 abbrev pub closed : Option (List ℕ × List ℕ) → Option (List ℕ)

@@ -13,7 +13,7 @@ fn strip_carriage_return(line: &[u8]) -> &[u8]
     ensures { result.now ≡ strip_carriage_return line.now }
 {
     match line {
-        [front @ .., b'\r'] => front,
+        [prefix @ .., b'\r'] => prefix,
         _ => line,
     }
 }
@@ -38,7 +38,7 @@ fn before_blanks(text: &str) -> &str
     let mut rest = text;
     'blanks: loop {
         match rest.as_bytes() {
-            [front @ .., last] if is_blank(*last) => rest = split_around(rest, front.len()).0,
+            [prefix @ .., last] if is_blank(*last) => rest = split_around(rest, prefix.len()).0,
             _ => return rest,
         }
     }

@@ -1,6 +1,6 @@
 ghost use Rattle.std.specs.Prelude.{◌≡◌, ℕ, List, true, IfOk};
 ghost use Rattle.std.specs.FinMap.{FinMap};
-ghost use Rattle.ext_text.specs.Name.{name_cmp};
+ghost use Rattle.ext_text.specs.Name.{bytes_cmp};
 ghost use Rattle.ext_release.specs.Line.{assigns, is_key, is_text, line_of, meaning};
 ghost use Rattle.ext_release.specs.Quoting.{DoubleQuotesKeep, SingleQuotesKeep};
 ghost use Rattle.ext_release.specs.Reading.{FollowsAs, IsNextLine};
@@ -10,7 +10,7 @@ use crate::cutting::cut;
 use crate::line::{is_key, text_of, trimmed};
 use crate::release::Release;
 use crate::value::unquoted;
-use ext_text::{OutOfMemory, cut_at};
+use ext_text::{OutOfMemory, split_at_byte};
 use std::alloc::Global;
 use thiserror::Error;
 
@@ -75,9 +75,9 @@ fn follow(release: &mut Release, line: &[u8]) -> Result<bool, OutOfMemory>
 fn next_line(text: &[u8]) -> (&[u8], Option<&[u8]>)
     ensures { IsNextLine text.now result.0.now result.1 }
 {
-    match cut_at(text, b'\n') {
+    match split_at_byte(text, b'\n') {
         None => (text, None),
-        Some((line, behind)) => (line, Some(behind)),
+        Some((line, after)) => (line, Some(after)),
     }
 }
 
@@ -101,12 +101,12 @@ pub fn read_release(alloc: Global, bytes: &[u8]) -> Result<Release, ReleaseErr>
     let mut rest = bytes;
     let mut number = 0;
     'lines: loop {
-        let (line, behind) = next_line(rest);
+        let (line, after) = next_line(rest);
         number += 1;
         if !follow(&mut release, line)? {
             return Err(ReleaseErr::BadRelease { line: number });
         }
-        match behind {
+        match after {
             None => return Ok(release),
             Some(more) => rest = more,
         }
@@ -115,7 +115,7 @@ pub fn read_release(alloc: Global, bytes: &[u8]) -> Result<Release, ReleaseErr>
 
 /// A file has one release: two maps that both are its release are equal.
 pub fn a_file_has_one_release()
-    ensures { (bytes : List ℕ) (a b : FinMap name_cmp (List ℕ)) → IsRelease bytes a → IsRelease bytes b → a ≡ b }
+    ensures { (bytes : List ℕ) (a b : FinMap bytes_cmp (List ℕ)) → IsRelease bytes a → IsRelease bytes b → a ≡ b }
 {}
 
 /// What is written in quotes is read back as the value: in double quotes every text that can stand on a line, with a

@@ -25,10 +25,10 @@ impl Model for Release {
     ghost use Rattle.std.specs.Prelude.{ℕ, List};
     ghost use Rattle.std.specs.Coded.{coded_list, coded_ℕ};
     ghost use Rattle.std.specs.FinMap as map;
-    ghost use Rattle.ext_text.specs.Name.{name_cmp};
+    ghost use Rattle.ext_text.specs.Name.{bytes_cmp};
     ghost use Rattle.ext_release.specs.Release.{map_of};
 
-    ghost Value = { map.FinMap name_cmp (List ℕ) };
+    ghost Value = { map.FinMap bytes_cmp (List ℕ) };
 
     ghost coded = { map.code (coded_list coded_ℕ) (coded_list coded_ℕ) };
 

@@ -2,7 +2,7 @@
 ghost use Rattle.std.specs.Prelude.{◌≡◌, ◌<◌, ◌≤◌, ◌∷◌, ◌++◌, length, IfOk, Some};
 ghost use Rattle.std.specs.Option.{option_map};
 ghost use Rattle.std.specs.String.{string_bytes};
-ghost use Rattle.ext_release.specs.Value.{bare, closed, cut, cut_double, is_special, unquoted, with_front};
+ghost use Rattle.ext_release.specs.Value.{bare, closed, cut, cut_double, is_special, unquoted, with_prefix};
 
 use crate::cutting::{cut, cut_mark, split_around};
 use ext_text::OutOfMemory;
@@ -19,24 +19,24 @@ fn is_special(byte: u8) -> bool
 // left of the text.
 fn push_escaped<'t>(value: &mut String, text: &'t str) -> Result<&'t str, OutOfMemory>
     requires { 0 < length text.now }
-    ensures escaped { IfOk result (λ rest. with_front (string_bytes value.new) (cut_double rest.now) ≡ with_front (string_bytes value.old) (cut_double (92 ∷ text.now))) }
+    ensures escaped { IfOk result (λ rest. with_prefix (string_bytes value.new) (cut_double rest.now) ≡ with_prefix (string_bytes value.old) (cut_double (92 ∷ text.now))) }
     ensures shorter { IfOk result (λ rest. length rest.now ≤ length text.now) }
 {
     let first = text.as_bytes()[0];
     if is_special(first) {
         value.push(first as char)?;
-        let (_before, behind) = split_around(text, 0);
-        return Ok(behind);
+        let (_before, after) = split_around(text, 0);
+        return Ok(after);
     }
     value.push('\\')?;
     Ok(text)
 }
 
 // The value in quotes that have closed, unless text stands behind them.
-fn closed(value: String, behind: &str) -> Option<String>
-    ensures { option_map string_bytes result ≡ closed (Some (string_bytes value, behind.now)) }
+fn closed(value: String, after: &str) -> Option<String>
+    ensures { option_map string_bytes result ≡ closed (Some (string_bytes value, after.now)) }
 {
-    if behind.is_empty() { Some(value) } else { None }
+    if after.is_empty() { Some(value) } else { None }
 }
 
 // The value in double quotes, from behind the first of them.
@@ -48,15 +48,15 @@ fn read_double(alloc: Global, text: &str) -> Result<Option<String>, OutOfMemory>
     'pieces: loop {
         match cut_mark(rest) {
             None => return Ok(None),
-            Some((piece, mark, behind)) => {
+            Some((piece, mark, after)) => {
                 value.push_str(piece)?;
                 if mark == b'"' {
-                    return Ok(closed(value, behind));
+                    return Ok(closed(value, after));
                 }
-                if behind.is_empty() {
+                if after.is_empty() {
                     return Ok(None);
                 }
-                rest = push_escaped(&mut value, behind)?;
+                rest = push_escaped(&mut value, after)?;
             }
         }
     }
@@ -80,8 +80,8 @@ fn push_kept<'t>(value: &mut String, text: &'t str) -> Result<&'t str, OutOfMemo
     match text.as_bytes() {
         [b'\\', ..] => {
             value.push('\\')?;
-            let (_before, behind) = split_around(text, 0);
-            Ok(behind)
+            let (_before, after) = split_around(text, 0);
+            Ok(after)
         }
         _ => Ok(text),
     }
@@ -99,9 +99,9 @@ fn read_bare(alloc: Global, text: &str) -> Result<String, OutOfMemory>
                 value.push_str(rest)?;
                 return Ok(value);
             }
-            Some((piece, behind)) => {
+            Some((piece, after)) => {
                 value.push_str(piece)?;
-                rest = push_kept(&mut value, behind)?;
+                rest = push_kept(&mut value, after)?;
             }
         }
     }

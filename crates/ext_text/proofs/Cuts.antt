@@ -5,7 +5,7 @@ use mathlib.Core.Logic.{inl, inr}
 use Rattle.std.specs.List.{All}
 use Rattle.std.proofs.lemmas.Bool.{not-true, ne_eqb, eq-eqb, eqb-true, both_ways}
 use Rattle.std.proofs.lemmas.List.Elements.{All-nil, All-cons, All-tail, All-append}
-use Rattle.ext_text.specs.Cut.{Lacks, IsCut}
+use Rattle.ext_text.specs.Cut.{Lacks, IsSplit}
 
 -- a byte is another than this one
 abbrev pub Differs : ℕ → ℕ → Type 0
@@ -33,16 +33,16 @@ lacks_tail byte b bs lacks = All-tail (Differs byte) b bs lacks
 pub lacks_all : (byte : ℕ) (bytes : List ℕ) → Lacks byte bytes → All (λ b. eqb b byte ≡ false) bytes
 lacks_all byte bytes lacks = λ k d within. not-true _ (lacks k d within)
 
-cut_more : (byte b : ℕ) (bytes : List ℕ) → Differs byte b → (Lacks byte bytes) ⊎ ((front : List ℕ) × (rest : List ℕ) × IsCut byte bytes front rest) → (Lacks byte (b ∷ bytes)) ⊎ ((front : List ℕ) × (rest : List ℕ) × IsCut byte (b ∷ bytes) front rest)
+cut_more : (byte b : ℕ) (bytes : List ℕ) → Differs byte b → (Lacks byte bytes) ⊎ ((prefix : List ℕ) × (rest : List ℕ) × IsSplit byte bytes prefix rest) → (Lacks byte (b ∷ bytes)) ⊎ ((prefix : List ℕ) × (rest : List ℕ) × IsSplit byte (b ∷ bytes) prefix rest)
 cut_more byte b bytes other (inl lacks) = inl (lacks_cons byte b bytes other lacks)
-cut_more byte b bytes other (inr (front, rest, cut)) = inr (b ∷ front, rest, record { whole = ap (λ xs. b ∷ xs) cut.whole; front_lacks = lacks_cons byte b front other cut.front_lacks })
+cut_more byte b bytes other (inr (prefix, rest, cut)) = inr (b ∷ prefix, rest, record { whole = ap (λ xs. b ∷ xs) cut.whole; prefix_lacks = lacks_cons byte b prefix other cut.prefix_lacks })
 
 -- a text lacks a byte or is cut at its first place
-pub cut_or_lacks : (byte : ℕ) (bytes : List ℕ) → (Lacks byte bytes) ⊎ ((front : List ℕ) × (rest : List ℕ) × IsCut byte bytes front rest)
+pub cut_or_lacks : (byte : ℕ) (bytes : List ℕ) → (Lacks byte bytes) ⊎ ((prefix : List ℕ) × (rest : List ℕ) × IsSplit byte bytes prefix rest)
 cut_or_lacks byte [] = inl (lacks_nil byte)
 cut_or_lacks byte (b ∷ bytes) =
-    elim (eqb b byte) as (λ t. eqb b byte ≡ t → (Lacks byte (b ∷ bytes)) ⊎ ((front : List ℕ) × (rest : List ℕ) × IsCut byte (b ∷ bytes) front rest)) [
-      | true ↦ λ is. inr ([], bytes, record { whole = ap (λ x. x ∷ bytes) (eqb-true b byte is); front_lacks = lacks_nil byte })
+    elim (eqb b byte) as (λ t. eqb b byte ≡ t → (Lacks byte (b ∷ bytes)) ⊎ ((prefix : List ℕ) × (rest : List ℕ) × IsSplit byte (b ∷ bytes) prefix rest)) [
+      | true ↦ λ is. inr ([], bytes, record { whole = ap (λ x. x ∷ bytes) (eqb-true b byte is); prefix_lacks = lacks_nil byte })
       | false ↦ λ other. cut_more byte b bytes (ap not other) (cut_or_lacks byte bytes)
     ] refl
 
@@ -65,10 +65,10 @@ cut_none byte (b ∷ text) [] r lacks e = lacks_head byte b text lacks (ap (λ (
 cut_none byte (b ∷ text) (c ∷ f) r lacks e = cut_none byte text f r (lacks_tail byte b text lacks) (ap (drop 1) e)
 
 -- so what is cut at a byte is the field in front of it
-pub cut_field : (byte : ℕ) (text front rest f r : List ℕ) → IsCut byte text front rest → Lacks byte f
-    → text ≡ f ++ byte ∷ r → (front ≡ f) × (rest ≡ r)
-cut_field byte text front rest f r cut lacks e =
-    cut_once byte front f rest r cut.front_lacks lacks (sym cut.whole ∙ e)
+pub cut_field : (byte : ℕ) (text prefix rest f r : List ℕ) → IsSplit byte text prefix rest → Lacks byte f
+    → text ≡ f ++ byte ∷ r → (prefix ≡ f) × (rest ≡ r)
+cut_field byte text prefix rest f r cut lacks e =
+    cut_once byte prefix f rest r cut.prefix_lacks lacks (sym cut.whole ∙ e)
 
 -- as many bytes are cut off in one way
 pub cut_same : (f g r s : List ℕ) → length f ≡ length g → f ++ r ≡ g ++ s → (f ≡ g) × (r ≡ s)

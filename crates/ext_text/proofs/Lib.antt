@@ -3,4 +3,4 @@ pub mod Cuts
 pub mod Facts
 pub mod Lists
 pub mod Parts
-pub mod PathFronts
+pub mod PathPrefixes

@@ -6,7 +6,7 @@ use Rattle.std.specs.List.{flat_map, AllByRecursion, slice_split, count_by}
 use Rattle.std.proofs.lemmas.Bool.{eq-eqb}
 use Rattle.std.proofs.lemmas.List.Splits.{slice_split_none, slice_split_at, join_with_byte-slice_split, length-slice_split}
 use Rattle.std.proofs.lemmas.List.Sums.{sum_by-append, sum_by-cons}
-use Rattle.ext_text.specs.Cut.{Lacks, IsCut}
+use Rattle.ext_text.specs.Cut.{Lacks, IsSplit}
 use Rattle.ext_text.specs.Name.{IsName}
 use Rattle.ext_text.specs.Path.{IsPath, IsPartsErr, ReadsPath, path_text, path_parts}
 use Rattle.ext_text.specs.declared.path.PathErr.{PathErr}
@@ -19,9 +19,9 @@ pub split_none : (byte : ℕ) (bytes : List ℕ) → Lacks byte bytes → slice_
 split_none byte bytes lacks = slice_split_none (λ b. eqb b byte) bytes (lacks_all byte bytes lacks)
 
 -- at a cut, the first part is the front
-pub split_cut : (byte : ℕ) (bytes front rest : List ℕ) → IsCut byte bytes front rest → slice_split (λ b. eqb b byte) bytes ≡ front ∷ slice_split (λ b. eqb b byte) rest
-split_cut byte bytes front rest cut =
-    ap (slice_split (λ b. eqb b byte)) cut.whole ∙ slice_split_at (λ b. eqb b byte) front byte rest (lacks_all byte front cut.front_lacks) (eq-eqb byte byte refl)
+pub split_cut : (byte : ℕ) (bytes prefix rest : List ℕ) → IsSplit byte bytes prefix rest → slice_split (λ b. eqb b byte) bytes ≡ prefix ∷ slice_split (λ b. eqb b byte) rest
+split_cut byte bytes prefix rest cut =
+    ap (slice_split (λ b. eqb b byte)) cut.whole ∙ slice_split_at (λ b. eqb b byte) prefix byte rest (lacks_all byte prefix cut.prefix_lacks) (eq-eqb byte byte refl)
 
 -- the parts of a text that is not empty
 pub parts_some : (bytes : List ℕ) → 0 < length bytes → path_parts bytes ≡ slice_split (λ b. eqb b 47) bytes
@@ -50,16 +50,16 @@ path_text-cons n [] = sym (append-nil n)
 path_text-cons n (m ∷ ns) = ap (λ (r : List ℕ). n ++ 47 ∷ r) (path_text-cons m ns)
 
 -- the path of both lists of names
-pub path_of : (front behind : List (List ℕ)) → AllByRecursion IsName front → AllByRecursion IsName behind → length front + length behind ≤ 64 → sum_by (λ n. length n + 1) front + sum_by (λ n. length n + 1) behind ≤ 4097 → IsPath (front ++ behind)
-path_of front behind f b few short = record {
-  each = all_append IsName front behind f b;
-  depth = omega (arith, length-append front behind);
-  size = omega (arith, length-path_text (front ++ behind), sum_by-append (λ (n : List ℕ). length n + 1) front behind);
+pub path_of : (prefix after : List (List ℕ)) → AllByRecursion IsName prefix → AllByRecursion IsName after → length prefix + length after ≤ 64 → sum_by (λ n. length n + 1) prefix + sum_by (λ n. length n + 1) after ≤ 4097 → IsPath (prefix ++ after)
+path_of prefix after f b few short = record {
+  each = all_append IsName prefix after f b;
+  depth = omega (arith, length-append prefix after);
+  size = omega (arith, length-path_text (prefix ++ after), sum_by-append (λ (n : List ℕ). length n + 1) prefix after);
 }
 
 -- how long the text of both is
-pub length-both : (front behind : List (List ℕ)) → length (path_text (front ++ behind)) ≡ sum_by (λ n. length n + 1) front + sum_by (λ n. length n + 1) behind - 1
-length-both front behind = omega (arith, length-path_text (front ++ behind), sum_by-append (λ (n : List ℕ). length n + 1) front behind)
+pub length-both : (prefix after : List (List ℕ)) → length (path_text (prefix ++ after)) ≡ sum_by (λ n. length n + 1) prefix + sum_by (λ n. length n + 1) after - 1
+length-both prefix after = omega (arith, length-path_text (prefix ++ after), sum_by-append (λ (n : List ℕ). length n + 1) prefix after)
 
 -- a text whose length is not 0
 some_byte : (bytes : List ℕ) → false ≡ eqb (length bytes) 0 → 0 < length bytes

@@ -7,6 +7,6 @@ abbrev pub Lacks : ℕ → List ℕ → Type 0
 Lacks byte bytes = AllPass (λ b. not (b == byte)) bytes
 
 -- the text is a front without the byte, the byte, and the rest
-pub record IsCut (byte : ℕ) (bytes front rest : List ℕ) : Type 0 where
-  pub whole : bytes ≡ front ++ byte ∷ rest
-  pub front_lacks : Lacks byte front
+pub record IsSplit (byte : ℕ) (bytes prefix rest : List ℕ) : Type 0 where
+  pub whole : bytes ≡ prefix ++ byte ∷ rest
+  pub prefix_lacks : Lacks byte prefix

@@ -26,8 +26,8 @@ pub record IsName (bytes : List ℕ) : Type 0 where
   pub text : IsUtf8 bytes
 
 -- byte by byte, a front first
-abbrev pub name_cmp : List ℕ → List ℕ → Ordering
-name_cmp = slice_cmp nat_cmp
+abbrev pub bytes_cmp : List ℕ → List ℕ → Ordering
+bytes_cmp = slice_cmp nat_cmp
 
 -- what `Name::read` answers: the name, or that the bytes are none
 abbrev pub ReadsName : List ℕ → Result (List ℕ) NameErr → Type 0

@@ -6,12 +6,12 @@ use Rattle.std.specs.Hash as fed
 use Rattle.std.specs.Cmp.{IsTotalOrder, IsPartialOrder, Agrees}
 use Rattle.std.specs.Cmp.Lexicographic.{pointwise, slice_partial_cmp, lists_po, lists_agrees, lists_total, nat_list_cmp_total, texts_po}
 use Rattle.std.specs.FinMap.{IsAntisymmetric, slice_cmp-IsAntisymmetric, nat_cmp-IsAntisymmetric}
-use Rattle.ext_text.specs.Name.{name_cmp}
+use Rattle.ext_text.specs.Name.{bytes_cmp}
 use Rattle.ext_text.specs.Path.{path_cmp}
 
 pub paths_po : IsPartialOrder (pointwise (pointwise nat_eq)) (λ xs ys. Some (path_cmp xs ys))
 paths_po =
-    let agrees : Agrees (slice_partial_cmp (λ x y. Some (name_cmp x y))) path_cmp = lists_agrees (λ x y. refl) in
+    let agrees : Agrees (slice_partial_cmp (λ x y. Some (bytes_cmp x y))) path_cmp = lists_agrees (λ x y. refl) in
     subst (IsPartialOrder (pointwise (pointwise nat_eq))) (λ i xs ys. agrees xs ys i) (lists_po texts_po)
 
 -- path order is total

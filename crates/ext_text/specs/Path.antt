@@ -1,10 +1,10 @@
 -- Paths of entries: lists of names, from the root on. Their text is the names with `/` between each two.
-use Rattle.std.specs.Prelude.{◌≡◌, ℕ, ◌-◌, ◌<◌, ◌≤◌, Bool, true, false, ◌&&◌, ◌==◌, List, [], ◌∷◌, length, take, Result, Ok, Err}
+use Rattle.std.specs.Prelude.{◌≡◌, ℕ, ◌-◌, ◌<◌, ◌≤◌, Bool, true, false, not, ◌&&◌, ◌==◌, List, [], ◌∷◌, length, take, Result, Ok, Err}
 use Rattle.std.specs.List.{AllByRecursion, join_with_byte, slice_split}
 use Rattle.std.specs.Cmp.Lexicographic.{slice_cmp}
 use Rattle.std.specs.Ordering.{eq_by_cmp}
 use Rattle.std.specs.declared.cmp.Ordering.{Ordering}
-use Rattle.ext_text.specs.Name.{IsName, name_cmp}
+use Rattle.ext_text.specs.Name.{IsName, bytes_cmp}
 use Rattle.ext_text.specs.declared.path.PathErr.{PathErr}
 use Rattle.ext_text.specs.declared.path.PathErr.TheVariants.{OutOfMemory, TooLong, TooDeep, BadName}
 
@@ -25,17 +25,21 @@ pub record IsPath (names : List (List ℕ)) : Type 0 where
 
 -- lists of names, names byte by byte, a front first
 abbrev pub path_cmp : List (List ℕ) → List (List ℕ) → Ordering
-path_cmp = slice_cmp name_cmp
+path_cmp = slice_cmp bytes_cmp
 
 -- all names but the last; the root's parent is the root
 abbrev pub parent : List (List ℕ) → List (List ℕ)
 parent names = take (length names - 1) names
 
 -- the second path is the first one or lies below it
-abbrev pub is_front : List (List ℕ) → List (List ℕ) → Bool
-is_front [] q = true
-is_front (n ∷ p) [] = false
-is_front (n ∷ p) (m ∷ q) = eq_by_cmp name_cmp n m && is_front p q
+abbrev pub is_prefix : List (List ℕ) → List (List ℕ) → Bool
+is_prefix [] q = true
+is_prefix (n ∷ p) [] = false
+is_prefix (n ∷ p) (m ∷ q) = eq_by_cmp bytes_cmp n m && is_prefix p q
+
+-- the second path lies below the first: a proper prefix is shorter than the whole
+abbrev pub is_proper_prefix : List (List ℕ) → List (List ℕ) → Bool
+is_proper_prefix p q = is_prefix p q && not (is_prefix q p)
 
 -- what `Path::read` answers: the path of this text, or the first of the reasons against it
 abbrev pub ReadsPath : List ℕ → Result (List (List ℕ)) PathErr → Type 0

@@ -24,7 +24,7 @@ mod which;
 
 pub use arch::Arch;
 pub use class::Class;
-pub use cut::cut_at;
+pub use cut::split_at_byte;
 pub use digest::Digest;
 pub use list::ListOf;
 pub use memory::OutOfMemory;

@@ -5,7 +5,7 @@ ghost use Rattle.std.specs.Cmp.Lexicographic.{pointwise, lists_equiv, lists_tota
 ghost use Rattle.std.specs.Cmp.Rules.{hashing};
 ghost use Rattle.std.specs.Hash as fed;
 ghost use Rattle.std.proofs.Common.{rules, refl};
-ghost use Rattle.ext_text.specs.Name.{name_cmp};
+ghost use Rattle.ext_text.specs.Name.{bytes_cmp};
 ghost use Rattle.ext_text.specs.Path.{path_cmp};
 ghost use Rattle.ext_text.specs.Order.{paths_alike, paths_po};
 
@@ -30,7 +30,7 @@ impl Eq for Text {
 }
 
 impl PartialOrd for Text {
-    ghost partial_cmp = { λ x y. Some (name_cmp x y) };
+    ghost partial_cmp = { λ x y. Some (bytes_cmp x y) };
 
     ghost laws = { texts_po };
 
@@ -40,7 +40,7 @@ impl PartialOrd for Text {
 }
 
 impl Ord for Text {
-    ghost cmp = { name_cmp };
+    ghost cmp = { bytes_cmp };
 
     ghost total = { nat_list_cmp_total };
 
@@ -78,7 +78,7 @@ impl Eq for Name {
 }
 
 impl PartialOrd for Name {
-    ghost partial_cmp = { λ x y. Some (name_cmp x y) };
+    ghost partial_cmp = { λ x y. Some (bytes_cmp x y) };
 
     ghost laws = { texts_po };
 
@@ -88,7 +88,7 @@ impl PartialOrd for Name {
 }
 
 impl Ord for Name {
-    ghost cmp = { name_cmp };
+    ghost cmp = { bytes_cmp };
 
     ghost total = { nat_list_cmp_total };
 
@@ -142,7 +142,7 @@ impl Ord for Path {
 
     ghost matches_partial_cmp = { λ x y. refl };
 
-    ghost matches_eq = { lists_ties name_cmp texts_ties };
+    ghost matches_eq = { lists_ties bytes_cmp texts_ties };
 
     fn cmp(&self, other: &Path) -> Ordering {
         self.names().cmp(other.names())

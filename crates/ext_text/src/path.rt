@@ -1,8 +1,8 @@
 ghost use Rattle.std.specs.Prelude.{◌≡◌, ◌+◌, ◌-◌, ◌<◌, ◌≤◌, [], ◌∷◌, ◌++◌, ◌^◌, length, take, ◌==◌, IsTrue, IfOk, IfErr, OnErr, OnOk, MatchOption, count_by};
-ghost use Rattle.ext_text.specs.Cut.{IsCut, Lacks};
+ghost use Rattle.ext_text.specs.Cut.{IsSplit, Lacks};
 ghost use Rattle.std.specs.List.{AllByRecursion, flat_map, slice_split, sum_by};
 ghost use Rattle.ext_text.specs.Name.{IsName};
-ghost use Rattle.ext_text.specs.Path.{IsPath, IsPartsErr, ReadsPath, Lengthens, path_text, path_parts, parent, is_front};
+ghost use Rattle.ext_text.specs.Path.{IsPath, IsPartsErr, ReadsPath, Lengthens, path_text, path_parts, parent, is_prefix};
 
 use crate::memory::OutOfMemory;
 use crate::name::{Name, NameErr};
@@ -125,13 +125,13 @@ impl Path {
     {
         match self.names.as_slice() {
             [] => &[],
-            [front @ .., _last] => front,
+            [prefix @ .., _last] => prefix,
         }
     }
 
     /// Whether this path is the other one or lies below it.
     pub fn starts_with(&self, other: &Path) -> bool
-        ensures { result ≡ is_front other.now self.now }
+        ensures { result ≡ is_prefix other.now self.now }
     {
         self.names.as_slice().starts_with(other.names.as_slice())
     }
@@ -207,9 +207,9 @@ fn append_parts(names: &mut Vec<Name>, bytes: &[u8]) -> Result<(), PathErr>
     let mut rest = bytes;
     'parts: loop {
         match cut_part(rest) {
-            Some((part, behind)) => {
+            Some((part, after)) => {
                 push_name(names, part)?;
-                rest = behind;
+                rest = after;
             }
             None => return push_name(names, rest),
         }
@@ -218,7 +218,7 @@ fn append_parts(names: &mut Vec<Name>, bytes: &[u8]) -> Result<(), PathErr>
 
 // The part before the first slash, and the text behind it. Most parts are short, so each byte is looked at in turn.
 fn cut_part(bytes: &[u8]) -> Option<(&[u8], &[u8])>
-    ensures { MatchOption result (Lacks 47 bytes.now) (λ cut. IsCut 47 bytes.now cut.0.now cut.1.now) }
+    ensures { MatchOption result (Lacks 47 bytes.now) (λ cut. IsSplit 47 bytes.now cut.0.now cut.1.now) }
 {
     match bytes.iter().position(|byte| *byte == b'/') {
         None => None,
@@ -226,7 +226,7 @@ fn cut_part(bytes: &[u8]) -> Option<(&[u8], &[u8])>
             let (part, rest) = bytes.split_at(place);
             match rest {
                 [] => None,
-                [_slash, behind @ ..] => Some((part, behind)),
+                [_slash, after @ ..] => Some((part, after)),
             }
         }
     }
@@ -287,36 +287,36 @@ fn text_len(names: &[Name]) -> usize
 }
 
 // The path of the names and one more.
-fn lengthened(alloc: Global, front: &[Name], name: &Name) -> Result<Path, PathErr>
-    requires { IsPath front.now }
-    ensures { Lengthens (front.now ++ name.now ∷ []) result }
+fn lengthened(alloc: Global, prefix: &[Name], name: &Name) -> Result<Path, PathErr>
+    requires { IsPath prefix.now }
+    ensures { Lengthens (prefix.now ++ name.now ∷ []) result }
 {
-    if text_len(front) + name.bytes().len() > MOST_BYTES {
+    if text_len(prefix) + name.bytes().len() > MOST_BYTES {
         return Err(PathErr::TooLong);
     }
-    if front.len() >= MOST_NAMES {
+    if prefix.len() >= MOST_NAMES {
         return Err(PathErr::TooDeep);
     }
-    let mut names = Vec::with_capacity(alloc, front.len() + 1)?;
-    append_copies(&mut names, front)?;
+    let mut names = Vec::with_capacity(alloc, prefix.len() + 1)?;
+    append_copies(&mut names, prefix)?;
     names.push(name.copy()?)?;
     Ok(Path { names })
 }
 
 // The path of both lists of names in a row.
-fn joined(alloc: Global, front: &[Name], behind: &[Name]) -> Result<Path, PathErr>
-    requires front { IsPath front.now }
-    requires behind { IsPath behind.now }
-    ensures { Lengthens (front.now ++ behind.now) result }
+fn joined(alloc: Global, prefix: &[Name], after: &[Name]) -> Result<Path, PathErr>
+    requires prefix { IsPath prefix.now }
+    requires after { IsPath after.now }
+    ensures { Lengthens (prefix.now ++ after.now) result }
 {
-    if text_len(front) + text_len(behind) > MOST_BYTES + 1 {
+    if text_len(prefix) + text_len(after) > MOST_BYTES + 1 {
         return Err(PathErr::TooLong);
     }
-    if front.len() + behind.len() > MOST_NAMES {
+    if prefix.len() + after.len() > MOST_NAMES {
         return Err(PathErr::TooDeep);
     }
-    let mut names = Vec::with_capacity(alloc, front.len() + behind.len())?;
-    append_copies(&mut names, front)?;
-    append_copies(&mut names, behind)?;
+    let mut names = Vec::with_capacity(alloc, prefix.len() + after.len())?;
+    append_copies(&mut names, prefix)?;
+    append_copies(&mut names, after)?;
     Ok(Path { names })
 }

@@ -1,6 +1,6 @@
 use crate::{
     Arch, Class, Digest, Mode, Name, NameErr, Names, OutOfMemory, Path, PathErr, Scope, Text,
-    cut_at,
+    split_at_byte,
 };
 use std::alloc::Global;
 use std::cmp::Ordering;
@@ -149,7 +149,7 @@ fn texts_lists_modes_and_digests(rt: HostRuntime) -> Result<(), Fail> {
     assert!(rt; digest.is_some_and(|digest| spells(&digest)));
     assert!(rt; Digest::read(b"ba78").is_none());
     assert_eq!(rt;
-        cut_at(b"a b c", b' '),
+        split_at_byte(b"a b c", b' '),
         Some((b"a".as_slice(), b"b c".as_slice()))
     );
     assert_eq!(rt; OutOfMemory, OutOfMemory);

@@ -5,7 +5,7 @@ use mathlib.Core.Logic.{inl, inr}
 use Rattle.std.proofs.lemmas.List.{append-nil, append_cancel_left}
 use Rattle.std.proofs.lemmas.List.Sums.{AllPass-from_list_all}
 use Rattle.std.specs.List.{AllByRecursion, flat_map}
-use Rattle.ext_text.specs.Cut.{Lacks, IsCut}
+use Rattle.ext_text.specs.Cut.{Lacks, IsSplit}
 use Rattle.ext_text.proofs.Cuts.{cut_or_lacks, lacks_nil}
 use Rattle.ext_text.proofs.Lists.{all_append}
 use Rattle.ext_tree.specs.declared.stamp.Stamp.{Stamp}
@@ -14,7 +14,7 @@ use Rattle.ext_tree.specs.TreeText.{HasLine, HasText, entry_line, tree_lines, li
 use Rattle.ext_tree.specs.FirstFault.{Begins, IsFirstFault, whole_lines}
 use Rattle.ext_tree.specs.Reading.{NoneNext}
 use Rattle.ext_tree.proofs.LineLaws.{line_lacks}
-use Rattle.ext_tree.proofs.TextFronts.{lines_of}
+use Rattle.ext_tree.proofs.TextPrefixes.{lines_of}
 use Rattle.ext_tree.proofs.WholeLines.{whole_lines-text, whole_lines-cut, whole_lines-lacks, lines_text-append}
 
 -- ---- the lines of texts
@@ -88,16 +88,16 @@ early_end wanted bytes lines rest stuck lacks =
       }),
     )
 
-faulty_line : (wanted : List (Entries Stamp) → Type 0) (bytes : List ℕ) (lines : List (List ℕ)) (rest l more : List ℕ) → IsStuck wanted bytes lines rest → IsCut 10 rest l more → NoRow wanted bytes × IsFirstFault wanted bytes (length lines + 1)
+faulty_line : (wanted : List (Entries Stamp) → Type 0) (bytes : List ℕ) (lines : List (List ℕ)) (rest l more : List ℕ) → IsStuck wanted bytes lines rest → IsSplit 10 rest l more → NoRow wanted bytes × IsFirstFault wanted bytes (length lines + 1)
 faulty_line wanted bytes lines rest l more stuck cut =
-    let behind : lines ++ whole_lines rest ≡ lines ++ l ∷ whole_lines more = ap (λ xs. lines ++ xs) (whole_lines-cut rest l more cut) in
-    let seen : whole_lines bytes ≡ lines ++ l ∷ whole_lines more = ap whole_lines stuck.text ∙ whole_lines-text lines rest stuck.lacks ∙ behind in (
+    let after : lines ++ whole_lines rest ≡ lines ++ l ∷ whole_lines more = ap (λ xs. lines ++ xs) (whole_lines-cut rest l more cut) in
+    let seen : whole_lines bytes ≡ lines ++ l ∷ whole_lines more = ap whole_lines stuck.text ∙ whole_lines-text lines rest stuck.lacks ∙ after in (
       (λ trees as_many each text. stuck.stop l more cut (record {
         trees = trees;
         more = whole_lines more;
         as_many = as_many;
         each = each;
-        text = append_assoc lines (l ∷ []) (whole_lines more) ∙ sym behind ∙ whole_row wanted bytes lines rest stuck trees each text;
+        text = append_assoc lines (l ∷ []) (whole_lines more) ∙ sym after ∙ whole_row wanted bytes lines rest stuck trees each text;
       })),
       inl (record {
         counted = omega arith;

@@ -7,7 +7,7 @@ use Rattle.std.proofs.lemmas.Bool.{eqb-false}
 use Rattle.std.proofs.lemmas.List.{length-map}
 use Rattle.std.proofs.lemmas.List.Concat.{flat_map-append}
 use Rattle.std.specs.List.{AllByRecursion, flat_map}
-use Rattle.ext_text.specs.Cut.{Lacks, IsCut}
+use Rattle.ext_text.specs.Cut.{Lacks, IsSplit}
 use Rattle.ext_text.proofs.Lists.{all_append}
 use Rattle.ext_tree.specs.declared.stamp.Stamp.{Stamp}
 use Rattle.ext_tree.specs.declared.reading.TreeTextErr.{TreeTextErr}
@@ -16,7 +16,7 @@ use Rattle.ext_tree.specs.Tree.{Entries}
 use Rattle.ext_tree.specs.TreeText.{HasText, entry_line, tree_lines, lines_text, tree_text}
 use Rattle.ext_tree.specs.FirstFault.{IsFirstFault, IsOne, AtLeastOne, ReadsTree, ReadsRow}
 use Rattle.ext_tree.specs.Reading.{MayStand, NoneNext, StopsBody, StopsText, BeginsText, TextFault}
-use Rattle.ext_tree.proofs.TextFronts.{lines_of, empty_text}
+use Rattle.ext_tree.proofs.TextPrefixes.{lines_of, empty_text}
 use Rattle.ext_tree.proofs.WholeLines.{lines_text-append}
 use Rattle.ext_tree.proofs.BodyLines.{line_more, length-tree_lines}
 use Rattle.ext_tree.proofs.Rows.{next_line, open_body, row_peeled, ended}
@@ -105,7 +105,7 @@ stuck_header wanted bytes done rest hd longer none text unended stop = record {
     no_trees (t ∷ trees) is = absurd (cc)
 
 stuck_entries : (wanted : List (Entries Stamp) → Type 0) (bytes : List ℕ) (done : List (Entries Stamp)) (rest body : List ℕ) (first line : ℕ) → AllByRecursion HasText done → ((t : Entries Stamp) → wanted (done ++ t ∷ [])) → bytes ≡ flat_map tree_text done ++ rest
-    → IsCut 10 rest (codes "hostext-tree 1") body → (stops : StopsBody body first line) → IsStuck wanted bytes (open_lines done stops.entries) stops.rest
+    → IsSplit 10 rest (codes "hostext-tree 1") body → (stops : StopsBody body first line) → IsStuck wanted bytes (open_lines done stops.entries) stops.rest
 stuck_entries wanted bytes done rest body first line hd longer text cut stops = record {
   text = read;
   lacks = all_append (Lacks 10) (flat_map tree_lines done) (codes "hostext-tree 1" ∷ map entry_line stops.entries) (row_lacks done hd) (header_lacks, entries_lack stops.entries (lines_of stops.entries stops.tree));
@@ -190,19 +190,19 @@ pub grown_by : (done longer : List (Entries Stamp)) (item t : Entries Stamp) →
 grown_by done longer item t grown same = grown ∙ ap (λ x. done ++ x ∷ []) same
 
 -- the texts of the trees so far, and one more
-pub texts_more : (bytes : List ℕ) (done longer : List (Entries Stamp)) (t : Entries Stamp) (rest : List ℕ) (first : ℕ) (behind : List ℕ) (next : ℕ) → bytes ≡ flat_map tree_text done ++ rest → BeginsText rest first t behind next → longer ≡ done ++ t ∷ [] → bytes ≡ flat_map tree_text longer ++ behind
-texts_more bytes done longer t rest first behind next text begins grown =
+pub texts_more : (bytes : List ℕ) (done longer : List (Entries Stamp)) (t : Entries Stamp) (rest : List ℕ) (first : ℕ) (after : List ℕ) (next : ℕ) → bytes ≡ flat_map tree_text done ++ rest → BeginsText rest first t after next → longer ≡ done ++ t ∷ [] → bytes ≡ flat_map tree_text longer ++ after
+texts_more bytes done longer t rest first after next text begins grown =
     text ∙ ap (λ xs. flat_map tree_text done ++ xs) begins.text
-    ∙ sym (append_assoc (flat_map tree_text done) (tree_text t) behind)
-    ∙ ap (λ xs. (flat_map tree_text done ++ xs) ++ behind) (sym (append-nil (tree_text t)))
-    ∙ ap (λ xs. xs ++ behind) (sym (flat_map-append tree_text done (t ∷ [])))
-    ∙ ap (λ ts. flat_map tree_text ts ++ behind) (sym grown)
+    ∙ sym (append_assoc (flat_map tree_text done) (tree_text t) after)
+    ∙ ap (λ xs. (flat_map tree_text done ++ xs) ++ after) (sym (append-nil (tree_text t)))
+    ∙ ap (λ xs. xs ++ after) (sym (flat_map-append tree_text done (t ∷ [])))
+    ∙ ap (λ ts. flat_map tree_text ts ++ after) (sym grown)
 
 pub each_more : (done longer : List (Entries Stamp)) (t : Entries Stamp) → AllByRecursion HasText done → HasText t → longer ≡ done ++ t ∷ [] → AllByRecursion HasText longer
 each_more done longer t each text grown = subst (AllByRecursion HasText) (sym grown) (all_append HasText done (t ∷ []) each (text, tt))
 
-pub counted_more : (done longer : List (Entries Stamp)) (t : Entries Stamp) (rest : List ℕ) (first : ℕ) (behind : List ℕ) (next : ℕ) → first ≡ 1 + length (flat_map tree_lines done) → BeginsText rest first t behind next → longer ≡ done ++ t ∷ [] → next ≡ 1 + length (flat_map tree_lines longer)
-counted_more done longer t rest first behind next counted begins grown =
+pub counted_more : (done longer : List (Entries Stamp)) (t : Entries Stamp) (rest : List ℕ) (first : ℕ) (after : List ℕ) (next : ℕ) → first ≡ 1 + length (flat_map tree_lines done) → BeginsText rest first t after next → longer ≡ done ++ t ∷ [] → next ≡ 1 + length (flat_map tree_lines longer)
+counted_more done longer t rest first after next counted begins grown =
     let lines : length (flat_map tree_lines longer) ≡ length (flat_map tree_lines done) + length (tree_lines t) =
     ap (λ ts. length (flat_map tree_lines ts)) grown ∙ ap length (one_more done t) ∙ length-append (flat_map tree_lines done) (tree_lines t) in
     omega (arith, begins.counted)
@@ -212,12 +212,12 @@ lines_short : (lines : List (List ℕ)) → length lines ≤ length (lines_text 
 lines_short [] = omega arith
 lines_short (l ∷ lines) = omega (arith, lines_short lines, length-append (l ++ 10 ∷ []) (lines_text lines), length-append l (10 ∷ []))
 
-pub text_room : (rest : List ℕ) (first : ℕ) (t : Entries Stamp) (behind : List ℕ) (next : ℕ) → BeginsText rest first t behind next → next + length behind ≤ first + length rest
-text_room rest first t behind next begins =
-    omega (arith, begins.counted, lines_short (tree_lines t), ap length begins.text, length-append (tree_text t) behind)
+pub text_room : (rest : List ℕ) (first : ℕ) (t : Entries Stamp) (after : List ℕ) (next : ℕ) → BeginsText rest first t after next → next + length after ≤ first + length rest
+text_room rest first t after next begins =
+    omega (arith, begins.counted, lines_short (tree_lines t), ap length begins.text, length-append (tree_text t) after)
 
-pub text_next : (rest : List ℕ) (first : ℕ) (t : Entries Stamp) (behind : List ℕ) (next : ℕ) → BeginsText rest first t behind next → first + 2 ≤ next
-text_next rest first t behind next begins = omega (arith, begins.counted, length-tree_lines t)
+pub text_next : (rest : List ℕ) (first : ℕ) (t : Entries Stamp) (after : List ℕ) (next : ℕ) → BeginsText rest first t after next → first + 2 ≤ next
+text_next rest first t after next begins = omega (arith, begins.counted, length-tree_lines t)
 
 -- ---- bytes that are not empty
 

@@ -10,21 +10,21 @@ use Rattle.std.proofs.lemmas.Float.{T_from_true}
 use Rattle.ext_text.specs.Path.{IsPath, path_cmp, parent}
 use Rattle.ext_text.specs.Order.{paths_total}
 use Rattle.ext_text.proofs.Facts.{true_from_T}
-use Rattle.ext_text.proofs.PathFronts.{same_path}
+use Rattle.ext_text.proofs.PathPrefixes.{same_path}
 use Rattle.ext_tree.specs.declared.entry.Entry.{Entry}
 use Rattle.ext_tree.specs.declared.tree.TreeErr.TheVariants.{Exists, NotDirectory, Limit}
-use Rattle.ext_tree.specs.Tree.{Entries, IsTree, IsTreeWithin, lookup, is_dir_at, is_folder, most_entries}
+use Rattle.ext_tree.specs.Tree.{Entries, IsTree, IsTreeWithin, lookup, is_directory_at, is_directory_or_root, most_entries}
 use Rattle.ext_tree.specs.Refusals.{insert_refusal, is_root}
 use Rattle.ext_tree.specs.Place.{place}
 use Rattle.ext_tree.proofs.Place.{find_there, insert_here}
 
 -- the folder of an entry is one, by whatever spelling
-pub folder_of : {C : Type 0} (es : Entries C) (i : ℕ) (e : List (List ℕ) × Entry C) (folder : List (List ℕ)) → IsTree es → slice_get es i ≡ Some e → eq_by_cmp path_cmp folder (parent e.0) ≡ true → IsTrue (is_folder es folder)
-folder_of es i e folder tree at same =
+pub directory_of : {C : Type 0} (es : Entries C) (i : ℕ) (e : List (List ℕ) × Entry C) (directory : List (List ℕ)) → IsTree es → slice_get es i ≡ Some e → eq_by_cmp path_cmp directory (parent e.0) ≡ true → IsTrue (is_directory_or_root es directory)
+directory_of es i e directory tree at same =
     let there = find_there path_cmp paths_total es i e tree.sorted at in
-    subst (λ f. IsTrue (is_folder es f)) (sym (same_path folder (parent e.0) same)) (tree.parents e.0 (ap is_some there))
+    subst (λ f. IsTrue (is_directory_or_root es f)) (sym (same_path directory (parent e.0) same)) (tree.parents e.0 (ap is_some there))
 
-none_there : {C : Type 0} (o : Option (Entry C)) → is_some o ≡ false → is_dir_at o ≡ true → ⊥
+none_there : {C : Type 0} (o : Option (Entry C)) → is_some o ≡ false → is_directory_at o ≡ true → ⊥
 none_there None h dir = false≢true dir
 none_there (Some e) h dir = true≢false h
 
@@ -36,20 +36,20 @@ no_entry (Some x) h = absurd (true≢false h)
 pub record IsFree {C : Type 0} (es : Entries C) (p : List (List ℕ)) : Type 0 where
   pub below : is_root p ≡ false
   pub absent : is_some (lookup es p) ≡ false
-  pub folder : is_folder es (parent p) ≡ true
+  pub directory : is_directory_or_root es (parent p) ≡ true
   pub room : length es < most_entries
 
-free_by : (there folder full : Bool) → cond there (Some Exists) (cond (not folder) (Some NotDirectory) (cond full (Some Limit) None)) ≡ None → (there ≡ false) × (folder ≡ true) × (full ≡ false)
-free_by true folder full h = absurd (true≢false (ap is_some h))
+free_by : (there directory full : Bool) → cond there (Some Exists) (cond (not directory) (Some NotDirectory) (cond full (Some Limit) None)) ≡ None → (there ≡ false) × (directory ≡ true) × (full ≡ false)
+free_by true directory full h = absurd (true≢false (ap is_some h))
 free_by false false full h = absurd (true≢false (ap is_some h))
 free_by false true true h = absurd (true≢false (ap is_some h))
 free_by false true false h = (refl, refl, refl)
 
 pub is_free : {C : Type 0} (es : Entries C) (p : List (List ℕ)) → insert_refusal es p ≡ None → IsFree es p
 is_free es p h =
-    let parts = free_by (is_root p || is_some (lookup es p)) (is_folder es (parent p)) (nat_le most_entries (length es)) h in
+    let parts = free_by (is_root p || is_some (lookup es p)) (is_directory_or_root es (parent p)) (nat_le most_entries (length es)) h in
     let here = or_parts (is_root p) (is_some (lookup es p)) parts.0 in
-    record { below = here.0; absent = here.1; folder = parts.1; room = leb-false most_entries (length es) parts.2 }
+    record { below = here.0; absent = here.1; directory = parts.1; room = leb-false most_entries (length es) parts.2 }
 
 -- a look-up in a tree with one entry more
 at_put : {C : Type 0} (es : Entries C) (p q : List (List ℕ)) (e : Entry C) (P : List (List ℕ) → Type 0) → P p → (IsTrue (is_some (lookup es q)) → P q) → IsTrue (is_some (lookup (put path_cmp p e es) q)) → P q
@@ -60,11 +60,11 @@ at_put es p q e P here there h =
     ] refl (sym (ap is_some (find-put path_cmp paths_total q p e es)) ∙ h)
 
 -- a folder stays one where an entry comes that was absent
-folder_stays : {C : Type 0} (es : Entries C) (p f : List (List ℕ)) (e : Entry C) → is_some (lookup es p) ≡ false → IsTrue (is_folder es f) → IsTrue (is_folder (put path_cmp p e es) f)
-folder_stays es p [] e absent h = refl
-folder_stays es p (n ∷ f) e absent h =
-    ap is_dir_at (find-put path_cmp paths_total (n ∷ f) p e es)
-    ∙ elim (eq_by_cmp path_cmp (n ∷ f) p) as (λ b. eq_by_cmp path_cmp (n ∷ f) p ≡ b → is_dir_at (cond b (Some e) (lookup es (n ∷ f))) ≡ true) [
+directory_stays : {C : Type 0} (es : Entries C) (p f : List (List ℕ)) (e : Entry C) → is_some (lookup es p) ≡ false → IsTrue (is_directory_or_root es f) → IsTrue (is_directory_or_root (put path_cmp p e es) f)
+directory_stays es p [] e absent h = refl
+directory_stays es p (n ∷ f) e absent h =
+    ap is_directory_at (find-put path_cmp paths_total (n ∷ f) p e es)
+    ∙ elim (eq_by_cmp path_cmp (n ∷ f) p) as (λ b. eq_by_cmp path_cmp (n ∷ f) p ≡ b → is_directory_at (cond b (Some e) (lookup es (n ∷ f))) ≡ true) [
       | true ↦ λ same. absurd (none_there (lookup es (n ∷ f)) (ap (λ q. is_some (lookup es q)) (same_path (n ∷ f) p same) ∙ absent) h)
       | false ↦ λ _. h
     ] refl
@@ -84,7 +84,7 @@ tree_put es p e is path h =
         sorted = true_from_T _ (is_sorted-put path_cmp paths_total p e es (T_from_true _ tree.sorted));
         root = root_stays es p e free.below tree.root;
         paths = λ q. at_put es p q e IsPath path (tree.paths q);
-        parents = λ q. at_put es p q e (λ x. IsTrue (is_folder (put path_cmp p e es) (parent x))) (folder_stays es p (parent p) e free.absent free.folder) (λ was. folder_stays es p (parent q) e free.absent (tree.parents q was));
+        parents = λ q. at_put es p q e (λ x. IsTrue (is_directory_or_root (put path_cmp p e es) (parent x))) (directory_stays es p (parent p) e free.absent free.directory) (λ was. directory_stays es p (parent q) e free.absent (tree.parents q was));
       };
       count = subst (λ n. n ≤ most_entries) (sym (length-put path_cmp paths_total p e es (T_from_true _ tree.sorted) ∙ ap (λ b. cond b (length es) (length es + 1)) free.absent)) (omega arith);
     }

@@ -6,7 +6,7 @@ use Rattle.ext_tree.specs.declared.stamp.Stamp.{Stamp}
 use Rattle.ext_tree.specs.Tree.{Entries}
 use Rattle.ext_tree.specs.TreeText.{HasText, tree_lines, tree_text}
 use Rattle.ext_tree.specs.FirstFault.{whole_lines}
-use Rattle.ext_tree.specs.TextLaws.{OneTreeOfText, OneTextOfTree, NoFrontOfText, OneListOfRow, NoFaultInRow}
+use Rattle.ext_tree.specs.TextLaws.{OneTreeOfText, OneTextOfTree, NoPrefixOfText, OneListOfRow, NoFaultInRow}
 use Rattle.ext_tree.proofs.WholeLines.{whole_lines-text}
 use Rattle.ext_tree.proofs.Rows.{one_tree, row_peeled}
 use Rattle.ext_tree.proofs.Faults.{tree_lacks, row_lines}
@@ -15,8 +15,8 @@ use Rattle.ext_tree.proofs.Faults.{tree_lacks, row_lines}
 text_lines : (es : Entries Stamp) (rest : List ℕ) → HasText es → whole_lines (tree_text es ++ rest) ≡ tree_lines es ++ whole_lines rest
 text_lines es rest text = whole_lines-text (tree_lines es) rest (tree_lacks es text)
 
-pub front_law : NoFrontOfText
-front_law bytes more s t first second =
+pub prefix_law : NoPrefixOfText
+prefix_law bytes more s t first second =
     let whole : tree_text s ++ more ≡ tree_text t ++ [] = ap (λ xs. xs ++ more) (sym first.text) ∙ second.text ∙ sym (append-nil (tree_text t)) in
     let lines : tree_lines s ++ whole_lines more ≡ tree_lines t ++ whole_lines [] = sym (text_lines s more first.tree) ∙ ap whole_lines whole ∙ text_lines t [] second.tree in
     let same : s ≡ t = (one_tree s t (whole_lines more) (whole_lines []) first.tree second.tree lines).0 in

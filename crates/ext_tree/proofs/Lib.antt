@@ -1,9 +1,9 @@
 pub mod Place
-pub mod Fronts
+pub mod Prefixes
 pub mod Kept
 pub mod Orders
 pub mod LastEntry
-pub mod PastFront
+pub mod PastPrefix
 pub mod Octal
 pub mod Printed
 pub mod OctalText
@@ -11,7 +11,7 @@ pub mod LineNumbers
 pub mod LineFields
 pub mod DigestDigits
 pub mod LineLaws
-pub mod TextFronts
+pub mod TextPrefixes
 pub mod WholeLines
 pub mod BodyLines
 pub mod Rows

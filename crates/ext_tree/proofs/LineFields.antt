@@ -86,7 +86,7 @@ split_text : (p : List (List ℕ)) → AllByRecursion IsName p → 0 < length p
 split_text [] names some = absurd (omega arith)
 split_text (n ∷ []) names some = split_none 47 n (name_lacks n names.0)
 split_text (n ∷ m ∷ p) names some =
-    split_cut 47 (path_text (n ∷ m ∷ p)) n (path_text (m ∷ p)) (record { whole = refl; front_lacks = name_lacks n names.0 })
+    split_cut 47 (path_text (n ∷ m ∷ p)) n (path_text (m ∷ p)) (record { whole = refl; prefix_lacks = name_lacks n names.0 })
     ∙ ap (λ (l : List (List ℕ)). n ∷ l) (split_text (m ∷ p) names.1 (omega arith))
 
 path_text_some : (p : List (List ℕ)) → AllByRecursion IsName p → 0 < length p → 0 < length (path_text p)
@@ -118,10 +118,10 @@ no_path text BadName why not_memory p is some e =
     why.2 (subst (AllByRecursion IsName) (sym (ap path_parts e ∙ parts_text p is.each some)) is.each)
 
 -- what stands behind the length of a target is the target
-pub target_cut : (text : List ℕ) (count : ℕ) (behind t rest : List ℕ) → count ≤ 4096 → IsTarget t
-    → text ≡ decimal count ++ 32 ∷ behind → text ≡ decimal (length t) ++ 32 ∷ (t ++ 32 ∷ rest)
-    → (length t ≡ count) × (behind ≡ t ++ 32 ∷ rest)
-target_cut text count behind t rest small is there e =
+pub target_cut : (text : List ℕ) (count : ℕ) (after t rest : List ℕ) → count ≤ 4096 → IsTarget t
+    → text ≡ decimal count ++ 32 ∷ after → text ≡ decimal (length t) ++ 32 ∷ (t ++ 32 ∷ rest)
+    → (length t ≡ count) × (after ≡ t ++ 32 ∷ rest)
+target_cut text count after t rest small is there e =
     let short = is.short in
-    let cut = cut_once 32 (decimal count) (decimal (length t)) behind (t ++ 32 ∷ rest) (decimal_lacks 32 count (omega arith) (omega arith)) (decimal_lacks 32 (length t) (omega arith) (omega arith)) (sym there ∙ e) in
+    let cut = cut_once 32 (decimal count) (decimal (length t)) after (t ++ 32 ∷ rest) (decimal_lacks 32 count (omega arith) (omega arith)) (decimal_lacks 32 (length t) (omega arith) (omega arith)) (sym there ∙ e) in
     (sym (decimal_injective count (length t) (omega arith) (omega arith) cut.0), cut.1)

@@ -18,8 +18,8 @@ other_kind : (a b : ℕ) (xs ys : List ℕ) → (a ≡ b → ⊥) → a ∷ xs �
 other_kind a b xs ys ne e = ne (ap (λ (l : List ℕ). get_or l 0 0) e)
 
 -- behind the kind and its space
-behind_kind : (a b : ℕ) (xs ys : List ℕ) → a ∷ 32 ∷ xs ≡ b ∷ 32 ∷ ys → xs ≡ ys
-behind_kind a b xs ys e = ap (drop 2) e
+after_kind : (a b : ℕ) (xs ys : List ℕ) → a ∷ 32 ∷ xs ≡ b ∷ 32 ∷ ys → xs ≡ ys
+after_kind a b xs ys e = ap (drop 2) e
 
 -- ---- the fields of one kind of line
 
@@ -66,14 +66,14 @@ link_cut t u xs ys p q e =
 -- an entry has its line alone
 pub line_injective : (x y : List (List ℕ) × Entry Stamp) → HasLine x → HasLine y → entry_line x ≡ entry_line y → x ≡ y
 line_injective (p, Dir m) (q, Dir n) hx hy e =
-    let mode = mode_cut m n (path_text p) (path_text q) hx.writable hy.writable (behind_kind 100 100 _ _ e) in
+    let mode = mode_cut m n (path_text p) (path_text q) hx.writable hy.writable (after_kind 100 100 _ _ e) in
     let path = path_injective p q hx.path hy.path hx.below hy.below mode.1 in
     λ i. (path i, Dir (mode.0 i))
 line_injective (p, Dir m) (q, File n t) hx hy e = absurd (other_kind 100 102 _ _ (λ z. omega arith) e)
 line_injective (p, Dir m) (q, Link u) hx hy e = absurd (other_kind 100 108 _ _ (λ z. omega arith) e)
 line_injective (p, File m s) (q, Dir n) hx hy e = absurd (other_kind 102 100 _ _ (λ z. omega arith) e)
 line_injective (p, File m s) (q, File n t) hx hy e =
-    let mode = mode_cut m n _ _ hx.writable.0 hy.writable.0 (behind_kind 102 102 _ _ e) in
+    let mode = mode_cut m n _ _ hx.writable.0 hy.writable.0 (after_kind 102 102 _ _ e) in
     let stamp = stamp_cut s t (path_text p) (path_text q) hx.writable.1 hy.writable.1 hx.writable.2 hy.writable.2 mode.1 in
     let path = path_injective p q hx.path hy.path hx.below hy.below stamp.1 in
     λ i. (path i, File (mode.0 i) (stamp.0 i))
@@ -81,7 +81,7 @@ line_injective (p, File m s) (q, Link u) hx hy e = absurd (other_kind 102 108 _ 
 line_injective (p, Link t) (q, Dir n) hx hy e = absurd (other_kind 108 100 _ _ (λ z. omega arith) e)
 line_injective (p, Link t) (q, File n s) hx hy e = absurd (other_kind 108 102 _ _ (λ z. omega arith) e)
 line_injective (p, Link t) (q, Link u) hx hy e =
-    let target = link_cut t u (path_text p) (path_text q) hx.writable hy.writable (behind_kind 108 108 _ _ e) in
+    let target = link_cut t u (path_text p) (path_text q) hx.writable hy.writable (after_kind 108 108 _ _ e) in
     let path = path_injective p q hx.path hy.path hx.below hy.below target.1 in
     λ i. (path i, Link (target.0 i))
 
@@ -120,25 +120,25 @@ line_lacks (p, Link t) h =
 pub dir_path : (fields path : List ℕ) (m : ℕ) → m ≤ 4095 → fields ≡ mode_text m ++ 32 ∷ path
     → (x : List (List ℕ) × Entry Stamp) → HasLine x → 100 ∷ 32 ∷ fields ≡ entry_line x → path ≡ path_text x.0
 dir_path fields path m small is (p, Dir n) has e =
-    (mode_cut m n path (path_text p) small has.writable (sym is ∙ behind_kind 100 100 _ _ e)).1
+    (mode_cut m n path (path_text p) small has.writable (sym is ∙ after_kind 100 100 _ _ e)).1
 dir_path fields path m small is (p, File n s) has e = absurd (other_kind 100 102 _ _ (λ z. omega arith) e)
 dir_path fields path m small is (p, Link t) has e = absurd (other_kind 100 108 _ _ (λ z. omega arith) e)
 
 -- behind a file's mode stands its stamp
-pub file_behind : (fields behind : List ℕ) (m : ℕ) → m ≤ 4095 → fields ≡ mode_text m ++ 32 ∷ behind
+pub file_after : (fields after : List ℕ) (m : ℕ) → m ≤ 4095 → fields ≡ mode_text m ++ 32 ∷ after
     → (x : List (List ℕ) × Entry Stamp) → HasLine x → 102 ∷ 32 ∷ fields ≡ entry_line x
-    → (s : Stamp) × (s.size ≤ 1073741824) × IsDigest s.digest.0 × (behind ≡ decimal s.size ++ 32 ∷ (encode_lower s.digest.0 ++ 32 ∷ path_text x.0))
-file_behind fields behind m small is (p, Dir n) has e = absurd (other_kind 102 100 _ _ (λ z. omega arith) e)
-file_behind fields behind m small is (p, File n t) has e =
-    (t, has.writable.1, has.writable.2, (mode_cut m n behind _ small has.writable.0 (sym is ∙ behind_kind 102 102 _ _ e)).1)
-file_behind fields behind m small is (p, Link t) has e = absurd (other_kind 102 108 _ _ (λ z. omega arith) e)
+    → (s : Stamp) × (s.size ≤ 1073741824) × IsDigest s.digest.0 × (after ≡ decimal s.size ++ 32 ∷ (encode_lower s.digest.0 ++ 32 ∷ path_text x.0))
+file_after fields after m small is (p, Dir n) has e = absurd (other_kind 102 100 _ _ (λ z. omega arith) e)
+file_after fields after m small is (p, File n t) has e =
+    (t, has.writable.1, has.writable.2, (mode_cut m n after _ small has.writable.0 (sym is ∙ after_kind 102 102 _ _ e)).1)
+file_after fields after m small is (p, Link t) has e = absurd (other_kind 102 108 _ _ (λ z. omega arith) e)
 
-pub file_path : (fields behind path : List ℕ) (m : ℕ) (s : Stamp) → m ≤ 4095 → s.size ≤ 1073741824
-    → IsDigest s.digest.0 → fields ≡ mode_text m ++ 32 ∷ behind
-    → behind ≡ decimal s.size ++ 32 ∷ (encode_lower s.digest.0 ++ 32 ∷ path)
+pub file_path : (fields after path : List ℕ) (m : ℕ) (s : Stamp) → m ≤ 4095 → s.size ≤ 1073741824
+    → IsDigest s.digest.0 → fields ≡ mode_text m ++ 32 ∷ after
+    → after ≡ decimal s.size ++ 32 ∷ (encode_lower s.digest.0 ++ 32 ∷ path)
     → (x : List (List ℕ) × Entry Stamp) → HasLine x → 102 ∷ 32 ∷ fields ≡ entry_line x → path ≡ path_text x.0
-file_path fields behind path m s small size digest is there x has e =
-    let found = file_behind fields behind m small is x has e in
+file_path fields after path m s small size digest is there x has e =
+    let found = file_after fields after m small is x has e in
     (stamp_cut s found.0 path (path_text x.0) size found.1 digest found.2 (sym there ∙ found.3)).1
 
 pub link_path : (fields target path : List ℕ) → IsTarget target
@@ -147,4 +147,4 @@ pub link_path : (fields target path : List ℕ) → IsTarget target
 link_path fields target path within is (p, Dir n) has e = absurd (other_kind 108 100 _ _ (λ z. omega arith) e)
 link_path fields target path within is (p, File n s) has e = absurd (other_kind 108 102 _ _ (λ z. omega arith) e)
 link_path fields target path within is (p, Link t) has e =
-    (link_cut target t path (path_text p) within has.writable (sym is ∙ behind_kind 108 108 _ _ e)).1
+    (link_cut target t path (path_text p) within has.writable (sym is ∙ after_kind 108 108 _ _ e)).1

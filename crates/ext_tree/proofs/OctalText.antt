@@ -30,10 +30,10 @@ octal_value_after n [] some d small = sym (append-nil (mode_text n))
 octal_value_after n (c ∷ cs) some d small =
     let m : ℕ = n * 8 + digit_value c in
     let k = digit_value_digit c (digit_from_value c (omega (arith, d.0))) in
-    let front : m / 8 ≡ n = omega (arith, d.0) in
+    let prefix : m / 8 ≡ n = omega (arith, d.0) in
     let end : 48 + m % 8 ≡ c = omega (arith, d.0) in
     octal_value_after m cs (omega arith) d.1 small
-    ∙ ap (λ x. x ++ cs) (octal_step m (omega arith) (omega (arith, le_value_after m cs)) ∙ (λ i. mode_text (front i) ++ (end i ∷ [])))
+    ∙ ap (λ x. x ++ cs) (octal_step m (omega arith) (omega (arith, le_value_after m cs)) ∙ (λ i. mode_text (prefix i) ++ (end i ∷ [])))
     ∙ append_assoc (mode_text n) (c ∷ []) cs
 
 -- octal digits without a zero in front are the text of their value
@@ -50,16 +50,16 @@ mode_text-digits_value (c ∷ e ∷ cs) d some lead small =
     octal_value_after (0 * 8 + digit_value c) (e ∷ cs) (omega arith) d.1 (omega arith)
     ∙ ap (λ x. x ++ (e ∷ cs)) (octal_digit (0 * 8 + digit_value c) (omega (arith, d.0)) ∙ ap (λ x. x ∷ []) is)
 
-front_first : (ds es : List ℕ) → 0 < length ds → get_or (ds ++ es) 0 0 ≡ get_or ds 0 0
-front_first [] es some = absurd (omega arith)
-front_first (d ∷ ds) es some = refl
+prefix_first : (ds es : List ℕ) → 0 < length ds → get_or (ds ++ es) 0 0 ≡ get_or ds 0 0
+prefix_first [] es some = absurd (omega arith)
+prefix_first (d ∷ ds) es some = refl
 
 -- the first digit is not 0
 abbrev pub BeginsHigh : List ℕ → Type 0
 BeginsHigh ds = (0 < length ds) × (48 < get_or ds 0 0)
 
 more_begins : (ds es : List ℕ) → BeginsHigh ds → BeginsHigh (ds ++ es)
-more_begins ds es high = (omega (arith, length-append ds es, high.0), omega (arith, front_first ds es high.0, high.1))
+more_begins ds es high = (omega (arith, length-append ds es, high.0), omega (arith, prefix_first ds es high.0, high.1))
 
 -- the text of a number that is not 0 begins with another digit
 pub octal_first : (k n : ℕ) → n ≤ k → 0 < n → n < 8 ^ 64 → BeginsHigh (mode_text n)

@@ -45,25 +45,25 @@ module _ {K X : Type 0} (R : K → K → Ordering) where
     each_found o P es (λ q found. holds q (some_cond (eq_by_cmp R q e.0) e.1 (find R q es) found)),
   )
 
-  below_front : (x : K) (es fs : List (K × X)) → T (below_all R x (es ++ fs)) → T (below_all R x es)
-  below_front x [] fs h = tt
-  below_front x (e ∷ es) fs h = both_T _ _ (first_T _ _ h) (below_front x es fs (second_T _ _ h))
+  below_prefix : (x : K) (es fs : List (K × X)) → T (below_all R x (es ++ fs)) → T (below_all R x es)
+  below_prefix x [] fs h = tt
+  below_prefix x (e ∷ es) fs h = both_T _ _ (first_T _ _ h) (below_prefix x es fs (second_T _ _ h))
 
   below_back : (x : K) (es fs : List (K × X)) → T (below_all R x (es ++ fs)) → T (below_all R x fs)
   below_back x [] fs h = h
   below_back x (e ∷ es) fs h = below_back x es fs (second_T _ _ h)
 
   -- a front of a list in order is in order
-  pub sorted_front : (es fs : List (K × X)) → T (is_sorted R (es ++ fs)) → T (is_sorted R es)
-  sorted_front [] fs h = tt
-  sorted_front (e ∷ es) fs h = both_T _ _ (below_front e.0 es fs (first_T _ _ h)) (sorted_front es fs (second_T _ _ h))
+  pub sorted_prefix : (es fs : List (K × X)) → T (is_sorted R (es ++ fs)) → T (is_sorted R es)
+  sorted_prefix [] fs h = tt
+  sorted_prefix (e ∷ es) fs h = both_T _ _ (below_prefix e.0 es fs (first_T _ _ h)) (sorted_prefix es fs (second_T _ _ h))
 
   -- the keys of the front are below the key behind it
-  pub front_below : (es fs : List (K × X)) (k : K) (v : X) → T (is_sorted R (es ++ (k, v) ∷ fs)) → AllByRecursion (λ e. R e.0 k ≡ Less) es
-  front_below [] fs k v h = tt
-  front_below (e ∷ es) fs k v h = (
+  pub prefix_below : (es fs : List (K × X)) (k : K) (v : X) → T (is_sorted R (es ++ (k, v) ∷ fs)) → AllByRecursion (λ e. R e.0 k ≡ Less) es
+  prefix_below [] fs k v h = tt
+  prefix_below (e ∷ es) fs k v h = (
     is_less _ (true_from_T _ (first_T _ _ (below_back e.0 es ((k, v) ∷ fs) (first_T _ _ h)))),
-    front_below es fs k v (second_T _ _ h),
+    prefix_below es fs k v (second_T _ _ h),
   )
 
   below_push : (x k : K) (v : X) (es : List (K × X)) → T (below_all R x es) → R x k ≡ Less → T (below_all R x (es ++ (k, v) ∷ []))

@@ -9,7 +9,7 @@ use Rattle.ext_tree.specs.Tree.{Entries}
 use Rattle.ext_tree.specs.TreeText.{HasLine, HasText, entry_line, tree_lines}
 use Rattle.ext_tree.specs.Reading.{MayStand}
 use Rattle.ext_tree.proofs.LineLaws.{line_injective, line_not_end}
-use Rattle.ext_tree.proofs.TextFronts.{lines_of, front_next}
+use Rattle.ext_tree.proofs.TextPrefixes.{lines_of, prefix_next}
 
 -- ---- the lines of one tree
 
@@ -30,7 +30,7 @@ pub next_line : (done es fs : Entries Stamp) (l : List ℕ) (a b : List (List �
 next_line done [] [] l a b he hf text same = let head : l ≡ codes "end" = cc in inl head
 next_line done [] (y ∷ fs) l a b he hf text same =
     let head : l ≡ entry_line y = cc in
-    inr (y, subst (λ xs. HasText (xs ++ y ∷ [])) (sym (append-nil done)) (front_next done y fs text), head)
+    inr (y, subst (λ xs. HasText (xs ++ y ∷ [])) (sym (append-nil done)) (prefix_next done y fs text), head)
 next_line done (x ∷ es) [] l a b he hf text same = let head : entry_line x ≡ codes "end" = cc in absurd (line_not_end x head)
 next_line done (x ∷ es) (y ∷ fs) l a b he hf text same =
     let head : entry_line x ≡ entry_line y = cc in

@@ -1,9 +1,9 @@
 -- What the reader of tree texts decides from one line to the next, and where it stops.
 use Rattle.std.specs.Prelude.{◌≡◌, ℕ, ◌+◌, Bool, ◌&&◌, ◌||◌, nat_lt, ◌⊎◌, List, [], ◌∷◌, ◌++◌, length, map, codes}
 use Rattle.std.specs.Ordering.{is_lt}
-use Rattle.ext_text.specs.Cut.{IsCut}
-use Rattle.ext_text.specs.Path.{path_cmp, parent, is_front}
-use Rattle.ext_tree.specs.Tree.{Entries, is_dir}
+use Rattle.ext_text.specs.Cut.{IsSplit}
+use Rattle.ext_text.specs.Path.{path_cmp, parent, is_prefix}
+use Rattle.ext_tree.specs.Tree.{Entries, is_directory}
 use Rattle.ext_tree.specs.TreeText.{HasText, entry_line, tree_lines, lines_text, tree_text}
 use Rattle.ext_tree.specs.declared.entry.Entry.{Entry}
 use Rattle.ext_tree.specs.declared.stamp.Stamp.{Stamp}
@@ -17,7 +17,7 @@ use Rattle.ext_tree.specs.declared.reading.Line.TheVariants.{End, Item, Fault}
 -- the new path to the new path all begin with that front, and the last entry's is one of them.
 abbrev pub stands_after : {C : Type 0} → List (List ℕ) × Entry C → List (List ℕ) → Bool
 stands_after last path =
-    is_lt (path_cmp last.0 path) && (is_front (parent path) last.0 && (nat_lt (length (parent path)) (length last.0) || is_dir last.1))
+    is_lt (path_cmp last.0 path) && (is_prefix (parent path) last.0 && (nat_lt (length (parent path)) (length last.0) || is_directory last.1))
 
 -- the line may stand behind the lines of the entries: the last one of their text, or one of a longer tree
 abbrev pub MayStand : Entries Stamp → List ℕ → Type 0
@@ -31,7 +31,7 @@ Judges es line Fault = ¬ MayStand es line
 
 -- no line that may stand at the start of the bytes stands there
 abbrev pub NoneNext : (List ℕ → Type 0) → List ℕ → Type 0
-NoneNext May bytes = (line more : List ℕ) → IsCut 10 bytes line more → ¬ May line
+NoneNext May bytes = (line more : List ℕ) → IsSplit 10 bytes line more → ¬ May line
 
 -- the bytes begin with the lines of a tree behind its header; `next` is the number of the line behind them
 pub record BeginsBody (bytes : List ℕ) (first : ℕ) (es : Entries Stamp) (rest : List ℕ) (next : ℕ) : Type 0 where
@@ -62,7 +62,7 @@ pub record BeginsText (bytes : List ℕ) (first : ℕ) (es : Entries Stamp) (res
 abbrev pub StopsText : List ℕ → ℕ → ℕ → Type 0
 StopsText bytes first line =
     ((line ≡ first) × NoneNext (λ l. l ≡ codes "hostext-tree 1") bytes)
-    ⊎ ((body : List ℕ) × IsCut 10 bytes (codes "hostext-tree 1") body × StopsBody body (first + 1) line)
+    ⊎ ((body : List ℕ) × IsSplit 10 bytes (codes "hostext-tree 1") body × StopsBody body (first + 1) line)
 
 abbrev pub TextFault : List ℕ → ℕ → TreeTextErr → Type 0
 TextFault bytes first OutOfMemory = Unit {0}

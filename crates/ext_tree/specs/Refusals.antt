@@ -1,7 +1,7 @@
 -- What a tree refuses, the first reason in this order.
 use Rattle.std.specs.Prelude.{◌≡◌, ℕ, nat_le, Bool, true, false, not, ◌||◌, List, [], ◌∷◌, length, if◌then◌else◌, Option, Some, None, is_some, Result, Ok, Err}
 use Rattle.ext_text.specs.Path.{parent}
-use Rattle.ext_tree.specs.Tree.{Entries, lookup, is_folder, most_entries}
+use Rattle.ext_tree.specs.Tree.{Entries, lookup, is_directory_or_root, most_entries}
 use Rattle.ext_tree.specs.declared.tree.TreeErr.{TreeErr}
 use Rattle.ext_tree.specs.declared.tree.TreeErr.TheVariants.{OutOfMemory, Exists, NotDirectory, Limit}
 
@@ -13,7 +13,7 @@ is_root (n ∷ p) = false
 abbrev pub insert_refusal : {C : Type 0} → Entries C → List (List ℕ) → Option TreeErr
 insert_refusal es p =
     if is_root p || is_some (lookup es p) then Some Exists
-    else if not (is_folder es (parent p)) then Some NotDirectory
+    else if not (is_directory_or_root es (parent p)) then Some NotDirectory
     else if nat_le most_entries (length es) then Some Limit
     else None
 

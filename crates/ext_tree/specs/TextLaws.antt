@@ -14,8 +14,8 @@ abbrev pub OneTextOfTree : Type 0
 OneTextOfTree = (t : Entries Stamp) (bytes other : List ℕ) → IsTreeText bytes t → IsTreeText other t → bytes ≡ other
 
 -- no tree text is a proper front of another
-abbrev pub NoFrontOfText : Type 0
-NoFrontOfText = (bytes more : List ℕ) (s t : Entries Stamp) → IsTreeText bytes s → IsTreeText (bytes ++ more) t → more ≡ []
+abbrev pub NoPrefixOfText : Type 0
+NoPrefixOfText = (bytes more : List ℕ) (s t : Entries Stamp) → IsTreeText bytes s → IsTreeText (bytes ++ more) t → more ≡ []
 
 -- a row of texts is that of one list of trees
 abbrev pub OneListOfRow : Type 0

@@ -14,20 +14,20 @@ Entries C = List (List (List ℕ) × Entry C)
 abbrev pub lookup : {C : Type 0} → Entries C → List (List ℕ) → Option (Entry C)
 lookup es p = find path_cmp p es
 
-abbrev pub is_dir : {C : Type 0} → Entry C → Bool
-is_dir (Dir mode) = true
-is_dir (File mode content) = false
-is_dir (Link target) = false
+abbrev pub is_directory : {C : Type 0} → Entry C → Bool
+is_directory (Dir mode) = true
+is_directory (File mode content) = false
+is_directory (Link target) = false
 
 -- a directory stands there
-abbrev pub is_dir_at : {C : Type 0} → Option (Entry C) → Bool
-is_dir_at None = false
-is_dir_at (Some e) = is_dir e
+abbrev pub is_directory_at : {C : Type 0} → Option (Entry C) → Bool
+is_directory_at None = false
+is_directory_at (Some e) = is_directory e
 
 -- the path is the root, or a directory stands there
-abbrev pub is_folder : {C : Type 0} → Entries C → List (List ℕ) → Bool
-is_folder es [] = true
-is_folder es (n ∷ p) = is_dir_at (lookup es (n ∷ p))
+abbrev pub is_directory_or_root : {C : Type 0} → Entries C → List (List ℕ) → Bool
+is_directory_or_root es [] = true
+is_directory_or_root es (n ∷ p) = is_directory_at (lookup es (n ∷ p))
 
 -- Each path once and in path order, none of them the root, each within the limits of a path, and each directly in a
 -- directory or in the root. So every proper front of a path that is not the root has a directory.
@@ -35,7 +35,7 @@ pub record IsTree {C : Type 0} (es : Entries C) : Type 0 where
   pub sorted : IsTrue (is_sorted path_cmp es)
   pub root : lookup es [] ≡ None
   pub paths : (p : List (List ℕ)) → IsTrue (is_some (lookup es p)) → IsPath p
-  pub parents : (p : List (List ℕ)) → IsTrue (is_some (lookup es p)) → IsTrue (is_folder es (parent p))
+  pub parents : (p : List (List ℕ)) → IsTrue (is_some (lookup es p)) → IsTrue (is_directory_or_root es (parent p))
 
 -- the most entries of a tree
 abbrev pub most_entries : ℕ

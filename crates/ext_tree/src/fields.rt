@@ -8,7 +8,7 @@ ghost use Rattle.ext_tree.specs.TreeText.{IsDigest, IsTarget, mode_text};
 ghost use Rattle.ext_tree.specs.declared.stamp.Stamp.{Stamp};
 
 use crate::stamp::Stamp;
-use ext_text::{Digest, Mode, cut_at};
+use ext_text::{Digest, Mode, split_at_byte};
 use std::str;
 
 /// The highest mode.
@@ -130,7 +130,7 @@ pub fn cut_mode(text: &[u8]) -> Option<(Mode, &[u8])>
         ((m : ℕ) (rest : List ℕ) → m ≤ 4095 → text.now ≢ mode_text m ++ 32 ∷ rest)
         (λ r. (r.0 ≤ 4095) × (text.now ≡ mode_text r.0 ++ 32 ∷ r.1.now)) }
 {
-    let (field, rest) = cut_at(text, b' ')?;
+    let (field, rest) = split_at_byte(text, b' ')?;
     Some((mode_of(field)?, rest))
 }
 
@@ -141,7 +141,7 @@ fn cut_number(text: &[u8], most: u64) -> Option<(u64, &[u8])>
         ((n : ℕ) (rest : List ℕ) → n ≤ most → text.now ≢ decimal n ++ 32 ∷ rest)
         (λ r. (r.0 ≤ most) × (text.now ≡ decimal r.0 ++ 32 ∷ r.1.now)) }
 {
-    let (field, rest) = cut_at(text, b' ')?;
+    let (field, rest) = split_at_byte(text, b' ')?;
     Some((number_of(field, most)?, rest))
 }
 
@@ -151,7 +151,7 @@ fn cut_digest(text: &[u8]) -> Option<(Digest, &[u8])>
         ((ds : List ℕ) (rest : List ℕ) → IsDigest ds → text.now ≢ encode_lower ds ++ 32 ∷ rest)
         (λ r. IsDigest r.0.0 × (text.now ≡ encode_lower r.0.0 ++ 32 ∷ r.1.now)) }
 {
-    let (field, rest) = cut_at(text, b' ')?;
+    let (field, rest) = split_at_byte(text, b' ')?;
     Some((digest_of(field)?, rest))
 }
 

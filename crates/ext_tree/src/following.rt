@@ -2,9 +2,9 @@
 ghost use Rattle.std.specs.Prelude.{◌≡◌, [], ◌∷◌, ◌++◌, ◌↔◌, IsTrue, MatchOption, slice_get};
 ghost use Rattle.std.specs.Option.{option_copied};
 ghost use Rattle.std.specs.Ordering.{is_lt};
-ghost use Rattle.ext_text.specs.Name.{name_cmp};
-ghost use Rattle.ext_text.specs.Path.{is_front};
-ghost use Rattle.ext_tree.specs.Tree.{IsTree, is_dir};
+ghost use Rattle.ext_text.specs.Name.{bytes_cmp};
+ghost use Rattle.ext_text.specs.Path.{is_prefix};
+ghost use Rattle.ext_tree.specs.Tree.{IsTree, is_directory};
 ghost use Rattle.ext_tree.specs.Reading.{stands_after};
 ghost use Rattle.ext_tree.specs.declared.entry.Entry.{Entry};
 
@@ -19,7 +19,7 @@ pub fn may_follow<C>(entries: &[(Path, Entry<C>)], path: &Path) -> bool
     let names = path.names();
     match entries {
         [] => names.len() == 1,
-        [_front @ .., last] => stands_after(last, path),
+        [_prefix @ .., last] => stands_after(last, path),
     }
 }
 
@@ -31,19 +31,19 @@ fn stands_after<C>(last: &(Path, Entry<C>), path: &Path) -> bool
     let (last_path, entry) = last;
     match path.names() {
         [] => false,
-        [folder @ .., name] => {
-            is_front(folder, last_path.names())
-                && comes_after(name_at(last_path.names(), folder.len()), entry, name)
+        [directory @ .., name] => {
+            is_prefix(directory, last_path.names())
+                && comes_after(name_at(last_path.names(), directory.len()), entry, name)
         }
     }
 }
 
 // Whether a name comes after the last entry, which has this name in the same folder or is the folder.
 fn comes_after<C>(last_name: Option<&Name>, entry: &Entry<C>, name: &Name) -> bool
-    ensures { MatchOption (option_copied last_name.entry) (result ≡ is_dir entry.now) (λ last. result ≡ is_lt (name_cmp last name.now)) }
+    ensures { MatchOption (option_copied last_name.entry) (result ≡ is_directory entry.now) (λ last. result ≡ is_lt (bytes_cmp last name.now)) }
 {
     match last_name {
-        None => is_dir(entry),
+        None => is_directory(entry),
         Some(last) => last.cmp(name).is_lt(),
     }
 }
@@ -56,15 +56,15 @@ fn name_at(names: &[Name], place: usize) -> Option<&Name>
 }
 
 // Whether the second list of names begins with the first.
-fn is_front(front: &[Name], names: &[Name]) -> bool
-    ensures { result ≡ is_front front.now names.now }
+fn is_prefix(prefix: &[Name], names: &[Name]) -> bool
+    ensures { result ≡ is_prefix prefix.now names.now }
 {
-    names.starts_with(front)
+    names.starts_with(prefix)
 }
 
 // Whether it is a directory.
-fn is_dir<C>(entry: &Entry<C>) -> bool
-    ensures { result ≡ is_dir entry.now }
+fn is_directory<C>(entry: &Entry<C>) -> bool
+    ensures { result ≡ is_directory entry.now }
 {
     matches!(entry, Entry::Dir(_))
 }

@@ -1,14 +1,14 @@
 //! Laws of trees and of their texts, each the contract of a function that does nothing: what holds of every tree and of
 //! every text, whoever made it.
-ghost use Rattle.ext_tree.specs.Laws.{EntriesHaveFronts, FoldersHaveFronts};
-ghost use Rattle.ext_tree.specs.TextLaws.{OneTreeOfText, OneTextOfTree, NoFrontOfText, OneListOfRow, NoFaultInRow};
+ghost use Rattle.ext_tree.specs.Laws.{EntriesHavePrefixes, DirectoriesHavePrefixes};
+ghost use Rattle.ext_tree.specs.TextLaws.{OneTreeOfText, OneTextOfTree, NoPrefixOfText, OneListOfRow, NoFaultInRow};
 
 /// Every front of an entry's path that is neither the path nor the root is a directory, in every tree. And the folder
 /// of a path below the root is one exactly where each such front of that path is a directory: so an insert answers
 /// `NotDirectory` exactly where such a front is absent or no directory.
-pub fn every_front_is_a_directory<C>()
-    ensures entries { EntriesHaveFronts C }
-    ensures folders { FoldersHaveFronts C }
+pub fn every_prefix_is_a_directory<C>()
+    ensures entries { EntriesHavePrefixes C }
+    ensures directories { DirectoriesHavePrefixes C }
 {}
 
 /// A text belongs to one tree.
@@ -22,8 +22,8 @@ pub fn one_text_of_tree()
 {}
 
 /// No tree text is a proper front of another: a reader knows where a text ends.
-pub fn no_front_of_text()
-    ensures { NoFrontOfText }
+pub fn no_prefix_of_text()
+    ensures { NoPrefixOfText }
 {}
 
 /// A row of texts is that of one list of trees.

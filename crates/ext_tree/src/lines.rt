@@ -48,8 +48,8 @@ fn file_of(alloc: Global, fields: &[u8]) -> Result<Option<(Path, Entry<Stamp>)>,
     let Some(cut) = cut_mode(fields) else {
         return Ok(None);
     };
-    let (mode, behind) = cut;
-    let Some((stamp, path)) = cut_stamp(behind) else {
+    let (mode, after) = cut;
+    let Some((stamp, path)) = cut_stamp(after) else {
         return Ok(None);
     };
     match path_of(alloc, path)? {

@@ -5,7 +5,7 @@ ghost use Rattle.std.specs.Option.{option_copied};
 ghost use Rattle.std.specs.FinMap.{is_sorted};
 ghost use Rattle.ext_text.specs.Path.{path_cmp};
 ghost use Rattle.ext_tree.specs.Place.{is_past, place};
-ghost use Rattle.ext_tree.specs.Tree.{IsTree, is_folder, lookup};
+ghost use Rattle.ext_tree.specs.Tree.{IsTree, is_directory_or_root, lookup};
 
 use crate::entry::Entry;
 use ext_text::{Name, Path};
@@ -65,20 +65,20 @@ pub fn entry_of<'a, C>(entries: &'a [(Path, Entry<C>)], names: &[Name]) -> Optio
 }
 
 // Whether the last entry stands directly in the folder, which is then a directory or the root.
-fn holds_last<C>(entries: &[(Path, Entry<C>)], folder: &[Name]) -> bool
+fn holds_last<C>(entries: &[(Path, Entry<C>)], directory: &[Name]) -> bool
     requires { IsTree entries.now }
-    ensures { OnTrue result (IsTrue (is_folder entries.now folder.now)) }
+    ensures { OnTrue result (IsTrue (is_directory_or_root entries.now directory.now)) }
 {
     match entries.last() {
-        Some((path, _)) => folder.cmp(path.parent()).is_eq(),
+        Some((path, _)) => directory.cmp(path.parent()).is_eq(),
         None => false,
     }
 }
 
 // Whether the path is the root or a directory stands there. The folder of the last entry takes no search.
-pub fn is_folder<C>(entries: &[(Path, Entry<C>)], names: &[Name]) -> bool
+pub fn is_directory_or_root<C>(entries: &[(Path, Entry<C>)], names: &[Name]) -> bool
     requires { IsTree entries.now }
-    ensures { result ≡ is_folder entries.now names.now }
+    ensures { result ≡ is_directory_or_root entries.now names.now }
 {
     names.is_empty()
         || holds_last(entries, names)

@@ -13,7 +13,7 @@ use crate::following::may_follow;
 use crate::lines::entry_of_line;
 use crate::stamp::Stamp;
 use crate::tree::{MOST_ENTRIES, Tree};
-use ext_text::{ListOf, OutOfMemory, Path, cut_at};
+use ext_text::{ListOf, OutOfMemory, Path, split_at_byte};
 use std::alloc::{AllocFailed, Global};
 use thiserror::Error;
 
@@ -124,7 +124,7 @@ fn read_text(alloc: Global, bytes: &[u8], line: u64) -> Result<Body, TreeTextErr
     requires { line + length bytes.now ≤ 2 ^ 64 }
     ensures { MatchResult result (λ body. BeginsText bytes.now line body.entries.items body.rest.now body.line) (TextFault bytes.now line) }
 {
-    match cut_at(bytes, b'\n') {
+    match split_at_byte(bytes, b'\n') {
         None => Err(TreeTextErr::BadTree { line }),
         Some((header, body)) => {
             if header == HEADER {
@@ -145,22 +145,22 @@ fn read_body(alloc: Global, bytes: &[u8], first: u64) -> Result<Body, TreeTextEr
     let mut rest = bytes;
     let mut line = first;
     'lines: loop {
-        match cut_at(rest, b'\n') {
+        match split_at_byte(rest, b'\n') {
             None => return Err(TreeTextErr::BadTree { line }),
-            Some((text, behind)) => match judge(alloc, entries.as_slice(), text)? {
+            Some((text, after)) => match judge(alloc, entries.as_slice(), text)? {
                 Line::Fault => return Err(TreeTextErr::BadTree { line }),
                 Line::End => {
                     // A row may hold very many small trees.
                     entries.shrink_to_fit();
                     return Ok(Body {
                         entries,
-                        rest: behind,
+                        rest: after,
                         line: line + 1,
                     });
                 }
                 Line::Item(path, entry) => {
                     entries.push((path, entry))?;
-                    rest = behind;
+                    rest = after;
                     line += 1;
                 }
             },

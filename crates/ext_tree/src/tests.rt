@@ -126,7 +126,7 @@ fn modes_are_octal(rt: HostRuntime) -> Result<(), Fail> {
 #[test]
 fn a_copy_is_equal(rt: HostRuntime) -> Result<(), Fail> {
     let alloc = rt.alloc();
-    laws::every_front_is_a_directory::<Stamp>();
+    laws::every_prefix_is_a_directory::<Stamp>();
     let tree = small(alloc)?;
     let mut copies = Vec::new(alloc);
     for (path, entry) in tree.into_pairs() {

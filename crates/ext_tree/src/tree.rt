@@ -7,7 +7,7 @@ ghost use Rattle.ext_tree.specs.Place.{place};
 ghost use Rattle.ext_tree.specs.Refusals.{Refuses, insert_refusal};
 
 use crate::entry::Entry;
-use crate::places::{entry_at, entry_of, is_folder, place_of};
+use crate::places::{entry_at, entry_of, is_directory_or_root, place_of};
 use ext_text::Path;
 use std::alloc::{AllocFailed, Global};
 use std::marker::Model;
@@ -155,7 +155,7 @@ fn refusal_at<C>(entries: &[(Path, Entry<C>)], path: &Path, index: usize) -> Opt
 {
     if path.names().is_empty() || entry_at(entries, path.names(), index).is_some() {
         Some(TreeErr::Exists)
-    } else if !is_folder(entries, path.parent()) {
+    } else if !is_directory_or_root(entries, path.parent()) {
         Some(TreeErr::NotDirectory)
     } else if is_full(entries.len()) {
         Some(TreeErr::Limit)

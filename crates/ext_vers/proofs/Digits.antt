@@ -14,7 +14,7 @@ use Rattle.std.proofs.lemmas.Bool.{cases_lt, cases_Bool, eqb-true}
 use Rattle.std.proofs.lemmas.Bool.Decides.{nat_tests}
 use Rattle.std.proofs.lemmas.List.Elements.{All-head, All-tail}
 use Rattle.std.proofs.lemmas.Str.{digit_value_digit}
-use Rattle.ext_vers.specs.Scan.{behind}
+use Rattle.ext_vers.specs.Scan.{after}
 
 -- each byte is one of `0` to `9`
 abbrev pub Digits : List ℕ → Type 0
@@ -91,23 +91,23 @@ same_length (x ∷ xs) (y ∷ ys) n dx dy e =
     ]
 
 -- a zero in front changes no number
-pub value_behind_zeros : (xs : List ℕ) → digits_value 10 (behind (λ b. eqb b 48) xs) ≡ digits_value 10 xs
-value_behind_zeros [] = refl
-value_behind_zeros (x ∷ xs) =
+pub value_after_zeros : (xs : List ℕ) → digits_value 10 (after (λ b. eqb b 48) xs) ≡ digits_value 10 xs
+value_after_zeros [] = refl
+value_after_zeros (x ∷ xs) =
     elim (cases_Bool (eqb x 48)) [
-      | inl h ↦ rw (h, eqb-true x 48 h) (value_behind_zeros xs)
+      | inl h ↦ rw (h, eqb-true x 48 h) (value_after_zeros xs)
       | inr h ↦ rw h refl
     ]
 
-pub digits_behind : (p : ℕ → Bool) (xs : List ℕ) → Digits xs → Digits (behind p xs)
-digits_behind p [] dx = tt
-digits_behind p (x ∷ xs) dx =
+pub digits_after : (p : ℕ → Bool) (xs : List ℕ) → Digits xs → Digits (after p xs)
+digits_after p [] dx = tt
+digits_after p (x ∷ xs) dx =
     elim (cases_Bool (p x)) [
-      | inl h ↦ rw h (digits_behind p xs dx.3)
+      | inl h ↦ rw h (digits_after p xs dx.3)
       | inr h ↦ rw h dx
     ]
 
-pub no_zero : (xs : List ℕ) → NoZero (behind (λ b. eqb b 48) xs)
+pub no_zero : (xs : List ℕ) → NoZero (after (λ b. eqb b 48) xs)
 no_zero [] = tt
 no_zero (x ∷ xs) =
     elim (cases_Bool (eqb x 48)) [
@@ -137,7 +137,7 @@ digits_from_pass (x ∷ xs) h =
     (digit_value_digit x within, within.0, within.1, digits_from_pass xs (All-tail (λ b. is_ascii_digit b ≡ true) x xs h))
 
 -- what `number_cmp` answers
-pub numbers : (a b : List ℕ) → AllPass is_ascii_digit a → AllPass is_ascii_digit b → ordering_then (nat_cmp (length (behind (λ c. eqb c 48) a)) (length (behind (λ c. eqb c 48) b))) (slice_cmp nat_cmp (behind (λ c. eqb c 48) a) (behind (λ c. eqb c 48) b)) ≡ nat_cmp (digits_value 10 a) (digits_value 10 b)
+pub numbers : (a b : List ℕ) → AllPass is_ascii_digit a → AllPass is_ascii_digit b → ordering_then (nat_cmp (length (after (λ c. eqb c 48) a)) (length (after (λ c. eqb c 48) b))) (slice_cmp nat_cmp (after (λ c. eqb c 48) a) (after (λ c. eqb c 48) b)) ≡ nat_cmp (digits_value 10 a) (digits_value 10 b)
 numbers a b da db =
-    rw (← value_behind_zeros a, ← value_behind_zeros b)
-    (by_digits _ _ (digits_behind _ a (digits_from_pass a da)) (digits_behind _ b (digits_from_pass b db)) (no_zero a) (no_zero b))
+    rw (← value_after_zeros a, ← value_after_zeros b)
+    (by_digits _ _ (digits_after _ a (digits_from_pass a da)) (digits_after _ b (digits_from_pass b db)) (no_zero a) (no_zero b))

@@ -5,14 +5,14 @@ use Rattle.std.specs.Char.{is_ascii_digit, is_ascii_alphabetic}
 use Rattle.ext_vers.specs.Version.{Token, End, Number, tokens}
 
 -- the longest front that passes
-abbrev pub front : (ℕ → Bool) → List ℕ → List ℕ
-front p [] = []
-front p (b ∷ bs) = cond (p b) (b ∷ front p bs) []
+abbrev pub prefix : (ℕ → Bool) → List ℕ → List ℕ
+prefix p [] = []
+prefix p (b ∷ bs) = cond (p b) (b ∷ prefix p bs) []
 
 -- what stands behind it
-abbrev pub behind : (ℕ → Bool) → List ℕ → List ℕ
-behind p [] = []
-behind p (b ∷ bs) = cond (p b) (behind p bs) (b ∷ bs)
+abbrev pub after : (ℕ → Bool) → List ℕ → List ℕ
+after p [] = []
+after p (b ∷ bs) = cond (p b) (after p bs) (b ∷ bs)
 
 -- no digit, no letter, and none of `~`, `-`, `^`, `.`
 abbrev pub is_separator : ℕ → Bool
@@ -24,9 +24,9 @@ is_end End = true
 is_end t = false
 
 -- what follows a token: nothing behind the end
-abbrev pub after : Token → List ℕ → List Token
-after End rest = []
-after t rest = tokens rest
+abbrev pub tokens_after : Token → List ℕ → List Token
+tokens_after End rest = []
+tokens_after t rest = tokens rest
 
 -- only digits in a number
 abbrev pub HasDigits : Token → Type 0
@@ -35,6 +35,6 @@ HasDigits t = Unit {0}
 
 -- the token stands first in the text, and the rest behind it
 pub record IsNext (text : List ℕ) (token : Token) (rest : List ℕ) : Type 0 where
-  pub first : tokens text ≡ token ∷ after token rest
+  pub first : tokens text ≡ token ∷ tokens_after token rest
   pub shorter : is_end token ≡ false → length rest < length text
   pub digits : HasDigits token

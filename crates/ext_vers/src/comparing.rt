@@ -26,14 +26,14 @@ pub fn compare(a: &[u8], b: &[u8]) -> Ordering
     let mut left = a;
     let mut right = b;
     'tokens: loop {
-        let (x, behind_x) = next_token(left);
-        let (y, behind_y) = next_token(right);
+        let (x, after_x) = next_token(left);
+        let (y, after_y) = next_token(right);
         let order = token_cmp(x, y);
         if order.is_ne() || x.is_end() {
             return order;
         }
-        left = behind_x;
-        right = behind_y;
+        left = after_x;
+        right = after_y;
     }
 }
 

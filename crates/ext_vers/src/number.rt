@@ -5,17 +5,17 @@ ghost use Rattle.std.specs.List.{AllPass};
 ghost use Rattle.std.specs.Cmp.Lexicographic.{slice_cmp};
 ghost use Rattle.std.specs.Ordering.{nat_cmp, ordering_then};
 ghost use Rattle.std.specs.Str.Parse.{digits_value};
-ghost use Rattle.ext_vers.specs.Scan.{behind};
+ghost use Rattle.ext_vers.specs.Scan.{after};
 
 use std::cmp::Ordering;
 
 // The digits from the first on that is not 0.
 fn without_zeros(digits: &[u8]) -> &[u8]
-    ensures { result.now ≡ behind (λ b. b == 48) digits.now }
+    ensures { result.now ≡ after (λ b. b == 48) digits.now }
 {
     let mut rest = digits;
-    while let [b'0', behind @ ..] = rest {
-        rest = behind;
+    while let [b'0', after @ ..] = rest {
+        rest = after;
     }
     rest
 }

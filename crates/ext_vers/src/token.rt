@@ -1,7 +1,7 @@
 // The tokens of a text, read one after another.
 ghost use Rattle.std.specs.Prelude.{◌≡◌, ◌≤◌, length};
 ghost use Rattle.std.specs.Char.{is_ascii_digit, is_ascii_alphabetic};
-ghost use Rattle.ext_vers.specs.Scan.{HasDigits, IsNext, behind, front, is_end, is_separator};
+ghost use Rattle.ext_vers.specs.Scan.{HasDigits, IsNext, after, prefix, is_end, is_separator};
 ghost use Rattle.ext_vers.specs.Read.{token_of};
 ghost use Rattle.ext_vers.specs.Version.{rank, token_cmp, tokens};
 
@@ -80,21 +80,21 @@ fn is_separator(byte: u8) -> bool
 
 // The text from its first byte on that does not only separate.
 fn after_separators(text: &[u8]) -> &[u8]
-    ensures { result.now ≡ behind is_separator text.now }
+    ensures { result.now ≡ after is_separator text.now }
 {
     let mut rest = text;
-    while let [first, behind @ ..] = rest
+    while let [first, after @ ..] = rest
         && is_separator(*first)
     {
-        rest = behind;
+        rest = after;
     }
     rest
 }
 
 // How many digits the text begins with.
-#[tactic(auto, using(crate::proofs::Runs::front_ends))]
+#[tactic(auto, using(crate::proofs::Runs::prefix_ends))]
 fn digits_len(text: &[u8]) -> usize
-    ensures front { result ≡ length (front is_ascii_digit text.now) }
+    ensures prefix { result ≡ length (prefix is_ascii_digit text.now) }
     ensures within { result ≤ length text.now }
 {
     for (place, byte) in text.iter().enumerate() {
@@ -106,9 +106,9 @@ fn digits_len(text: &[u8]) -> usize
 }
 
 // How many letters the text begins with.
-#[tactic(auto, using(crate::proofs::Runs::front_ends))]
+#[tactic(auto, using(crate::proofs::Runs::prefix_ends))]
 fn letters_len(text: &[u8]) -> usize
-    ensures front { result ≡ length (front is_ascii_alphabetic text.now) }
+    ensures prefix { result ≡ length (prefix is_ascii_alphabetic text.now) }
     ensures within { result ≤ length text.now }
 {
     for (place, byte) in text.iter().enumerate() {

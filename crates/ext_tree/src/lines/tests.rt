@@ -127,12 +127,12 @@ fn refuses_every_other_line(rt: HostRuntime) -> Result<(), Fail> {
 /// Whether a line with a piece of it many times over is an entry's.
 fn is_read(
     alloc: Global,
-    front: &[u8],
+    prefix: &[u8],
     piece: &[u8],
     times: usize,
     rest: &[u8],
 ) -> Result<bool, OutOfMemory> {
-    let mut line = Text::from_bytes(alloc, front)?;
+    let mut line = Text::from_bytes(alloc, prefix)?;
     for _ in 0..times {
         line.append(piece)?;
     }

@@ -102,8 +102,8 @@ fn read_around(alloc: Global, line: &[u8]) -> Result<Result<usize, TreeTextErr>,
 }
 
 // A line of so many equal bytes between two texts.
-fn long_line(alloc: Global, front: &[u8], count: usize, back: &[u8]) -> Result<Vec<u8>, Fail> {
-    let mut line = Vec::from_slice(alloc, front)?;
+fn long_line(alloc: Global, prefix: &[u8], count: usize, back: &[u8]) -> Result<Vec<u8>, Fail> {
+    let mut line = Vec::from_slice(alloc, prefix)?;
     for _ in 0..count {
         line.push(b'b')?;
     }
@@ -172,8 +172,8 @@ fn a_line_that_passes_a_limit_is_the_faulty_one(rt: HostRuntime) -> Result<(), F
         (4096, b"l 4096 ".as_slice(), Ok(4)),
         (4097, b"l 4097 ".as_slice(), faulty_at(4)),
     ];
-    for (count, front, wanted) in targets {
-        let line = long_line(alloc, front, count, b" b")?;
+    for (count, prefix, wanted) in targets {
+        let line = long_line(alloc, prefix, count, b" b")?;
         assert_eq!(rt; read_around(alloc, line.as_slice())?, wanted);
     }
     assert_eq!(rt; read_around(alloc, b"d 755 b\xff")?, faulty_at(4));

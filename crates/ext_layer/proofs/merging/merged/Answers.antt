@@ -7,6 +7,6 @@ place_of-place-requires g c = rest_sorted c.uppers.from c.args.lower.now c.split
 
 pub uppers-preserved : goal.uppers-preserved
 uppers-preserved g c = record {
-  within = omega (arith, c.split_at.ensures.back_len, c.split_at-in-uppers.ensures.back_len, c.place_of-place.ensures.within, c.hidden_behind.ensures.within);
-  joined = advance_calls c.args.upper.now c.args.lower.now c.uppers.merged.items c.uppers.from c.laid_over.result c.requires.upper c.requires.lower c.uppers-test.true c.item-item.is c.split_at.ensures.back c.split_at-in-uppers.ensures.front c.split_at-in-uppers.ensures.back c.in_ok-append.ensures c.in_ok-push.ensures.items c.place_of-place.ensures.count c.laid_over.ensures c.hidden_behind.ensures.count c.uppers.invariant.joined;
+  within = omega (arith, c.split_at.ensures.back_len, c.split_at-in-uppers.ensures.back_len, c.place_of-place.ensures.within, c.hidden_after.ensures.within);
+  joined = advance_calls c.args.upper.now c.args.lower.now c.uppers.merged.items c.uppers.from c.laid_over.result c.requires.upper c.requires.lower c.uppers-test.true c.item-item.is c.split_at.ensures.back c.split_at-in-uppers.ensures.front c.split_at-in-uppers.ensures.back c.in_ok-append.ensures c.in_ok-push.ensures.items c.place_of-place.ensures.count c.laid_over.ensures c.hidden_after.ensures.count c.uppers.invariant.joined;
 }

@@ -9,7 +9,7 @@ pub returns-in-None-clause-parts : goal.returns-in-None-clause-parts
 returns-in-None-clause-parts c = no_cut (λ x. eqb x c.args.byte) c.args.text.now (rw c.as_bytes.ensures.value at c.in-None.ensures)
 
 pub returns-in-Some-clause-value : goal.returns-in-Some-clause-value
-returns-in-Some-clause-value c = cut_first c.args.byte c.args.text.now c.as_bytes.result.now c.in-Some.place _ _ c.as_bytes.ensures.value c.in-Some.ensures c.split_around.ensures.front c.split_around.ensures.behind
+returns-in-Some-clause-value c = cut_first c.args.byte c.args.text.now c.as_bytes.result.now c.in-Some.place _ _ c.as_bytes.ensures.value c.in-Some.ensures c.split_around.ensures.prefix c.split_around.ensures.after
 
 pub returns-in-Some-clause-parts : goal.returns-in-Some-clause-parts
-returns-in-Some-clause-parts c = byte_cut c.args.byte c.args.text.now c.as_bytes.result.now c.in-Some.place _ _ c.as_bytes.ensures.value c.in-Some.ensures c.split_around.ensures.front c.split_around.ensures.behind
+returns-in-Some-clause-parts c = byte_cut c.args.byte c.args.text.now c.as_bytes.result.now c.in-Some.place _ _ c.as_bytes.ensures.value c.in-Some.ensures c.split_around.ensures.prefix c.split_around.ensures.after

@@ -1,6 +1,6 @@
 use Rattle.std.proofs.Common.{◌∙◌, ap, rules, sym}
 use Rattle.std.specs.String.{string_bytes}
-use Rattle.ext_release.specs.Value.{closed, with_front}
+use Rattle.ext_release.specs.Value.{closed, with_prefix}
 use Rattle.ext_release.proofs.Quotes.{at_backslash, at_quote, begins, no_mark, unclosed}
 use Rattle.ext_release.proofs.value.read_double.Goals as goal
 
@@ -8,7 +8,7 @@ pub pieces-init : goal.pieces-init
 pieces-init c = (c.utf8.text, begins c.args.text.now _ c.new-value.ensures.bytes)
 
 pub returns-in-None : goal.returns-in-None
-returns-in-None c = sym (ap closed (c.pieces.invariant.1 ∙ ap (with_front (string_bytes c.pieces.value)) (no_mark c.pieces.rest.now c.in-None.ensures)))
+returns-in-None c = sym (ap closed (c.pieces.invariant.1 ∙ ap (with_prefix (string_bytes c.pieces.value)) (no_mark c.pieces.rest.now c.in-None.ensures)))
 
 pub returns-then-mark-eq34 : goal.returns-then-mark-eq34
 returns-then-mark-eq34 c =

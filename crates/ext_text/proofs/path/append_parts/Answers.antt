@@ -17,13 +17,13 @@ wider some all TooDeep keep h = h
 
 pub returns-in_err-push_name-in-Some-clause-err : goal.returns-in_err-push_name-in-Some-clause-err
 returns-in_err-push_name-in-Some-clause-err c =
-    let split = split_cut 47 c.parts.rest.now c.in-Some.part.now c.in-Some.behind.now c.in-Some.ensures in
+    let split = split_cut 47 c.parts.rest.now c.in-Some.part.now c.in-Some.after.now c.in-Some.ensures in
     let p = err_from_is_err_and c.from_residual.result c.from_residual.ensures.1 in
     rw (p.1, p.2) (wider (c.in-Some.part.now ∷ []) _ _ (λ each. ((rw split at (c.parts.invariant.bad each)).0, tt)) c.in_err-push_name-in-Some.ensures.err)
 
 pub parts-preserved : goal.parts-preserved
 parts-preserved c =
-    let split = split_cut 47 c.parts.rest.now c.in-Some.part.now c.in-Some.behind.now c.in-Some.ensures in
+    let split = split_cut 47 c.parts.rest.now c.in-Some.part.now c.in-Some.after.now c.in-Some.ensures in
     let was = c.parts.invariant in
     let done = c.in_ok-push_name-in-Some.ensures.ok in
     record {

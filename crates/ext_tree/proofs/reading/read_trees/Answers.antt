@@ -16,15 +16,15 @@ texts-preserved c =
     let longer = c.push.new.self.items in
     let tree = c.in_ok-text.text.entries.items in
     let rest = c.texts.rest.now in
-    let behind = c.in_ok-text.text.rest.now in
+    let after = c.in_ok-text.text.rest.now in
     let line = c.in_ok-text.text.line in
     let begins = c.in_ok-text.ensures in
     let so_far = c.texts.invariant in
     let grown = grown_by done longer c.from_pairs.result tree c.in_ok-push.ensures.items c.from_pairs.ensures in
     record {
       each = each_more done longer tree so_far.each begins.tree grown;
-      text = texts_more c.args.bytes.now done longer tree rest c.texts.line behind line so_far.text begins grown;
-      counted = counted_more done longer tree rest c.texts.line behind line so_far.counted begins grown;
-      room = omega (arith, so_far.room, text_room rest c.texts.line tree behind line begins);
-      unended = inr (some_bytes behind c.is_empty.result c.is_empty.ensures c.if-is_empty.false);
+      text = texts_more c.args.bytes.now done longer tree rest c.texts.line after line so_far.text begins grown;
+      counted = counted_more done longer tree rest c.texts.line after line so_far.counted begins grown;
+      room = omega (arith, so_far.room, text_room rest c.texts.line tree after line begins);
+      unended = inr (some_bytes after c.is_empty.result c.is_empty.ensures c.if-is_empty.false);
     }

@@ -21,9 +21,9 @@ returns-in-46 c = mark_next c.args.text.now c.after_separators-start.result.now 
 pub returns-in_default-first : goal.returns-in_default-first
 returns-in_default-first c =
     number_next c.args.text.now c.after_separators-start.result.now c.split_at.result.0.now c.split_at.result.1.now c.digits_len.result c.after_separators-start.ensures (omega arith)
-    (sym c.is_digit.ensures ∙ c.if-is_digit.true) c.digits_len.ensures.front c.split_at.ensures.front c.split_at.ensures.back
+    (sym c.is_digit.ensures ∙ c.if-is_digit.true) c.digits_len.ensures.prefix c.split_at.ensures.front c.split_at.ensures.back
 
 pub returns-in_default-2 : goal.returns-in_default-2
 returns-in_default-2 c =
     letters_next c.args.text.now c.after_separators-start.result.now c.split_at-in_default-2.result.0.now c.split_at-in_default-2.result.1.now c.letters_len.result c.after_separators-start.ensures (omega arith)
-    (sym c.is_digit.ensures ∙ c.if-is_digit.false) (λ e. omega arith) (λ e. omega arith) (λ e. omega arith) (λ e. omega arith) c.letters_len.ensures.front c.split_at-in_default-2.ensures.front c.split_at-in_default-2.ensures.back
+    (sym c.is_digit.ensures ∙ c.if-is_digit.false) (λ e. omega arith) (λ e. omega arith) (λ e. omega arith) (λ e. omega arith) c.letters_len.ensures.prefix c.split_at-in_default-2.ensures.front c.split_at-in_default-2.ensures.back

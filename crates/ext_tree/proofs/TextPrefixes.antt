@@ -7,7 +7,7 @@ use Rattle.std.specs.List.{AllByRecursion}
 use Rattle.std.proofs.lemmas.List.{append-nil}
 use Rattle.ext_text.specs.Order.{paths_total}
 use Rattle.ext_text.specs.Path.{IsPath, path_cmp}
-use Rattle.ext_text.proofs.Lists.{all_append, all_front, all_back, all_both, all_weaker}
+use Rattle.ext_text.proofs.Lists.{all_append, all_prefix, all_back, all_both, all_weaker}
 use Rattle.ext_tree.specs.declared.entry.Entry.{Entry}
 use Rattle.ext_tree.specs.declared.stamp.Stamp.{Stamp}
 use Rattle.ext_tree.specs.Tree.{Entries, IsTree}
@@ -15,7 +15,7 @@ use Rattle.ext_tree.specs.TreeText.{HasLine, HasText, IsWritable, ReadsLine}
 use Rattle.ext_tree.specs.Reading.{MayStand}
 use Rattle.ext_tree.proofs.LineLaws.{line_injective, line_not_end}
 use Rattle.ext_tree.proofs.Orders.{each_found}
-use Rattle.ext_tree.proofs.Fronts.{root_none}
+use Rattle.ext_tree.proofs.Prefixes.{root_none}
 use Rattle.ext_tree.proofs.LastEntry.{pop_tree, empty_tree}
 
 -- ---- texts
@@ -42,20 +42,20 @@ pop_text es x text = record {
     tree = pop_tree es x.0 x.1 text.within.tree;
     count = omega (arith, length-append es (x ∷ []), text.within.count);
   };
-  each = all_front (λ y. IsWritable y.1) es (x ∷ []) text.each;
+  each = all_prefix (λ y. IsWritable y.1) es (x ∷ []) text.each;
 }
 
 regrouped : (es : Entries Stamp) (x : List (List ℕ) × Entry Stamp) (more : Entries Stamp) → es ++ (x ∷ more) ≡ (es ++ x ∷ []) ++ more
 regrouped es x more = sym (append_assoc es (x ∷ []) more)
 
 -- and so has each front
-pub front_text : (es more : Entries Stamp) → HasText (es ++ more) → HasText es
-front_text es [] text = subst HasText (append-nil es) text
-front_text es (x ∷ more) text = pop_text es x (front_text (es ++ x ∷ []) more (subst HasText (regrouped es x more) text))
+pub prefix_text : (es more : Entries Stamp) → HasText (es ++ more) → HasText es
+prefix_text es [] text = subst HasText (append-nil es) text
+prefix_text es (x ∷ more) text = pop_text es x (prefix_text (es ++ x ∷ []) more (subst HasText (regrouped es x more) text))
 
 -- the front up to the next entry
-pub front_next : (es : Entries Stamp) (x : List (List ℕ) × Entry Stamp) (more : Entries Stamp) → HasText (es ++ (x ∷ more)) → HasText (es ++ x ∷ [])
-front_next es x more text = front_text (es ++ x ∷ []) more (subst HasText (regrouped es x more) text)
+pub prefix_next : (es : Entries Stamp) (x : List (List ℕ) × Entry Stamp) (more : Entries Stamp) → HasText (es ++ (x ∷ more)) → HasText (es ++ x ∷ [])
+prefix_next es x more text = prefix_text (es ++ x ∷ []) more (subst HasText (regrouped es x more) text)
 
 push_text : (es : Entries Stamp) (x : List (List ℕ) × Entry Stamp) → HasText es → HasLine x → length es < 262144 → IsTree (es ++ x ∷ []) → HasText (es ++ x ∷ [])
 push_text es x text line room tree = record {

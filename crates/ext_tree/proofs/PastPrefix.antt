@@ -8,18 +8,18 @@ use Rattle.std.proofs.lemmas.Option.{slice_get_cases}
 use Rattle.std.specs.declared.cmp.Ordering.{Ordering}
 use Rattle.std.specs.declared.cmp.Ordering.TheVariants.{Less, Equal, Greater}
 use Rattle.std.specs.Ordering.{is_lt, ordering_then, eq_by_cmp}
-use Rattle.ext_text.specs.Name.{name_cmp}
-use Rattle.ext_text.specs.Path.{path_cmp, parent, is_front}
+use Rattle.ext_text.specs.Name.{bytes_cmp}
+use Rattle.ext_text.specs.Path.{path_cmp, parent, is_prefix}
 use Rattle.ext_tree.specs.Reading.{stands_after}
-use Rattle.ext_tree.specs.Tree.{is_dir}
+use Rattle.ext_tree.specs.Tree.{is_directory}
 use Rattle.ext_tree.specs.declared.entry.Entry.{Entry}
 use Rattle.ext_tree.proofs.LastEntry.{ends}
 use Rattle.ext_text.proofs.Facts.{is_equal}
-use Rattle.ext_text.proofs.PathFronts.{names_exact, names_tied}
+use Rattle.ext_text.proofs.PathPrefixes.{names_exact, names_tied}
 
 -- the answer for the name that a path has behind a front, if there is one: a smaller name, or a directory there
 abbrev pub Answers : {C : Type 0} → Option (List ℕ) → List ℕ → Entry C → Bool → Type 0
-Answers at n e b = MatchOption at (b ≡ is_dir e) (λ m. b ≡ is_lt (name_cmp m n))
+Answers at n e b = MatchOption at (b ≡ is_directory e) (λ m. b ≡ is_lt (bytes_cmp m n))
 
 -- a list of names stands before a single one exactly where its first name does
 first_less : (r : Ordering) (q : List (List ℕ)) (b : Bool) → is_lt r ≡ (is_lt (ordering_then r (path_cmp q [])) && (true || b))
@@ -29,17 +29,17 @@ first_less Equal (m ∷ q) b = refl
 first_less Greater q b = refl
 
 -- names that both begin with do not count
-past_front : {C : Type 0} (p q : List (List ℕ)) (n : List ℕ) (e : Entry C) (b : Bool) → is_front p q ≡ true → Answers (slice_get q (length p)) n e b
-    → b ≡ (is_lt (path_cmp q (p ++ n ∷ [])) && (is_some (slice_get q (length p)) || is_dir e))
-past_front [] [] n e b front answer = answer
-past_front [] (m ∷ q) n e b front answer = answer ∙ first_less (name_cmp m n) q (is_dir e)
-past_front (r ∷ p) [] n e b front answer = absurd (false≢true front)
-past_front (r ∷ p) (m ∷ q) n e b front answer =
-    let parts = and_parts (eq_by_cmp name_cmp r m) (is_front p q) front in
+past_prefix : {C : Type 0} (p q : List (List ℕ)) (n : List ℕ) (e : Entry C) (b : Bool) → is_prefix p q ≡ true → Answers (slice_get q (length p)) n e b
+    → b ≡ (is_lt (path_cmp q (p ++ n ∷ [])) && (is_some (slice_get q (length p)) || is_directory e))
+past_prefix [] [] n e b prefix answer = answer
+past_prefix [] (m ∷ q) n e b prefix answer = answer ∙ first_less (bytes_cmp m n) q (is_directory e)
+past_prefix (r ∷ p) [] n e b prefix answer = absurd (false≢true prefix)
+past_prefix (r ∷ p) (m ∷ q) n e b prefix answer =
+    let parts = and_parts (eq_by_cmp bytes_cmp r m) (is_prefix p q) prefix in
     let same : r ≡ m = names_exact r m (is_equal _ parts.0) in
-    let tied : name_cmp m r ≡ Equal = ap (name_cmp m) same ∙ names_tied m in
-    past_front p q n e b parts.1 answer
-    ∙ ap (λ o. is_lt (ordering_then o (path_cmp q (p ++ n ∷ []))) && (is_some (slice_get q (length p)) || is_dir e)) (sym tied)
+    let tied : bytes_cmp m r ≡ Equal = ap (bytes_cmp m) same ∙ names_tied m in
+    past_prefix p q n e b parts.1 answer
+    ∙ ap (λ o. is_lt (ordering_then o (path_cmp q (p ++ n ∷ []))) && (is_some (slice_get q (length p)) || is_directory e)) (sym tied)
 
 some_within : {X : Type 0} (xs : List X) (k : ℕ) → is_some (slice_get xs k) ≡ nat_lt k (length xs)
 some_within xs k = elim ((slice_get_cases xs k).1) [
@@ -48,13 +48,13 @@ some_within xs k = elim ((slice_get_cases xs k).1) [
 ]
 
 -- the answer is that of the whole paths
-pub stands_below : {C : Type 0} (path p q : List (List ℕ)) (n : List ℕ) (e : Entry C) (b : Bool) → path ≡ p ++ n ∷ [] → parent path ≡ p → is_front p q ≡ true → Answers (slice_get q (length p)) n e b → b ≡ stands_after (q, e) path
-stands_below path p q n e b whole folder front answer =
-    past_front p q n e b front answer
-    ∙ ap (λ x. is_lt (path_cmp q x) && (is_some (slice_get q (length p)) || is_dir e)) (sym whole)
-    ∙ ap (λ f. is_lt (path_cmp q path) && (f && (is_some (slice_get q (length p)) || is_dir e))) (sym front)
-    ∙ ap (λ d. is_lt (path_cmp q path) && (is_front p q && (d || is_dir e))) (some_within q (length p))
-    ∙ ap (λ r. is_lt (path_cmp q path) && (is_front r q && (nat_lt (length r) (length q) || is_dir e))) (sym folder)
+pub stands_below : {C : Type 0} (path p q : List (List ℕ)) (n : List ℕ) (e : Entry C) (b : Bool) → path ≡ p ++ n ∷ [] → parent path ≡ p → is_prefix p q ≡ true → Answers (slice_get q (length p)) n e b → b ≡ stands_after (q, e) path
+stands_below path p q n e b whole directory prefix answer =
+    past_prefix p q n e b prefix answer
+    ∙ ap (λ x. is_lt (path_cmp q x) && (is_some (slice_get q (length p)) || is_directory e)) (sym whole)
+    ∙ ap (λ f. is_lt (path_cmp q path) && (f && (is_some (slice_get q (length p)) || is_directory e))) (sym prefix)
+    ∙ ap (λ d. is_lt (path_cmp q path) && (is_prefix p q && (d || is_directory e))) (some_within q (length p))
+    ∙ ap (λ r. is_lt (path_cmp q path) && (is_prefix r q && (nat_lt (length r) (length q) || is_directory e))) (sym directory)
 
 -- the root stands behind no path
 pub no_root : {C : Type 0} (path q : List (List ℕ)) (e : Entry C) → length path < 1 → false ≡ stands_after (q, e) path
@@ -64,6 +64,6 @@ no_root (n ∷ path) q e none = absurd (omega arith)
 
 -- the same of names that end with a name
 pub stands_last : {C : Type 0} (names path q : List (List ℕ)) (n : List ℕ) (e : Entry C) (b : Bool) → names ≡ path → 0 < length names → n ≡ get_or names (length names - 1) n
-    → is_front (parent names) q ≡ true → Answers (slice_get q (length (parent names))) n e b → b ≡ stands_after (q, e) path
-stands_last names path q n e b same some is front answer =
-    stands_below path (parent names) q n e b (sym same ∙ ends names n some is) (ap parent (sym same)) front answer
+    → is_prefix (parent names) q ≡ true → Answers (slice_get q (length (parent names))) n e b → b ≡ stands_after (q, e) path
+stands_last names path q n e b same some is prefix answer =
+    stands_below path (parent names) q n e b (sym same ∙ ends names n some is) (ap parent (sym same)) prefix answer

@@ -1,0 +1,64 @@
+-- The fronts of an entry's path: the folders of a tree have theirs.
+use Rattle.std.proofs.Common.{◌≡◌, ℕ, suc, zero, ◌+◌, ◌-◌, ◌<◌, ◌≤◌, ◌≢◌, true, List, [], ◌∷◌, length, Option, Some, None, is_some, refl, sym, ap, ◌∙◌, subst, arith}
+use mathlib.Core.Logic.{inl, inr}
+use Rattle.std.proofs.lemmas.Bool.{true≢false, false≢true, cases_lt}
+use Rattle.ext_text.specs.Path.{parent, is_prefix}
+use Rattle.ext_text.proofs.PathPrefixes.{some_name, prefix_take, prefix_short, prefix_shorter, prefix_whole, length-parent, parent_prefix, parent_other}
+use Rattle.ext_tree.specs.declared.entry.Entry.{Entry}
+use Rattle.ext_tree.specs.Tree.{Entries, IsTree, lookup, is_directory_at, is_directory_or_root}
+use Rattle.ext_tree.specs.Refusals.{is_root}
+use Rattle.ext_tree.specs.Laws.{HasPrefixes, EntriesHavePrefixes, DirectoriesHavePrefixes}
+
+pub root_none : {C : Type 0} (es : Entries C) → IsTree es → (p : List (List ℕ)) → is_some (lookup es p) ≡ true → 0 < length p
+root_none es tree [] found = absurd (false≢true (sym (ap is_some tree.root) ∙ found))
+root_none es tree (n ∷ p) found = omega arith
+
+pub some_dir : {C : Type 0} (o : Option (Entry C)) → is_directory_at o ≡ true → is_some o ≡ true
+some_dir None is = absurd (false≢true is)
+some_dir (Some e) is = refl
+
+-- a folder that is not the root is a directory
+pub directory_dir : {C : Type 0} (es : Entries C) (p : List (List ℕ)) → 0 < length p → is_directory_or_root es p ≡ true → is_directory_at (lookup es p) ≡ true
+directory_dir es [] some directory = absurd (omega arith)
+directory_dir es (n ∷ p) some directory = directory
+
+pub dir_directory : {C : Type 0} (es : Entries C) (p : List (List ℕ)) → is_directory_at (lookup es p) ≡ true → is_directory_or_root es p ≡ true
+dir_directory es [] dir = refl
+dir_directory es (n ∷ p) dir = dir
+
+pub directory_some : {C : Type 0} (es : Entries C) (p : List (List ℕ)) → 0 < length p → is_directory_or_root es p ≡ true → is_some (lookup es p) ≡ true
+directory_some es p some directory = some_dir (lookup es p) (directory_dir es p some directory)
+
+directory_there : {C : Type 0} (es : Entries C) (p : List (List ℕ)) → (p ≢ [] → is_directory_at (lookup es p) ≡ true) → is_directory_or_root es p ≡ true
+directory_there es [] dir = refl
+directory_there es (n ∷ p) dir = dir (λ is. true≢false (sym (ap is_root is)))
+
+-- where the parent of a path is a folder, so is each shorter front of the path: the parent's parent is one, and so on
+-- upwards
+prefixes_within : {C : Type 0} (es : Entries C) → IsTree es → (most : ℕ) (r q : List (List ℕ)) → length q ≤ most → is_directory_or_root es (parent q) ≡ true → is_prefix r q ≡ true → length r < length q → is_directory_or_root es r ≡ true
+prefixes_within es tree zero r q small directory prefix short = absurd (omega arith)
+prefixes_within es tree (suc most) r q small directory prefix short =
+    let len : length (parent q) + 1 ≡ length q = length-parent q (omega arith) in
+    let within : is_prefix r (parent q) ≡ true = prefix_take (length q - 1) r q prefix (omega arith) in
+    elim (cases_lt (length r) (length (parent q))) [
+      | inl proper ↦ prefixes_within es tree most r (parent q) (omega arith) (tree.parents (parent q) (directory_some es (parent q) (omega arith) directory)) within proper
+      | inr not_less ↦
+          let no_longer : length r ≤ length (parent q) = prefix_short r (parent q) within in
+          subst (λ x. is_directory_or_root es x ≡ true) (sym (prefix_whole r (parent q) within (omega arith))) directory
+    ]
+
+pub prefixes : {C : Type 0} (es : Entries C) → IsTree es → (r q : List (List ℕ)) → is_some (lookup es q) ≡ true → is_prefix r q ≡ true → length r < length q → is_directory_or_root es r ≡ true
+prefixes es tree r q found prefix short = prefixes_within es tree (length q) r q (omega arith) (tree.parents q found) prefix short
+
+has_prefixes : {C : Type 0} (es : Entries C) → IsTree es → (p : List (List ℕ)) → is_directory_or_root es (parent p) ≡ true → HasPrefixes es p
+has_prefixes es tree p directory q prefix =
+    directory_dir es q (some_name q prefix.below) (prefixes_within es tree (length p) q p (omega arith) directory prefix.begins (prefix_shorter q p prefix.begins prefix.shorter))
+
+pub entries_have_prefixes : {C : Type 0} → EntriesHavePrefixes C
+entries_have_prefixes es p tree there = has_prefixes es tree p (tree.parents p there)
+
+pub directories_have_prefixes : {C : Type 0} → DirectoriesHavePrefixes C
+directories_have_prefixes es p tree below = (
+  has_prefixes es tree p,
+  λ prefixes. directory_there es (parent p) (λ above. prefixes (parent p) (record { begins = parent_prefix p; shorter = parent_other p (some_name p below); below = above })),
+)
