@@ -1,5 +1,5 @@
 ghost use Rattle.std.specs.Prelude.{◌≡◌, ◌++◌, codes, decimal, IfOk, OnOk};
-ghost use Rattle.ext_top.specs.Refusals.{refusal_line, refusal_number, refusal_details, place_word, which_word};
+ghost use Rattle.ext_top.specs.Refusal.{refusal_line, refusal_number, refusal_details, place_word, which_word};
 
 use ext_text::{OutOfMemory, Path, Text, Which};
 use itoa::Buffer;
@@ -50,7 +50,7 @@ fn which_word(which: Which) -> &'static str
 /// The line of a refusal, with its newline: `refused`, the number, the word and the details, parted by spaces.
 ///
 /// # Errors
-/// Want of memory alone.
+/// Out of memory alone.
 pub fn refusal_text(alloc: Global, refusal: &Refusal) -> Result<Text, OutOfMemory>
     ensures { IfOk result (λ text. text ≡ refusal_line refusal.now) }
 {

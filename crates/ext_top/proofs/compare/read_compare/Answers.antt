@@ -1,5 +1,5 @@
-use Rattle.ext_top.proofs.Usage.{compare_alone, compare_one, compare_three}
-use Rattle.ext_top.proofs.words.read_compare.Goals as goal
+use Rattle.ext_top.proofs.WordsLemmas.{compare_alone, compare_one, compare_three}
+use Rattle.ext_top.proofs.compare.read_compare.Goals as goal
 
 pub returns-in-empty : goal.returns-in-empty
 returns-in-empty c = compare_alone c.args.more.now c.in-empty.len_below
