@@ -62,8 +62,7 @@ module _ {C : Type 0} (P : Entry C → Type 0) where
             let none : lookup es p ≡ None = ap (lookup es) (same_path p x.0 t) ∙ not_found x.0 x.0 (prefix_self x.0) es (T_from_true _ parts.0) in
             absurd (false≢true (sym (ap is_some none) ∙ ap is_some h))
         | false ↦ λ t. refl
-      ] refl in
-      (
+      ] refl in (
         at x.0 x.1 (ap (λ b. cond b (Some x.1) (find path_cmp x.0 es)) (tied_path x.0 x.0 refl)),
         all_from_lookup es parts.1 (λ p e h. at p e (ap (λ b. cond b (Some x.1) (find path_cmp p es)) (apart p e h) ∙ h)),
       )

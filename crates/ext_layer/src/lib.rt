@@ -9,8 +9,8 @@
 mod errors;
 mod item;
 mod joining;
-mod layered;
 pub mod laws;
+mod layered;
 mod overlay;
 #[cfg(test)]
 mod tests;
