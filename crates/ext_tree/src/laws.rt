@@ -1,7 +1,8 @@
 //! Laws of trees and of their texts, each the contract of a function that does nothing: what holds of every tree and of
 //! every text, whoever made it.
 ghost use Rattle.ext_tree.specs.Laws.{EntriesHavePrefixes, DirectoriesHavePrefixes};
-ghost use Rattle.ext_tree.specs.TextLaws.{OneTreeOfText, OneTextOfTree, NoPrefixOfText, OneListOfRow, NoFaultInRow};
+ghost use Rattle.ext_tree.specs.FirstFault.{IsOne, AtLeastOne};
+ghost use Rattle.ext_tree.specs.TextLaws.{OneTreeOfText, OneTextOfTree, NoPrefixOfText, OneListOfSequence, NoFaultInText, NoFaultInSequence, PrefixesBegin, OneFirstFault};
 
 /// Every front of an entry's path that is neither the path nor the root is a directory, in every tree. And the folder
 /// of a path below the root is one exactly where each such front of that path is a directory: so an insert answers
@@ -26,12 +27,20 @@ pub fn no_prefix_of_text()
     ensures { NoPrefixOfText }
 {}
 
-/// A row of texts is that of one list of trees.
-pub fn one_list_of_row()
-    ensures { OneListOfRow }
+/// A sequence of texts is that of one list of trees.
+pub fn one_list_of_sequence()
+    ensures { OneListOfSequence }
 {}
 
-/// A row of texts has no faulty line.
-pub fn no_fault_in_row()
-    ensures { NoFaultInRow }
+/// A tree text has no first faulty line, and no bytes have two.
+pub fn first_fault_of_text()
+    ensures none { NoFaultInText }
+    ensures one { OneFirstFault IsOne }
+{}
+
+/// A sequence of texts has no first faulty line: with each prefix of its lines a sequence begins. And no bytes have two.
+pub fn first_fault_of_sequence()
+    ensures none { NoFaultInSequence }
+    ensures begins { PrefixesBegin }
+    ensures one { OneFirstFault AtLeastOne }
 {}

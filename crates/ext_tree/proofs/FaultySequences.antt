@@ -1,4 +1,4 @@
--- Where the reading of a text stops, no row goes on: the answers of the readers.
+-- Where the reading of a text stops, no sequence goes on: the answers of the readers.
 use Rattle.std.proofs.Common.{◌≡◌, ◌≢◌, ℕ, ◌+◌, ◌<◌, ◌≤◌, Bool, false, eqb, List, [], ◌∷◌, ◌++◌, length, refl, sym, ap, ◌∙◌, subst, arith, append_assoc, length-append}
 use Rattle.std.proofs.lemmas.List.{append-nil}
 use Rattle.std.specs.Prelude.{codes, map, ◌⊎◌, Err}
@@ -14,23 +14,23 @@ use Rattle.ext_tree.specs.declared.reading.TreeTextErr.{TreeTextErr}
 use Rattle.ext_tree.specs.declared.reading.TreeTextErr.TheVariants.{OutOfMemory, BadTree}
 use Rattle.ext_tree.specs.Tree.{Entries}
 use Rattle.ext_tree.specs.TreeText.{HasText, entry_line, tree_lines, lines_text, tree_text}
-use Rattle.ext_tree.specs.FirstFault.{IsFirstFault, IsOne, AtLeastOne, ReadsTree, ReadsRow}
+use Rattle.ext_tree.specs.FirstFault.{IsFirstFault, IsOne, AtLeastOne, ReadsTree, ReadsSequence}
 use Rattle.ext_tree.specs.Reading.{MayStand, NoneNext, StopsBody, StopsText, BeginsText, TextFault}
 use Rattle.ext_tree.proofs.TextPrefixes.{lines_of, empty_text}
 use Rattle.ext_tree.proofs.WholeLines.{lines_text-append}
 use Rattle.ext_tree.proofs.BodyLines.{line_more, length-tree_lines}
-use Rattle.ext_tree.proofs.Rows.{next_line, open_body, row_peeled, ended}
-use Rattle.ext_tree.proofs.Faults.{NoRow, IsStuck, stuck_fault, row_text, row_lacks, tree_lacks, header_lacks, entries_lack}
+use Rattle.ext_tree.proofs.Sequences.{next_line, open_body, sequence_peeled, ended}
+use Rattle.ext_tree.proofs.Faults.{IsStuck, stuck_fault, sequence_text, sequence_lacks, tree_lacks, header_lacks, entries_lack}
 
--- ---- rows of trees and the lines that begin one more
+-- ---- sequences of trees and the lines that begin one more
 
 one_more : (done : List (Entries Stamp)) (t : Entries Stamp) → flat_map tree_lines (done ++ t ∷ []) ≡ flat_map tree_lines done ++ tree_lines t
 one_more done t = flat_map-append tree_lines done (t ∷ []) ∙ ap (λ xs. flat_map tree_lines done ++ xs) (append-nil (tree_lines t))
 
--- what stands behind whole trees in a row is a header, or nothing
+-- what stands behind whole trees in a sequence is a header, or nothing
 next_header : (done trees : List (Entries Stamp)) (l : List ℕ) (a : List (List ℕ)) → AllByRecursion HasText done → AllByRecursion HasText trees → (flat_map tree_lines done ++ l ∷ []) ++ a ≡ flat_map tree_lines trees → l ≡ codes "hostext-tree 1"
 next_header done trees l a hd ht same =
-    let peeled = row_peeled done trees (l ∷ a) hd ht (sym (append_assoc (flat_map tree_lines done) (l ∷ []) a) ∙ same) in
+    let peeled = sequence_peeled done trees (l ∷ a) hd ht (sym (append_assoc (flat_map tree_lines done) (l ∷ []) a) ∙ same) in
     header_of peeled.0 peeled.2
   where
     header_of : (more : List (Entries Stamp)) → l ∷ a ≡ flat_map tree_lines more → l ≡ codes "hostext-tree 1"
@@ -47,7 +47,7 @@ open_lines done es = flat_map tree_lines done ++ codes "hostext-tree 1" ∷ map 
 -- what stands behind a header and entries
 next_entry : (done trees : List (Entries Stamp)) (es : Entries Stamp) (l : List ℕ) (a : List (List ℕ)) → AllByRecursion HasText done → AllByRecursion HasText trees → HasText es → (open_lines done es ++ l ∷ []) ++ a ≡ flat_map tree_lines trees → MayStand es l
 next_entry done trees es l a hd ht text same =
-    let peeled = row_peeled done trees (codes "hostext-tree 1" ∷ (map entry_line es ++ l ∷ a)) hd ht (sym regrouped ∙ same) in
+    let peeled = sequence_peeled done trees (codes "hostext-tree 1" ∷ (map entry_line es ++ l ∷ a)) hd ht (sym regrouped ∙ same) in
     entry_of peeled.0 peeled.3 peeled.2
   where
     regrouped : (open_lines done es ++ l ∷ []) ++ a ≡ flat_map tree_lines done ++ (codes "hostext-tree 1" ∷ (map entry_line es ++ l ∷ a))
@@ -66,7 +66,7 @@ next_entry done trees es l a hd ht text same =
 -- a header and entries are no whole tree
 unended_entries : (done trees : List (Entries Stamp)) (es : Entries Stamp) → AllByRecursion HasText done → AllByRecursion HasText trees → open_lines done es ≡ flat_map tree_lines trees → ⊥
 unended_entries done trees es hd ht same =
-    let peeled = row_peeled done trees (codes "hostext-tree 1" ∷ map entry_line es) hd ht same in
+    let peeled = sequence_peeled done trees (codes "hostext-tree 1" ∷ map entry_line es) hd ht same in
     never peeled.0 peeled.2
   where
     never : (more : List (Entries Stamp)) → codes "hostext-tree 1" ∷ map entry_line es ≡ flat_map tree_lines more → ⊥
@@ -76,13 +76,13 @@ unended_entries done trees es hd ht same =
         let bodies : map entry_line es ≡ map entry_line u ++ codes "end" ∷ flat_map tree_lines more = cc in
         open_body es u (flat_map tree_lines more) bodies
 
--- ---- stuck in a row
+-- ---- stuck in a sequence
 
 stuck_header : (wanted : List (Entries Stamp) → Type 0) (bytes : List ℕ) (done : List (Entries Stamp)) (rest : List ℕ) → AllByRecursion HasText done → ((t : Entries Stamp) → wanted (done ++ t ∷ [])) → (wanted [] → ⊥) → bytes ≡ flat_map tree_text done ++ rest
     → (done ≡ []) ⊎ (0 < length rest) → NoneNext (λ l. l ≡ codes "hostext-tree 1") rest → IsStuck wanted bytes (flat_map tree_lines done) rest
 stuck_header wanted bytes done rest hd longer none text unended stop = record {
-  text = text ∙ ap (λ xs. xs ++ rest) (row_text done);
-  lacks = row_lacks done hd;
+  text = text ∙ ap (λ xs. xs ++ rest) (sequence_text done);
+  lacks = sequence_lacks done hd;
   before = record {
     trees = done ++ [] ∷ [];
     more = tree_lines [];
@@ -108,7 +108,7 @@ stuck_entries : (wanted : List (Entries Stamp) → Type 0) (bytes : List ℕ) (d
     → IsSplit 10 rest (codes "hostext-tree 1") body → (stops : StopsBody body first line) → IsStuck wanted bytes (open_lines done stops.entries) stops.rest
 stuck_entries wanted bytes done rest body first line hd longer text cut stops = record {
   text = read;
-  lacks = all_append (Lacks 10) (flat_map tree_lines done) (codes "hostext-tree 1" ∷ map entry_line stops.entries) (row_lacks done hd) (header_lacks, entries_lack stops.entries (lines_of stops.entries stops.tree));
+  lacks = all_append (Lacks 10) (flat_map tree_lines done) (codes "hostext-tree 1" ∷ map entry_line stops.entries) (sequence_lacks done hd) (header_lacks, entries_lack stops.entries (lines_of stops.entries stops.tree));
   before = record {
     trees = done ++ stops.entries ∷ [];
     more = codes "end" ∷ [];
@@ -122,7 +122,7 @@ stuck_entries wanted bytes done rest body first line hd longer text cut stops = 
   where
     read : bytes ≡ lines_text (open_lines done stops.entries) ++ stops.rest
     read =
-        line_more bytes (flat_map tree_lines done) rest (codes "hostext-tree 1") body (text ∙ ap (λ xs. xs ++ rest) (row_text done)) cut
+        line_more bytes (flat_map tree_lines done) rest (codes "hostext-tree 1") body (text ∙ ap (λ xs. xs ++ rest) (sequence_text done)) cut
         ∙ ap (λ xs. lines_text (flat_map tree_lines done ++ codes "hostext-tree 1" ∷ []) ++ xs) stops.text
         ∙ sym (append_assoc (lines_text (flat_map tree_lines done ++ codes "hostext-tree 1" ∷ [])) (lines_text (map entry_line stops.entries)) stops.rest)
         ∙ ap (λ xs. xs ++ stops.rest) (sym (lines_text-append (flat_map tree_lines done ++ codes "hostext-tree 1" ∷ []) (map entry_line stops.entries)))
@@ -130,43 +130,34 @@ stuck_entries wanted bytes done rest body first line hd longer text cut stops = 
 
 -- ---- the answers
 
-row_stops : (wanted : List (Entries Stamp) → Type 0) (bytes : List ℕ) (done : List (Entries Stamp)) (rest : List ℕ) (line : ℕ) → AllByRecursion HasText done → ((t : Entries Stamp) → wanted (done ++ t ∷ [])) → (wanted [] → ⊥) → bytes ≡ flat_map tree_text done ++ rest
-    → (done ≡ []) ⊎ (0 < length rest) → StopsText rest (1 + length (flat_map tree_lines done)) line → NoRow wanted bytes × IsFirstFault wanted bytes line
-row_stops wanted bytes done rest line hd longer none text unended (inl (is, stop)) =
+sequence_stops : (wanted : List (Entries Stamp) → Type 0) (bytes : List ℕ) (done : List (Entries Stamp)) (rest : List ℕ) (line : ℕ) → AllByRecursion HasText done → ((t : Entries Stamp) → wanted (done ++ t ∷ [])) → (wanted [] → ⊥) → bytes ≡ flat_map tree_text done ++ rest
+    → (done ≡ []) ⊎ (0 < length rest) → StopsText rest (1 + length (flat_map tree_lines done)) line → IsFirstFault wanted bytes line
+sequence_stops wanted bytes done rest line hd longer none text unended (inl (is, stop)) =
     stuck_fault wanted bytes (flat_map tree_lines done) rest line (stuck_header wanted bytes done rest hd longer none text unended stop) (omega (arith, is))
-row_stops wanted bytes done rest line hd longer none text unended (inr (body, cut, stops)) =
+sequence_stops wanted bytes done rest line hd longer none text unended (inr (body, cut, stops)) =
     stuck_fault wanted bytes (open_lines done stops.entries) stops.rest line (stuck_entries wanted bytes done rest body (1 + length (flat_map tree_lines done) + 1) line hd longer text cut stops)
     (omega (arith, stops.counted, length-append (flat_map tree_lines done) (codes "hostext-tree 1" ∷ map entry_line stops.entries), length-map stops.entries entry_line))
-
--- what is no row of one tree is no tree's text
-no_tree : (bytes : List ℕ) (line : ℕ) → NoRow IsOne bytes × IsFirstFault IsOne bytes line → ReadsTree bytes (Err (BadTree line))
-no_tree bytes line found = (
-  (λ tree text. found.0 (tree ∷ []) (omega arith) (text.tree, tt) (text.text ∙ sym (append-nil (tree_text tree)))),
-  found.1,
-)
 
 -- what `read_tree` answers where no text goes on
 pub tree_err : (bytes : List ℕ) (e : TreeTextErr) → TextFault bytes 1 e → ReadsTree bytes (Err e)
 tree_err bytes OutOfMemory fault = tt
-tree_err bytes (BadTree line) stops =
-    let found : NoRow IsOne bytes × IsFirstFault IsOne bytes line = row_stops IsOne bytes [] bytes line tt (λ t. omega arith) (λ one. omega arith) refl (inl refl) stops in
-    no_tree bytes line found
+tree_err bytes (BadTree line) stops = sequence_stops IsOne bytes [] bytes line tt (λ t. omega arith) (λ one. omega arith) refl (inl refl) stops
 
 -- and what it answers where something stands behind a text
 pub tree_more : (bytes : List ℕ) (es : Entries Stamp) (rest : List ℕ) (next : ℕ) → BeginsText bytes 1 es rest next → (rest ≢ []) → ReadsTree bytes (Err (BadTree next))
 tree_more bytes es rest next begins some =
-    no_tree bytes next (stuck_fault IsOne bytes (tree_lines es) rest next (record {
+    stuck_fault IsOne bytes (tree_lines es) rest next (record {
       text = begins.text;
       lacks = tree_lacks es begins.tree;
       before = record { trees = es ∷ []; more = []; as_many = omega arith; each = (begins.tree, tt); text = refl };
       stop = λ l more cut b. one_more_line b.trees l b.more b.as_many b.each b.text;
       unended = λ trees one each same. some;
-    }) (omega (arith, begins.counted)))
+    }) (omega (arith, begins.counted))
   where
     -- behind the lines of one tree there is none
     one_more_line : (trees : List (Entries Stamp)) (l : List ℕ) (a : List (List ℕ)) → length trees ≡ 1 → AllByRecursion HasText trees → (tree_lines es ++ l ∷ []) ++ a ≡ flat_map tree_lines trees → ⊥
     one_more_line trees l a one each same =
-        let peeled = row_peeled (es ∷ []) trees (l ∷ a) (begins.tree, tt) each
+        let peeled = sequence_peeled (es ∷ []) trees (l ∷ a) (begins.tree, tt) each
         (ap (λ xs. xs ++ l ∷ a) (append-nil (tree_lines es)) ∙ sym (append_assoc (tree_lines es) (l ∷ []) a) ∙ same) in
         alone peeled.0 (omega (arith, ap length peeled.1)) peeled.2
       where
@@ -175,13 +166,11 @@ tree_more bytes es rest next begins some =
         alone (t ∷ more) none is = omega arith
 
 -- what `read_trees` answers where no text goes on behind the texts of trees
-pub row_err : (bytes : List ℕ) (done : List (Entries Stamp)) (rest : List ℕ) (first : ℕ) (e : TreeTextErr) → AllByRecursion HasText done → bytes ≡ flat_map tree_text done ++ rest → first ≡ 1 + length (flat_map tree_lines done) → (done ≡ []) ⊎ (0 < length rest)
-    → TextFault rest first e → ReadsRow bytes (Err e)
-row_err bytes done rest first OutOfMemory each text counted unended fault = tt
-row_err bytes done rest first (BadTree line) each text counted unended stops =
-    let found : NoRow AtLeastOne bytes × IsFirstFault AtLeastOne bytes line =
-    row_stops AtLeastOne bytes done rest line each (λ t. omega (arith, length-append done (t ∷ []))) (λ some. omega arith) text unended (subst (λ n. StopsText rest n line) counted stops) in
-    (λ trees row. found.0 trees row.some row.each row.text, found.1)
+pub sequence_err : (bytes : List ℕ) (done : List (Entries Stamp)) (rest : List ℕ) (first : ℕ) (e : TreeTextErr) → AllByRecursion HasText done → bytes ≡ flat_map tree_text done ++ rest → first ≡ 1 + length (flat_map tree_lines done) → (done ≡ []) ⊎ (0 < length rest)
+    → TextFault rest first e → ReadsSequence bytes (Err e)
+sequence_err bytes done rest first OutOfMemory each text counted unended fault = tt
+sequence_err bytes done rest first (BadTree line) each text counted unended stops =
+    sequence_stops AtLeastOne bytes done rest line each (λ t. omega (arith, length-append done (t ∷ []))) (λ some. omega arith) text unended (subst (λ n. StopsText rest n line) counted stops)
 
 -- ---- one more text
 

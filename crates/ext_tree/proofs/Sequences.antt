@@ -1,4 +1,4 @@
--- Rows of trees' lines are read in one way only, and what may stand next in them.
+-- Sequences of trees' lines are read in one way only, and what may stand next in them.
 use Rattle.std.proofs.Common.{◌≡◌, ℕ, List, [], ◌∷◌, ◌++◌, refl, sym, ap, ◌∙◌, subst, append_assoc}
 use Rattle.std.proofs.lemmas.List.{append-nil}
 use Rattle.std.specs.Prelude.{codes, map}
@@ -47,7 +47,7 @@ open_body [] (y ∷ fs) b same = cc
 open_body (x ∷ es) [] b same = let head : entry_line x ≡ codes "end" = cc in line_not_end x head
 open_body (x ∷ es) (y ∷ fs) b same = let tail : map entry_line es ≡ map entry_line fs ++ codes "end" ∷ b = cc in open_body es fs b tail
 
--- ---- rows
+-- ---- sequences
 
 pub ended : (es : Entries Stamp) (a : List (List ℕ)) → tree_lines es ++ a ≡ codes "hostext-tree 1" ∷ (map entry_line es ++ codes "end" ∷ a)
 ended es a = ap (λ xs. codes "hostext-tree 1" ∷ xs) (append_assoc (map entry_line es) (codes "end" ∷ []) a)
@@ -58,17 +58,17 @@ one_tree t u a b ht hu same =
     let bodies : map entry_line t ++ codes "end" ∷ a ≡ map entry_line u ++ codes "end" ∷ b = cc in
     one_body t u a b (lines_of t ht) (lines_of u hu) bodies
 
--- the lines of trees and what follows, where they are a row's: the row begins with these trees
-pub row_peeled : (done trees : List (Entries Stamp)) (a : List (List ℕ)) → AllByRecursion HasText done → AllByRecursion HasText trees → flat_map tree_lines done ++ a ≡ flat_map tree_lines trees
+-- the lines of trees and what follows, where they are a sequence's: the sequence begins with these trees
+pub sequence_peeled : (done trees : List (Entries Stamp)) (a : List (List ℕ)) → AllByRecursion HasText done → AllByRecursion HasText trees → flat_map tree_lines done ++ a ≡ flat_map tree_lines trees
     → (more : List (Entries Stamp)) × (trees ≡ done ++ more) × (a ≡ flat_map tree_lines more) × AllByRecursion HasText more
-row_peeled [] trees a hd ht same = (trees, refl, same, ht)
-row_peeled (d ∷ done) [] a hd ht same = absurd (no_row (flat_map tree_lines done) same)
+sequence_peeled [] trees a hd ht same = (trees, refl, same, ht)
+sequence_peeled (d ∷ done) [] a hd ht same = absurd (no_sequence (flat_map tree_lines done) same)
   where
-    no_row : (rest : List (List ℕ)) → (tree_lines d ++ rest) ++ a ≡ [] → ⊥
-    no_row rest none = cc
-row_peeled (d ∷ done) (t ∷ trees) a hd ht same =
+    no_sequence : (rest : List (List ℕ)) → (tree_lines d ++ rest) ++ a ≡ [] → ⊥
+    no_sequence rest none = cc
+sequence_peeled (d ∷ done) (t ∷ trees) a hd ht same =
     let first : (d ≡ t) × (flat_map tree_lines done ++ a ≡ flat_map tree_lines trees) =
     one_tree d t (flat_map tree_lines done ++ a) (flat_map tree_lines trees) hd.0 ht.0 (sym (append_assoc (tree_lines d) (flat_map tree_lines done) a) ∙ same) in
-    let rest = row_peeled done trees a hd.1 ht.1 first.1 in
+    let rest = sequence_peeled done trees a hd.1 ht.1 first.1 in
     let head : t ≡ d = sym first.0 in
     (rest.0, (λ i. head i ∷ rest.1 i), rest.2, rest.3)
