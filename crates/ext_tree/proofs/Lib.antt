@@ -1,4 +1,4 @@
-pub mod Place
+pub mod InsertionPointLemmas
 pub mod Prefixes
 pub mod Kept
 pub mod Orders

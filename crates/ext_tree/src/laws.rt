@@ -4,9 +4,9 @@ ghost use Rattle.ext_tree.specs.Laws.{EntriesHavePrefixes, DirectoriesHavePrefix
 ghost use Rattle.ext_tree.specs.FirstFault.{IsOne, AtLeastOne};
 ghost use Rattle.ext_tree.specs.TextLaws.{OneTreeOfText, OneTextOfTree, NoPrefixOfText, OneListOfSequence, NoFaultInText, NoFaultInSequence, PrefixesBegin, OneFirstFault};
 
-/// Every front of an entry's path that is neither the path nor the root is a directory, in every tree. And the folder
-/// of a path below the root is one exactly where each such front of that path is a directory: so an insert answers
-/// `NotDirectory` exactly where such a front is absent or no directory.
+/// In every tree each non-empty proper prefix of an entry's path is a directory. And the parent of a path below the root
+/// is a directory or the root exactly where each such prefix of that path is a directory: so an insert answers
+/// `NotDirectory` exactly where one is absent or no directory.
 pub fn every_prefix_is_a_directory<C>()
     ensures entries { EntriesHavePrefixes C }
     ensures directories { DirectoriesHavePrefixes C }
@@ -22,7 +22,7 @@ pub fn one_text_of_tree()
     ensures { OneTextOfTree }
 {}
 
-/// No tree text is a proper front of another: a reader knows where a text ends.
+/// No tree text is a proper prefix of another: a reader knows where a text ends.
 pub fn no_prefix_of_text()
     ensures { NoPrefixOfText }
 {}

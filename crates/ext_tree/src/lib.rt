@@ -10,7 +10,7 @@ mod fields;
 mod following;
 pub mod laws;
 mod lines;
-mod places;
+mod insertion_point;
 mod reading;
 mod stamp;
 #[cfg(test)]
