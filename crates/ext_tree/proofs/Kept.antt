@@ -15,8 +15,8 @@ use Rattle.ext_tree.specs.declared.entry.Entry.{Entry}
 use Rattle.ext_tree.specs.declared.tree.TreeErr.TheVariants.{Exists, NotDirectory, Limit}
 use Rattle.ext_tree.specs.Tree.{Entries, IsTree, IsTreeWithin, lookup, is_directory_at, is_directory_or_root, most_entries}
 use Rattle.ext_tree.specs.Refusals.{insert_refusal, is_root}
-use Rattle.ext_tree.specs.Place.{place}
-use Rattle.ext_tree.proofs.Place.{find_there, insert_here}
+use Rattle.ext_tree.specs.InsertionPoint.{insertion_point}
+use Rattle.ext_tree.proofs.InsertionPointLemmas.{find_there, insert_here}
 
 -- the folder of an entry is one, by whatever spelling
 pub directory_of : {C : Type 0} (es : Entries C) (i : ℕ) (e : List (List ℕ) × Entry C) (directory : List (List ℕ)) → IsTree es → slice_get es i ≡ Some e → eq_by_cmp path_cmp directory (parent e.0) ≡ true → IsTrue (is_directory_or_root es directory)
@@ -91,11 +91,11 @@ tree_put es p e is path h =
 
 -- what the entry is put into at its place, where the place and the refusal are asked of the list and the path as they
 -- are seen through references
-pub put_at : {C : Type 0} {es seen : Entries C} {p names : List (List ℕ)} {i : ℕ} (e : Entry C) → seen ≡ es → names ≡ p → i ≡ place path_cmp names seen → None ≡ insert_refusal seen p → insert es i (p, e) ≡ put path_cmp p e es
+pub put_at : {C : Type 0} {es seen : Entries C} {p names : List (List ℕ)} {i : ℕ} (e : Entry C) → seen ≡ es → names ≡ p → i ≡ insertion_point path_cmp names seen → None ≡ insert_refusal seen p → insert es i (p, e) ≡ put path_cmp p e es
 put_at {es = es} {p = p} e same named at free =
-    ap (λ n. insert es n (p, e)) (at ∙ (λ j. place path_cmp (named j) (same j)))
+    ap (λ n. insert es n (p, e)) (at ∙ (λ j. insertion_point path_cmp (named j) (same j)))
     ∙ insert_here path_cmp paths_total p e es (no_entry _ (is_free es p (ap (λ es. insert_refusal es p) (sym same) ∙ sym free)).absent)
 
-pub tree_put_at : {C : Type 0} {es seen : Entries C} {p names : List (List ℕ)} {i : ℕ} (e : Entry C) → IsTreeWithin es → IsPath p → seen ≡ es → names ≡ p → i ≡ place path_cmp names seen → None ≡ insert_refusal seen p → IsTreeWithin (insert es i (p, e))
+pub tree_put_at : {C : Type 0} {es seen : Entries C} {p names : List (List ℕ)} {i : ℕ} (e : Entry C) → IsTreeWithin es → IsPath p → seen ≡ es → names ≡ p → i ≡ insertion_point path_cmp names seen → None ≡ insert_refusal seen p → IsTreeWithin (insert es i (p, e))
 tree_put_at {es = es} {p = p} e is path same named at free =
     subst IsTreeWithin (sym (put_at e same named at free)) (tree_put es p e is path (ap (λ es. insert_refusal es p) (sym same) ∙ sym free))

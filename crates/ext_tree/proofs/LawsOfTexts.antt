@@ -1,15 +1,15 @@
 -- The laws of tree texts.
-use Rattle.std.proofs.Common.{◌≡◌, ℕ, List, [], ◌∷◌, ◌++◌, drop, take-append-drop, sym, ap, ◌∙◌}
+use Rattle.std.proofs.Common.{◌≡◌, ℕ, List, [], ◌∷◌, ◌++◌, sym, ap, ◌∙◌}
 use Rattle.std.proofs.lemmas.List.{append-nil, append_cancel_left}
 use Rattle.std.specs.List.{flat_map}
 use Rattle.ext_tree.specs.declared.stamp.Stamp.{Stamp}
 use Rattle.ext_tree.specs.Tree.{Entries}
 use Rattle.ext_tree.specs.TreeText.{HasText, tree_lines, tree_text}
 use Rattle.ext_tree.specs.FirstFault.{whole_lines}
-use Rattle.ext_tree.specs.TextLaws.{OneTreeOfText, OneTextOfTree, NoPrefixOfText, OneListOfRow, NoFaultInRow}
+use Rattle.ext_tree.specs.TextLaws.{OneTreeOfText, OneTextOfTree, NoPrefixOfText, OneListOfSequence}
 use Rattle.ext_tree.proofs.WholeLines.{whole_lines-text}
-use Rattle.ext_tree.proofs.Rows.{one_tree, row_peeled}
-use Rattle.ext_tree.proofs.Faults.{tree_lacks, row_lines}
+use Rattle.ext_tree.proofs.Sequences.{one_tree, sequence_peeled}
+use Rattle.ext_tree.proofs.Faults.{tree_lacks, sequence_lines}
 
 -- the lines behind a tree's text
 text_lines : (es : Entries Stamp) (rest : List ℕ) → HasText es → whole_lines (tree_text es ++ rest) ≡ tree_lines es ++ whole_lines rest
@@ -30,23 +30,12 @@ tree_law bytes s t first second =
 pub text_law : OneTextOfTree
 text_law t bytes other first second = first.text ∙ sym second.text
 
-pub row_law : OneListOfRow
-row_law bytes ss ts first second =
-    let lines : flat_map tree_lines ss ++ [] ≡ flat_map tree_lines ts = append-nil (flat_map tree_lines ss) ∙ sym (row_lines bytes ss first.each first.text) ∙ row_lines bytes ts second.each second.text in
-    let peeled = row_peeled ss ts [] first.each second.each lines in
+pub sequence_law : OneListOfSequence
+sequence_law bytes ss ts first second =
+    let lines : flat_map tree_lines ss ++ [] ≡ flat_map tree_lines ts = append-nil (flat_map tree_lines ss) ∙ sym (sequence_lines bytes ss first.each first.text) ∙ sequence_lines bytes ts second.each second.text in
+    let peeled = sequence_peeled ss ts [] first.each second.each lines in
     whole peeled.0 peeled.2 peeled.1
   where
     whole : (more : List (Entries Stamp)) → [] ≡ flat_map tree_lines more → ts ≡ ss ++ more → ss ≡ ts
     whole [] none is = sym (is ∙ append-nil ss)
     whole (t ∷ more) none is = absurd (cc)
-
-pub fault_law : NoFaultInRow
-fault_law bytes trees line row =
-    let lines : whole_lines bytes ≡ flat_map tree_lines trees = row_lines bytes trees row.each row.text in
-    record {
-      trees = trees;
-      more = drop line (whole_lines bytes);
-      as_many = row.some;
-      each = row.each;
-      text = take-append-drop line (whole_lines bytes) ∙ lines;
-    }

@@ -1,4 +1,4 @@
-pub mod Place
+pub mod InsertionPointLemmas
 pub mod Prefixes
 pub mod Kept
 pub mod Orders
@@ -14,7 +14,8 @@ pub mod LineLaws
 pub mod TextPrefixes
 pub mod WholeLines
 pub mod BodyLines
-pub mod Rows
+pub mod Sequences
 pub mod Faults
-pub mod FaultyRows
+pub mod FaultySequences
 pub mod LawsOfTexts
+pub mod OneFault

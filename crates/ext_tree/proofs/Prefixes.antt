@@ -1,9 +1,9 @@
 -- The fronts of an entry's path: the folders of a tree have theirs.
-use Rattle.std.proofs.Common.{◌≡◌, ℕ, suc, zero, ◌+◌, ◌-◌, ◌<◌, ◌≤◌, ◌≢◌, true, List, [], ◌∷◌, length, Option, Some, None, is_some, refl, sym, ap, ◌∙◌, subst, arith}
+use Rattle.std.proofs.Common.{◌≡◌, ℕ, suc, zero, ◌+◌, ◌-◌, ◌<◌, ◌≤◌, ◌≢◌, true, false, not, List, [], ◌∷◌, length, Option, Some, None, is_some, refl, sym, ap, ◌∙◌, subst, arith}
 use mathlib.Core.Logic.{inl, inr}
-use Rattle.std.proofs.lemmas.Bool.{true≢false, false≢true, cases_lt}
-use Rattle.ext_text.specs.Path.{parent, is_prefix}
-use Rattle.ext_text.proofs.PathPrefixes.{some_name, prefix_take, prefix_short, prefix_shorter, prefix_whole, length-parent, parent_prefix, parent_other}
+use Rattle.std.proofs.lemmas.Bool.{true≢false, false≢true, cases_lt, and_parts, and_from, not-true}
+use Rattle.ext_text.specs.Path.{parent, is_prefix, is_proper_prefix}
+use Rattle.ext_text.proofs.PathPrefixes.{some_name, prefix_self, prefix_take, prefix_short, prefix_shorter, prefix_whole, length-parent, parent_prefix}
 use Rattle.ext_tree.specs.declared.entry.Entry.{Entry}
 use Rattle.ext_tree.specs.Tree.{Entries, IsTree, lookup, is_directory_at, is_directory_or_root}
 use Rattle.ext_tree.specs.Refusals.{is_root}
@@ -50,9 +50,26 @@ prefixes_within es tree (suc most) r q small directory prefix short =
 pub prefixes : {C : Type 0} (es : Entries C) → IsTree es → (r q : List (List ℕ)) → is_some (lookup es q) ≡ true → is_prefix r q ≡ true → length r < length q → is_directory_or_root es r ≡ true
 prefixes es tree r q found prefix short = prefixes_within es tree (length q) r q (omega arith) (tree.parents q found) prefix short
 
+-- a proper prefix is shorter
+proper_shorter : (q p : List (List ℕ)) → is_proper_prefix q p ≡ true → length q < length p
+proper_shorter q p proper =
+    let parts = and_parts (is_prefix q p) (not (is_prefix p q)) proper in
+    prefix_shorter q p parts.0 (λ same. false≢true (sym (not-true (is_prefix p q) parts.1) ∙ subst (λ r. is_prefix p r ≡ true) (sym same) (prefix_self p)))
+
+-- a parent is one
+parent_proper : (p : List (List ℕ)) → 0 < length p → is_proper_prefix (parent p) p ≡ true
+parent_proper p some =
+    and_from _ _ (parent_prefix p) (elim (is_prefix p (parent p)) as (λ b. is_prefix p (parent p) ≡ b → not b ≡ true) [
+      | true ↦ λ longer. absurd (too_long (prefix_short p (parent p) longer) (length-parent p some))
+      | false ↦ λ _. refl
+    ] refl)
+  where
+    too_long : length p ≤ length (parent p) → length (parent p) + 1 ≡ length p → ⊥
+    too_long longer shorter = omega arith
+
 has_prefixes : {C : Type 0} (es : Entries C) → IsTree es → (p : List (List ℕ)) → is_directory_or_root es (parent p) ≡ true → HasPrefixes es p
-has_prefixes es tree p directory q prefix =
-    directory_dir es q (some_name q prefix.below) (prefixes_within es tree (length p) q p (omega arith) directory prefix.begins (prefix_shorter q p prefix.begins prefix.shorter))
+has_prefixes es tree p directory q below proper =
+    directory_dir es q (some_name q below) (prefixes_within es tree (length p) q p (omega arith) directory (and_parts (is_prefix q p) _ proper).0 (proper_shorter q p proper))
 
 pub entries_have_prefixes : {C : Type 0} → EntriesHavePrefixes C
 entries_have_prefixes es p tree there = has_prefixes es tree p (tree.parents p there)
@@ -60,5 +77,5 @@ entries_have_prefixes es p tree there = has_prefixes es tree p (tree.parents p t
 pub directories_have_prefixes : {C : Type 0} → DirectoriesHavePrefixes C
 directories_have_prefixes es p tree below = (
   has_prefixes es tree p,
-  λ prefixes. directory_there es (parent p) (λ above. prefixes (parent p) (record { begins = parent_prefix p; shorter = parent_other p (some_name p below); below = above })),
+  λ prefixes. directory_there es (parent p) (λ above. prefixes (parent p) above (parent_proper p (some_name p below))),
 )

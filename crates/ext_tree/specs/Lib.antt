@@ -1,7 +1,7 @@
 pub mod Tree
 pub mod Laws
 pub mod Refusals
-pub mod Place
+pub mod InsertionPoint
 pub mod TreeText
 pub mod Printing
 pub mod FirstFault

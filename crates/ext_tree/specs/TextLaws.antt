@@ -1,8 +1,8 @@
 -- Laws of the grammar of tree texts.
 use Rattle.std.specs.Prelude.{◌≡◌, ℕ, List, [], ◌++◌, take}
 use Rattle.ext_tree.specs.Tree.{Entries}
-use Rattle.ext_tree.specs.TreeText.{IsTreeText, IsRow}
-use Rattle.ext_tree.specs.FirstFault.{Begins, AtLeastOne, whole_lines}
+use Rattle.ext_tree.specs.TreeText.{IsTreeText, IsSequence}
+use Rattle.ext_tree.specs.FirstFault.{Begins, IsFirstFault, IsOne, AtLeastOne, whole_lines}
 use Rattle.ext_tree.specs.declared.stamp.Stamp.{Stamp}
 
 -- a text belongs to one tree
@@ -13,14 +13,34 @@ OneTreeOfText = (bytes : List ℕ) (s t : Entries Stamp) → IsTreeText bytes s 
 abbrev pub OneTextOfTree : Type 0
 OneTextOfTree = (t : Entries Stamp) (bytes other : List ℕ) → IsTreeText bytes t → IsTreeText other t → bytes ≡ other
 
--- no tree text is a proper front of another
+-- no tree text is a proper prefix of another
 abbrev pub NoPrefixOfText : Type 0
 NoPrefixOfText = (bytes more : List ℕ) (s t : Entries Stamp) → IsTreeText bytes s → IsTreeText (bytes ++ more) t → more ≡ []
 
--- a row of texts is that of one list of trees
-abbrev pub OneListOfRow : Type 0
-OneListOfRow = (bytes : List ℕ) (ss ts : List (Entries Stamp)) → IsRow bytes ss → IsRow bytes ts → ss ≡ ts
+-- a sequence of texts is that of one list of trees
+abbrev pub OneListOfSequence : Type 0
+OneListOfSequence = (bytes : List ℕ) (ss ts : List (Entries Stamp)) → IsSequence bytes ss → IsSequence bytes ts → ss ≡ ts
 
--- a row has no faulty line: with each front of its lines a row begins
-abbrev pub NoFaultInRow : Type 0
-NoFaultInRow = (bytes : List ℕ) (trees : List (Entries Stamp)) (line : ℕ) → IsRow bytes trees → Begins AtLeastOne (take line (whole_lines bytes))
+-- a tree text has no first faulty line
+abbrev pub NoFaultInText : Type 0
+NoFaultInText = (bytes : List ℕ) (tree : Entries Stamp) (line : ℕ) → IsTreeText bytes tree → ¬ IsFirstFault IsOne bytes line
+
+-- nor has a sequence of texts
+abbrev pub NoFaultInSequence : Type 0
+NoFaultInSequence = (bytes : List ℕ) (trees : List (Entries Stamp)) (line : ℕ) → IsSequence bytes trees → ¬ IsFirstFault AtLeastOne bytes line
+
+-- with each prefix of the lines of a sequence a sequence begins
+abbrev pub PrefixesBegin : Type 0
+PrefixesBegin = (bytes : List ℕ) (trees : List (Entries Stamp)) (line : ℕ) → IsSequence bytes trees → Begins AtLeastOne (take line (whole_lines bytes))
+
+-- bytes that are no tree text have a first faulty line
+abbrev pub FaultOfNoText : Type 0
+FaultOfNoText = (bytes : List ℕ) → ((tree : Entries Stamp) → ¬ IsTreeText bytes tree) → (line : ℕ) × IsFirstFault IsOne bytes line
+
+-- and so have bytes that are no sequence of texts
+abbrev pub FaultOfNoSequence : Type 0
+FaultOfNoSequence = (bytes : List ℕ) → ((trees : List (Entries Stamp)) → ¬ IsSequence bytes trees) → (line : ℕ) × IsFirstFault AtLeastOne bytes line
+
+-- no bytes have two first faulty lines
+abbrev pub OneFirstFault : (List (Entries Stamp) → Type 0) → Type 0
+OneFirstFault wanted = (bytes : List ℕ) (k l : ℕ) → IsFirstFault wanted bytes k → IsFirstFault wanted bytes l → k ≡ l

@@ -74,18 +74,22 @@ abbrev pub ReadsLine : List ℕ → Option (List (List ℕ) × Entry Stamp) → 
 ReadsLine line (Some x) = HasLine x × (line ≡ entry_line x)
 ReadsLine line None = (x : List (List ℕ) × Entry Stamp) → HasLine x → line ≢ entry_line x
 
+-- each entry is in the ranges of the format
+abbrev pub AreWritable : Entries Stamp → Type 0
+AreWritable es = AllByRecursion (λ x. IsWritable x.1) es
+
 -- a tree that has a text
 pub record HasText (es : Entries Stamp) : Type 0 where
   pub within : IsTreeWithin es
-  pub each : AllByRecursion (λ x. IsWritable x.1) es
+  pub each : AreWritable es
 
 -- the bytes are the tree's text
 pub record IsTreeText (bytes : List ℕ) (es : Entries Stamp) : Type 0 where
   pub tree : HasText es
   pub text : bytes ≡ tree_text es
 
--- the bytes are the texts of the trees, of one at least, in a row
-pub record IsRow (bytes : List ℕ) (trees : List (Entries Stamp)) : Type 0 where
-  pub some : 0 < length trees
+-- the bytes are the texts of the trees one after another, of one tree at least
+pub record IsSequence (bytes : List ℕ) (trees : List (Entries Stamp)) : Type 0 where
+  pub non_empty : 0 < length trees
   pub each : AllByRecursion HasText trees
   pub text : bytes ≡ flat_map tree_text trees

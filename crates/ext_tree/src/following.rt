@@ -43,16 +43,16 @@ fn comes_after<C>(last_name: Option<&Name>, entry: &Entry<C>, name: &Name) -> bo
     ensures { MatchOption (option_copied last_name.entry) (result ≡ is_directory entry.now) (λ last. result ≡ is_lt (bytes_cmp last name.now)) }
 {
     match last_name {
-        None => is_directory(entry),
+        None => entry.is_directory(),
         Some(last) => last.cmp(name).is_lt(),
     }
 }
 
-// The name at a place.
-fn name_at(names: &[Name], place: usize) -> Option<&Name>
-    ensures { option_copied result ≡ slice_get names.now place }
+// The name with this index.
+fn name_at(names: &[Name], index: usize) -> Option<&Name>
+    ensures { option_copied result ≡ slice_get names.now index }
 {
-    names.get(place)
+    names.get(index)
 }
 
 // Whether the second list of names begins with the first.
@@ -60,11 +60,4 @@ fn is_prefix(prefix: &[Name], names: &[Name]) -> bool
     ensures { result ≡ is_prefix prefix.now names.now }
 {
     names.starts_with(prefix)
-}
-
-// Whether it is a directory.
-fn is_directory<C>(entry: &Entry<C>) -> bool
-    ensures { result ≡ is_directory entry.now }
-{
-    matches!(entry, Entry::Dir(_))
 }

@@ -10,7 +10,7 @@ mod fields;
 mod following;
 pub mod laws;
 mod lines;
-mod places;
+mod insertion_point;
 mod reading;
 mod stamp;
 #[cfg(test)]
@@ -22,7 +22,7 @@ pub use entry::{Entry, Held1};
 pub use reading::{TreeTextErr, read_tree, read_trees};
 pub use stamp::Stamp;
 pub use tree::{MOST_ENTRIES, Tree, TreeErr};
-pub use writing::{write_entries, write_entries_over, write_tree};
+pub use writing::{write_entries, write_entries_into, write_tree};
 
 /// A list of trees whose files are known by their stamps.
 pub type Trees = ext_text::ListOf<Tree<Stamp>>;

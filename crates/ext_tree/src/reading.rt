@@ -3,7 +3,7 @@
 ghost use Rattle.std.specs.Prelude.{◌≡◌, ◌+◌, ◌<◌, ◌≤◌, ◌^◌, ◌↔◌, [], ◌∷◌, ◌++◌, length, MatchResult, IfOk, IsTrue};
 ghost use Rattle.ext_tree.specs.declared.entry.Entry.{Entry};
 ghost use Rattle.ext_tree.specs.declared.stamp.Stamp.{Stamp};
-ghost use Rattle.ext_tree.specs.FirstFault.{ReadsTree, ReadsRow};
+ghost use Rattle.ext_tree.specs.FirstFault.{ReadsTree, ReadsSequence};
 ghost use Rattle.ext_tree.specs.TreeText.{HasLine, HasText};
 ghost use Rattle.ext_tree.specs.Reading.{Judges, BeginsBody, BodyFault, BeginsText, TextFault};
 
@@ -29,7 +29,7 @@ pub enum TreeTextErr {
     /// A growth was refused.
     #[error("out of memory")]
     OutOfMemory,
-    /// The bytes are no tree text, or no row of them; the line is the first faulty one, counted from 1.
+    /// The bytes are no tree text, or no sequence of them; the line is the first faulty one, counted from 1.
     #[error("faulty tree text at line {line}")]
     BadTree {
         /// The first faulty line.
@@ -97,13 +97,13 @@ pub fn read_tree(alloc: Global, bytes: &[u8]) -> Result<Tree<Stamp>, TreeTextErr
     }
 }
 
-/// The trees of one or more tree texts in a row, in their order.
+/// The trees of one or more tree texts in a sequence, in their order.
 ///
 /// # Errors
-/// `BadTree` exactly where the bytes are no such row; the empty bytes are none. Its line is as for `read_tree`, and the
+/// `BadTree` exactly where the bytes are no such sequence; the empty bytes are none. Its line is as for `read_tree`, and the
 /// lines are counted through all the texts. `OutOfMemory` may come at any time.
 pub fn read_trees(alloc: Global, bytes: &[u8]) -> Result<Trees, TreeTextErr>
-    ensures { ReadsRow bytes.now result }
+    ensures { ReadsSequence bytes.now result }
 {
     let mut trees = Vec::new(alloc);
     let mut rest = bytes;
@@ -150,7 +150,7 @@ fn read_body(alloc: Global, bytes: &[u8], first: u64) -> Result<Body, TreeTextEr
             Some((text, after)) => match judge(alloc, entries.as_slice(), text)? {
                 Line::Fault => return Err(TreeTextErr::BadTree { line }),
                 Line::End => {
-                    // A row may hold very many small trees.
+                    // A sequence may hold very many small trees.
                     entries.shrink_to_fit();
                     return Ok(Body {
                         entries,

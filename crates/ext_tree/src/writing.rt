@@ -2,7 +2,7 @@ ghost use Rattle.std.specs.Prelude.{◌≡◌, [], ◌∷◌, ◌++◌, false, m
 ghost use Rattle.std.specs.Fmt.{digits};
 ghost use Rattle.hex.specs.Hex.{encode_lower};
 ghost use Rattle.ext_tree.specs.Printing.{fields_before};
-ghost use Rattle.ext_tree.specs.TreeText.{entry_line, tree_text};
+ghost use Rattle.ext_tree.specs.TreeText.{AreWritable, HasText, IsTreeText, entry_line, tree_text};
 
 use crate::entry::Entry;
 use crate::stamp::Stamp;
@@ -19,10 +19,14 @@ const END: &[u8] = b"end\n";
 
 /// The text of a tree.
 ///
+/// Where each link's target and each file's size is in the range of the format, it is the tree's text: reading it gives
+/// the tree back. Elsewhere it is printed by the same rules, and no reader takes it.
+///
 /// # Errors
-/// Want of memory alone.
+/// Out of memory alone.
 pub fn write_tree(alloc: Global, tree: &Tree<Stamp>) -> Result<Text, OutOfMemory>
-    ensures { IfOk result (λ text. text ≡ tree_text tree.now) }
+    ensures printed { IfOk result (λ text. text ≡ tree_text tree.now) }
+    ensures text { AreWritable tree.now → IfOk result (λ text. IsTreeText text tree.now) }
 {
     let mut text = Vec::from_slice(alloc, HEADER)?;
     for (path, entry) in tree.pairs() {
@@ -32,27 +36,29 @@ pub fn write_tree(alloc: Global, tree: &Tree<Stamp>) -> Result<Text, OutOfMemory
     Ok(Text::from_vec(text))
 }
 
-/// The text of a tree's entries that are borrowed, in their order.
+/// The text of borrowed entries, in their order. Where they are those of a tree that has a text, it is that text.
 ///
 /// # Errors
-/// Want of memory alone.
+/// Out of memory alone.
 pub fn write_entries(alloc: Global, entries: &[&(Path, Entry<Stamp>)]) -> Result<Text, OutOfMemory>
-    ensures { IfOk result (λ text. text ≡ tree_text (map (λ x. x.now) entries.now)) }
+    ensures printed { IfOk result (λ text. text ≡ tree_text (map (λ x. x.now) entries.now)) }
+    ensures text { HasText (map (λ x. x.now) entries.now) → IfOk result (λ text. IsTreeText text (map (λ x. x.now) entries.now)) }
 {
-    write_entries_over(Text::new(alloc), entries)
+    write_entries_into(Text::new(alloc), entries)
 }
 
-/// The same, written into the memory of an older text, whose bytes go.
+/// The text of borrowed entries, as `write_entries` gives it, in the memory of a buffer, whose bytes go.
 ///
 /// # Errors
-/// Want of memory alone.
-pub fn write_entries_over(
-    older: Text,
+/// Out of memory alone.
+pub fn write_entries_into(
+    buffer: Text,
     entries: &[&(Path, Entry<Stamp>)],
 ) -> Result<Text, OutOfMemory>
-    ensures { IfOk result (λ text. text ≡ tree_text (map (λ x. x.now) entries.now)) }
+    ensures printed { IfOk result (λ text. text ≡ tree_text (map (λ x. x.now) entries.now)) }
+    ensures text { HasText (map (λ x. x.now) entries.now) → IfOk result (λ text. IsTreeText text (map (λ x. x.now) entries.now)) }
 {
-    let mut text = older.into_vec();
+    let mut text = buffer.into_vec();
     text.clear();
     text.extend_from_slice(HEADER)?;
     for entry in entries {

@@ -1,14 +1,14 @@
 use Rattle.std.proofs.Common.{arith}
 use mathlib.Core.Logic.{inr}
 use Rattle.std.proofs.lemmas.Result.{err_from_is_err_and}
-use Rattle.ext_tree.proofs.FaultyRows.{row_err, texts_more, each_more, counted_more, text_room, some_bytes, grown_by}
+use Rattle.ext_tree.proofs.FaultySequences.{sequence_err, texts_more, each_more, counted_more, text_room, some_bytes, grown_by}
 use Rattle.ext_tree.proofs.reading.read_trees.Goals as goal
 
 pub returns-in_err-text : goal.returns-in_err-text
 returns-in_err-text c =
     let p = err_from_is_err_and c.from_residual.result c.from_residual.ensures.1 in
     let so_far = c.texts.invariant in
-    rw (p.1, p.2) (row_err c.args.bytes.now c.texts.trees.items c.texts.rest.now c.texts.line c.in_err-text.field-0.0 so_far.each so_far.text so_far.counted so_far.unended c.in_err-text.ensures)
+    rw (p.1, p.2) (sequence_err c.args.bytes.now c.texts.trees.items c.texts.rest.now c.texts.line c.in_err-text.field-0.0 so_far.each so_far.text so_far.counted so_far.unended c.in_err-text.ensures)
 
 pub texts-preserved : goal.texts-preserved
 texts-preserved c =

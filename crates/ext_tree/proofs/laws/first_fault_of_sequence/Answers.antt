@@ -1,0 +1,12 @@
+use Rattle.ext_tree.specs.FirstFault.{AtLeastOne}
+use Rattle.ext_tree.proofs.OneFault.{no_fault_in_sequence, prefixes_begin, one_first_fault}
+use Rattle.ext_tree.proofs.laws.first_fault_of_sequence.Goals as goal
+
+pub returns-clause-none : goal.returns-clause-none
+returns-clause-none c = no_fault_in_sequence
+
+pub returns-clause-begins : goal.returns-clause-begins
+returns-clause-begins c = prefixes_begin
+
+pub returns-clause-one : goal.returns-clause-one
+returns-clause-one c = one_first_fault AtLeastOne
