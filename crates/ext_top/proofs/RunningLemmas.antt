@@ -69,9 +69,9 @@ not_stuck words prefix (word ∷ rest) command same split stuck =
 
 pub run_completes : (words : List (List ℕ)) (old new : Streams) (status : Status) → Runs words old new status → Completes words old new status
 run_completes words old new (Usage place) ran command same = absurd (not_stuck words ran.0.prefix ran.0.rest command same ran.0.split ran.0.stuck)
-run_completes words old new Done ran = words_complete words old new Done ran
-run_completes words old new (Refused refusal) ran = words_complete words old new (Refused refusal) ran
-run_completes words old new ReadFault ran = words_complete words old new ReadFault ran
-run_completes words old new WriteFault ran = words_complete words old new WriteFault ran
-run_completes words old new OutOfMemory ran = words_complete words old new OutOfMemory ran
-run_completes words old new TooLong ran = words_complete words old new TooLong ran
+run_completes words old new Done ran command same = words_complete words old new Done ran command same
+run_completes words old new (Refused refusal) ran command same = words_complete words old new (Refused refusal) ran command same
+run_completes words old new ReadFault ran command same = words_complete words old new ReadFault ran command same
+run_completes words old new WriteFault ran command same = words_complete words old new WriteFault ran command same
+run_completes words old new OutOfMemory ran command same = words_complete words old new OutOfMemory ran command same
+run_completes words old new TooLong ran command same = words_complete words old new TooLong ran command same

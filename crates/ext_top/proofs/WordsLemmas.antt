@@ -52,9 +52,10 @@ unknown_keyword word more unknown = record {
   stuck = λ begins. let keyword = first_word begins.command.0 word begins.more begins.command.1 in unknown keyword.0 keyword.1;
 }
 
--- a word after `layer`
-pub layer_more : (word : List ℕ) (more : List (List ℕ)) → IsUsage (codes "layer" ∷ word ∷ more) 2
-layer_more word more = record {
+-- `layer` with a word after it
+pub layer_more : (more : List (List ℕ)) → 1 ≤ length more → IsUsage (codes "layer" ∷ more) 2
+layer_more [] many = absurd (omega arith)
+layer_more (word ∷ more) many = record {
   prefix = codes "layer" ∷ [];
   rest = word ∷ more;
   split = refl;

@@ -2,8 +2,9 @@
 //! every source.
 ghost use Rattle.ext_top.specs.Laws.{OneCommand, OneReply, CompareIsDone};
 
-use ext_layer::one_layered_tree;
-use ext_tree::{Stamp, first_fault_of_sequence, one_list_of_sequence};
+use ext_layer::laws::one_layered_tree;
+use ext_tree::Stamp;
+use ext_tree::laws::{first_fault_of_sequence, one_list_of_sequence};
 
 /// Words are those of one command.
 pub fn one_command()

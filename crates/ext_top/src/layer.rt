@@ -62,10 +62,7 @@ fn layer_over(
     ensures { IfOk result (LayersCome (layers.now ++ host.now ∷ [])) }
 {
     match visible_entries(alloc, layers, host) {
-        Ok(entries) => Ok(Outcome::Gives(write_entries_into(
-            buffer,
-            entries.as_slice(),
-        )?)),
+        Ok(entries) => Ok(Outcome::Gives(write_entries_into(buffer, entries.as_slice())?)),
         Err(LayerErr::OutOfMemory) => Err(OutOfMemory),
         Err(LayerErr::Limit) => Ok(Outcome::Refuses(Refusal::Limit {
             which: Which::Entries,

@@ -1,7 +1,9 @@
 ghost use Rattle.std.specs.Prelude.{◌≤◌};
 ghost use Rattle.ext_top.specs.Words.{Layer};
+ghost use Rattle.ext_top.specs.Compare.{compare_line};
 ghost use Rattle.ext_top.specs.Reading.{command_of};
 ghost use Rattle.ext_top.specs.Running.{Completes, CountsOn, Ends, Runs, WritesOutcome, WritesReply, streams};
+ghost use Rattle.ext_top.specs.declared.status.Status.TheVariants.{Done};
 
 use crate::compare::compare_line;
 use crate::layer::layer_source;
@@ -10,7 +12,7 @@ use crate::refusal::refusal_text;
 use crate::status::Status;
 use crate::words::{Command, read_words};
 use ext_io::{ReadErr, Sink, Source, read_to_end, write_all};
-use ext_text::{OutOfMemory, Words};
+use ext_text::{OutOfMemory, Text, Words};
 use std::alloc::Global;
 
 /// The most bytes of a source.
@@ -70,10 +72,7 @@ fn run_command<S: Source, K: Sink>(
 {
     match command {
         Command::Layer => run_layer(alloc, source, sink),
-        Command::Compare(a, b) => {
-            let line = compare_line(a.bytes(), b.bytes());
-            write_reply(Status::Done, line.as_bytes(), sink)
-        }
+        Command::Compare(a, b) => run_compare(a, b, sink),
     }
 }
 
@@ -93,6 +92,15 @@ fn run_layer<S: Source, K: Sink>(alloc: Global, source: &mut S, sink: &mut K) ->
         Err(ReadErr::Failed) => Status::ReadFault,
         Err(ReadErr::TooLong) => Status::TooLong,
     }
+}
+
+// The run of `compare`, which sees no source and takes no memory.
+fn run_compare<K: Sink>(a: &Text, b: &Text, sink: &mut K) -> Status
+    ensures writes { WritesReply Done (compare_line a.now b.now) (K.state sink.old) (K.state sink.new) result }
+    ensures count { (K.state sink.old).faults ≤ (K.state sink.new).faults }
+{
+    let line = compare_line(a.bytes(), b.bytes());
+    write_reply(Status::Done, line.as_bytes(), sink)
 }
 
 // Writes what a command came to.
