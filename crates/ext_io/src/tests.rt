@@ -12,6 +12,9 @@ use std::test::Fail;
 // Twenty bytes: three calls at seven bytes a call.
 const BYTES: &[u8] = b"the bytes of a test.";
 
+// More bytes than two reads ask for.
+const MANY: [u8; 150_000] = [7; 150_000];
+
 // A source of these bytes, seven a call: the call that fails, the budget, the length or the error that comes, and how many
 // of the bytes a second reading finds.
 const READS: [(u64, u32, Result<usize, ReadErr>, usize); 9] = [
@@ -93,51 +96,60 @@ fn only(alloc: Global, call: u64) -> Result<Calls, OutOfMemory> {
     Ok(calls)
 }
 
-// What reading to the end gives, and what a second reading finds.
-fn reads(alloc: Global, fails: u64, most: u32) -> Result<(Result<usize, ReadErr>, Text), ReadErr> {
+// Whether reading to the end gives what is wanted, and a second reading so many of the last bytes.
+fn reads(
+    alloc: Global,
+    fails: u64,
+    most: u32,
+    wanted: Result<usize, ReadErr>,
+    left: usize,
+) -> Result<bool, ReadErr> {
     let text = Text::from_bytes(alloc, BYTES)?;
     let mut source = MemorySource::new(text, 7, only(alloc, fails)?);
-    let first = read_to_end(alloc, &mut source, most as usize);
+    let read = read_to_end(alloc, &mut source, most as usize).map(|text| text.bytes().len());
     let rest = read_to_end(alloc, &mut source, 100)?;
-    Ok((first.map(|text| text.bytes().len()), rest))
+    let rest = rest.bytes();
+    Ok(read == wanted && rest.len() == left && BYTES.ends_with(rest))
 }
 
-// What writing all the bytes gives, and what was written.
-fn writes(alloc: Global, fails: u64) -> Result<(Result<(), Failed>, Text), OutOfMemory> {
+// Whether writing all the bytes gives what is wanted, and so many of the first ones were written.
+fn writes(
+    alloc: Global,
+    fails: u64,
+    wanted: Result<(), Failed>,
+    count: usize,
+) -> Result<bool, OutOfMemory> {
     let mut sink = MemorySink::new(alloc, 7, only(alloc, fails)?);
     let outcome = write_all(&mut sink, BYTES);
-    Ok((outcome, Text::from_bytes(alloc, sink.written())?))
+    let written = sink.written();
+    Ok(outcome == wanted && written.len() == count && BYTES.starts_with(written))
 }
 
-// Whether many bytes pass through a source and a sink that move at most so many a call.
-fn pass(alloc: Global, piece: usize) -> Result<bool, ReadErr> {
-    let mut bytes = Text::new(alloc);
-    for _ in 0..7_500 {
-        bytes.append(BYTES)?;
-    }
-    let mut source = MemorySource::new(bytes.copy()?, piece.max(1), Calls::new(alloc));
+// Whether many bytes are read to the end, at most so many a call.
+fn reads_many(alloc: Global, piece: usize) -> Result<bool, ReadErr> {
+    let text = Text::from_bytes(alloc, &MANY)?;
+    let mut source = MemorySource::new(text, piece.max(1), Calls::new(alloc));
     let read = read_to_end(alloc, &mut source, 200_000)?;
+    Ok(read.bytes() == MANY.as_slice())
+}
+
+// Whether they are written, at most so many a call.
+fn writes_many(alloc: Global, piece: usize) -> bool {
     let mut sink = MemorySink::new(alloc, piece.max(1), Calls::new(alloc));
-    write_all(&mut sink, read.bytes())?;
-    Ok(sink.written() == bytes.bytes() && sink.starved() == 0)
+    let outcome = write_all(&mut sink, &MANY);
+    outcome == Ok(()) && sink.written() == MANY.as_slice() && sink.starved() == 0
 }
 
 #[test]
 fn a_failing_call_loses_and_repeats_nothing(rt: HostRuntime) -> Result<(), Fail> {
     for (fails, most, wanted, left) in READS {
-        let (read, rest) = reads(rt.alloc(), fails, most)?;
-        assert_eq!(rt; read, wanted, "call {fails}, at most {most}");
         assert!(rt;
-            BYTES.ends_with(rest.bytes()),
-            "call {fails}, at most {most}"
+            reads(rt.alloc(), fails, most, wanted, left)?,
+            "read {fails}"
         );
-        assert_eq!(rt; rest.bytes().len(), left, "call {fails}, at most {most}");
     }
     for (fails, wanted, count) in WRITES {
-        let (outcome, written) = writes(rt.alloc(), fails)?;
-        assert_eq!(rt; outcome, wanted, "call {fails}");
-        assert!(rt; BYTES.starts_with(written.bytes()), "call {fails}");
-        assert_eq!(rt; written.bytes().len(), count, "call {fails}");
+        assert!(rt; writes(rt.alloc(), fails, wanted, count)?, "write {fails}");
     }
     Ok(())
 }
@@ -145,7 +157,8 @@ fn a_failing_call_loses_and_repeats_nothing(rt: HostRuntime) -> Result<(), Fail>
 #[test]
 fn pieces_of_any_size_give_the_same_bytes(rt: HostRuntime) -> Result<(), Fail> {
     for piece in [1, 7, 65_536] {
-        assert!(rt; pass(rt.alloc(), piece)?, "pieces of {piece}");
+        assert!(rt; reads_many(rt.alloc(), piece)?, "pieces of {piece}");
+        assert!(rt; writes_many(rt.alloc(), piece), "pieces of {piece}");
     }
     Ok(())
 }

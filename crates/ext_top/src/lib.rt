@@ -13,8 +13,8 @@ mod outcome;
 mod refusal;
 mod running;
 mod status;
-//~#[cfg(test)]
-//~mod tests;
+#[cfg(test)]
+mod tests;
 mod words;
 
 pub use refusal::{Refusal, number, refusal_text};
