@@ -1,8 +1,8 @@
 use Rattle.std.proofs.Common.{◌≡◌, ℕ, ◌+◌, ◌/◌, ◌%◌, ◌<◌, false, [], ◌∷◌, ◌++◌, sym, ap, ◌∙◌, append_assoc, arith}
 use Rattle.std.specs.Fmt.{digits}
 use Rattle.ext_tree.proofs.Octal.{octal_digit, octal_step}
-use Rattle.ext_tree.proofs.writing.+append_octal.Goals as goal
-use Rattle.ext_tree.proofs.writing.+append_octal.Goals.{then-number-ge8+in_ok-append_octal, else-number-ge8}
+use Rattle.ext_tree.proofs.fields.+append_octal.Goals as goal
+use Rattle.ext_tree.proofs.fields.+append_octal.Goals.{then-number-ge8+in_ok-append_octal, else-number-ge8}
 
 octal_digit_mod : (n : ℕ) → n < 8 → digits 8 false n ≡ (48 + n % 8) ∷ []
 octal_digit_mod n small =

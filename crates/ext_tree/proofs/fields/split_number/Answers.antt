@@ -1,7 +1,7 @@
 use Rattle.std.proofs.Common.{arith}
 use Rattle.ext_text.proofs.Cuts.{cut_field, cut_none}
 use Rattle.ext_tree.proofs.LineNumbers.{decimal_lacks}
-use Rattle.ext_tree.proofs.fields.cut_number.Goals as goal
+use Rattle.ext_tree.proofs.fields.split_number.Goals as goal
 
 pub returns-in_err-field : goal.returns-in_err-field
 returns-in_err-field c = rw c.from_residual.ensures (λ n rest small e. cut_none 32 _ _ rest c.in_err-field.ensures e)

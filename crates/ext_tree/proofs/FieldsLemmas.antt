@@ -1,5 +1,5 @@
--- The digests, paths and targets of a line: which bytes they lack, and that each text is that of one value.
-use Rattle.std.proofs.Common.{◌≡◌, ℕ, zero, suc, ◌<◌, ◌≤◌, true, eqb, List, [], ◌∷◌, ◌++◌, length, length-append, refl, sym, ap, ◌∙◌, subst, arith, Ok, Err}
+-- The fields of a line and its path: which bytes they lack, and that each text is that of one value.
+use Rattle.std.proofs.Common.{◌≡◌, ℕ, zero, suc, ◌<◌, ◌≤◌, true, eqb, List, [], ◌∷◌, ◌++◌, length, length-append, append_assoc, drop, refl, sym, ap, ◌∙◌, subst, arith, Ok, Err}
 use Rattle.std.proofs.lemmas.Bool.{leb-true, and_parts}
 use Rattle.std.proofs.lemmas.List.Elements.{All-weaker}
 use Rattle.std.proofs.lemmas.Fmt.{decimal_injective}
@@ -13,9 +13,11 @@ use Rattle.ext_text.specs.Path.{IsPath, ReadsPath, path_text, path_parts}
 use Rattle.ext_text.specs.declared.path.PathErr.{PathErr}
 use Rattle.ext_text.specs.declared.path.PathErr.TheVariants.{OutOfMemory, TooLong, TooDeep, BadName}
 use Rattle.ext_text.proofs.Parts.{parts_some, split_none, split_cut}
-use Rattle.ext_tree.specs.TreeText.{IsDigest, IsTarget}
-use Rattle.ext_text.proofs.Cuts.{Differs, cut_once, differs, lacks_append, lacks_cons, lacks_nil}
-use Rattle.ext_tree.proofs.LineNumbers.{decimal_lacks}
+use Rattle.ext_lines.specs.Hexadecimal.{Are32Bytes}
+use Rattle.ext_tree.specs.Fields.{IsTarget, mode_text, spaced}
+use Rattle.ext_text.proofs.Cuts.{Differs, cut_once, cut_same, differs, lacks_append, lacks_cons, lacks_nil}
+use Rattle.ext_tree.proofs.LineNumbers.{decimal_lacks, mode_lacks}
+use Rattle.ext_tree.proofs.OctalText.{mode_injective}
 
 -- ---- digests
 
@@ -29,22 +31,22 @@ each_byte [] fits = tt
 each_byte (d ∷ ds) fits = (fits 0, each_byte ds (λ i. fits (suc i)))
 
 -- the text of a digest reads back as the digest
-pub digest_reads : (ds : List ℕ) → IsDigest ds → decode_of (encode_lower ds) ≡ Ok ds
+pub digest_reads : (ds : List ℕ) → Are32Bytes ds → decode_of (encode_lower ds) ≡ Ok ds
 digest_reads ds is = decode_of-encode_lower ds (digest_bytes ds is.each)
 
 -- and is 64 digits
-pub digest_digits : (ds : List ℕ) → IsDigest ds
+pub digest_digits : (ds : List ℕ) → Are32Bytes ds
     → (length (encode_lower ds) ≡ 64) × AllPass is_hex_digit (encode_lower ds)
 digest_digits ds is =
     let ok = decode_of-ok (encode_lower ds) ds (digest_reads ds is) in
     (omega (arith, ok.2, is.count), ok.1)
 
-pub digest_injective : (ds es : List ℕ) → IsDigest ds → IsDigest es → encode_lower ds ≡ encode_lower es → ds ≡ es
+pub digest_injective : (ds es : List ℕ) → Are32Bytes ds → Are32Bytes es → encode_lower ds ≡ encode_lower es → ds ≡ es
 digest_injective ds es p q e =
     decode_of-same (encode_lower ds) ds es (digest_reads ds p) (ap decode_of e ∙ digest_reads es q)
 
 -- what 64 digits decode to is a digest
-pub digest_decoded : (text ds : List ℕ) → length text ≡ 64 → decode_of text ≡ Ok ds → IsDigest ds
+pub digest_decoded : (text ds : List ℕ) → length text ≡ 64 → decode_of text ≡ Ok ds → Are32Bytes ds
 digest_decoded text ds count e =
     let ok = decode_of-ok text ds e in
     record { count = omega (arith, ok.2); each = each_byte ds ok.3 }
@@ -52,7 +54,7 @@ digest_decoded text ds count e =
 hex_high : (c : ℕ) → is_hex_digit c ≡ true → 48 ≤ c
 hex_high c is = grind (arith)
 
-pub digest_lacks : (byte : ℕ) (ds : List ℕ) → byte < 48 → IsDigest ds → Lacks byte (encode_lower ds)
+pub digest_lacks : (byte : ℕ) (ds : List ℕ) → byte < 48 → Are32Bytes ds → Lacks byte (encode_lower ds)
 digest_lacks byte ds low is =
     All-weaker (λ c. is_hex_digit c ≡ true) (λ c. Differs byte c) (λ c hex. differs byte c (λ e. omega (arith, hex_high c hex))) (encode_lower ds) (digest_digits ds is).1
 
@@ -122,6 +124,51 @@ pub target_cut : (text : List ℕ) (count : ℕ) (after t rest : List ℕ) → c
     → text ≡ decimal count ++ 32 ∷ after → text ≡ decimal (length t) ++ 32 ∷ (t ++ 32 ∷ rest)
     → (length t ≡ count) × (after ≡ t ++ 32 ∷ rest)
 target_cut text count after t rest small is there e =
-    let short = is.short in
+    let short = is.at_most_4096 in
     let cut = cut_once 32 (decimal count) (decimal (length t)) after (t ++ 32 ∷ rest) (decimal_lacks 32 count (omega arith) (omega arith)) (decimal_lacks 32 (length t) (omega arith) (omega arith)) (sym there ∙ e) in
     (sym (decimal_injective count (length t) (omega arith) (omega arith) cut.0), cut.1)
+
+-- ---- a field, its space and what follows, read in one way
+
+pub mode_cut : (m n : ℕ) (xs ys : List ℕ) → m ≤ 4095 → n ≤ 4095 → mode_text m ++ 32 ∷ xs ≡ mode_text n ++ 32 ∷ ys
+    → (m ≡ n) × (xs ≡ ys)
+mode_cut m n xs ys p q e =
+    let cut = cut_once 32 (mode_text m) (mode_text n) xs ys (mode_lacks 32 m (omega arith) p) (mode_lacks 32 n (omega arith) q) e in
+    (mode_injective m n p q cut.0, cut.1)
+
+pub number_cut : (m n : ℕ) (xs ys : List ℕ) → m ≤ 4294967295 → n ≤ 4294967295
+    → decimal m ++ 32 ∷ xs ≡ decimal n ++ 32 ∷ ys → (m ≡ n) × (xs ≡ ys)
+number_cut m n xs ys p q e =
+    let cut = cut_once 32 (decimal m) (decimal n) xs ys (decimal_lacks 32 m (omega arith) (omega arith)) (decimal_lacks 32 n (omega arith) (omega arith)) e in
+    (decimal_injective m n (omega arith) (omega arith) cut.0, cut.1)
+
+pub digest_cut : (ds es xs ys : List ℕ) → Are32Bytes ds → Are32Bytes es
+    → encode_lower ds ++ 32 ∷ xs ≡ encode_lower es ++ 32 ∷ ys → (ds ≡ es) × (xs ≡ ys)
+digest_cut ds es xs ys p q e =
+    let cut = cut_once 32 (encode_lower ds) (encode_lower es) xs ys (digest_lacks 32 ds (omega arith) p) (digest_lacks 32 es (omega arith) q) e in
+    (digest_injective ds es p q cut.0, cut.1)
+
+pub link_cut : (t u xs ys : List ℕ) → IsTarget t → IsTarget u
+    → decimal (length t) ++ 32 ∷ (t ++ 32 ∷ xs) ≡ decimal (length u) ++ 32 ∷ (u ++ 32 ∷ ys)
+    → (t ≡ u) × (xs ≡ ys)
+link_cut t u xs ys p q e =
+    let most = p.at_most_4096 in
+    let found = target_cut (decimal (length t) ++ 32 ∷ (t ++ 32 ∷ xs)) (length t) (t ++ 32 ∷ xs) u ys (omega arith) q refl e in
+    let cut = cut_same t u (32 ∷ xs) (32 ∷ ys) (sym found.0) found.1 in
+    (cut.0, ap (drop 1) cut.1)
+
+-- the fields with what follows are the fields alone and then what follows
+pub spaced-append : (fields : List (List ℕ)) (rest : List ℕ) → spaced fields [] ++ rest ≡ spaced fields rest
+spaced-append [] rest = refl
+spaced-append (f ∷ fields) rest = append_assoc f (32 ∷ spaced fields []) rest ∙ ap (λ xs. f ++ 32 ∷ xs) (spaced-append fields rest)
+
+-- a byte other than the space that no field has, and not what follows them, stands nowhere in them
+pub spaced_lacks : (byte : ℕ) (fields : List (List ℕ)) (rest : List ℕ) → byte < 32 → AllByRecursion (Lacks byte) fields → Lacks byte rest → Lacks byte (spaced fields rest)
+spaced_lacks byte [] rest low each lacks = lacks
+spaced_lacks byte (f ∷ fields) rest low each lacks =
+    lacks_append byte f (32 ∷ spaced fields rest) each.0 (lacks_cons byte 32 (spaced fields rest) (differs byte 32 (λ e. omega arith)) (spaced_lacks byte fields rest low each.1 lacks))
+
+-- fields that were printed, and then what follows them
+pub line_printed : (old mid new : List ℕ) (fields : List (List ℕ)) (rest : List ℕ) → mid ≡ old ++ spaced fields [] → new ≡ mid ++ rest → new ≡ old ++ spaced fields rest
+line_printed old mid new fields rest begun done =
+    done ∙ ap (λ xs. xs ++ rest) begun ∙ append_assoc old (spaced fields []) rest ∙ ap (λ xs. old ++ xs) (spaced-append fields rest)

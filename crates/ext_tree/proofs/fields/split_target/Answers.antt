@@ -1,9 +1,9 @@
 use Rattle.std.proofs.Common.{sym, ◌∙◌, subst}
 use Rattle.std.proofs.lemmas.Bool.{false≢true}
-use Rattle.ext_tree.specs.TreeText.{IsTarget}
+use Rattle.ext_tree.specs.Fields.{IsTarget}
 use Rattle.ext_text.proofs.Cuts.{cut_same}
-use Rattle.ext_tree.proofs.LineFields.{target_cut}
-use Rattle.ext_tree.proofs.fields.cut_target.Goals as goal
+use Rattle.ext_tree.proofs.FieldsLemmas.{target_cut}
+use Rattle.ext_tree.proofs.fields.split_target.Goals as goal
 
 pub returns-in_err-target : goal.returns-in_err-target
 returns-in_err-target c =

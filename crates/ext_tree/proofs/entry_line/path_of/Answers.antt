@@ -1,7 +1,7 @@
 use Rattle.std.proofs.Common.{sym, ⊎_elim}
 use Rattle.std.proofs.lemmas.Bool.{eqb-true}
-use Rattle.ext_tree.proofs.LineFields.{no_path, path_not_empty}
-use Rattle.ext_tree.proofs.lines.path_of.Goals as goal
+use Rattle.ext_tree.proofs.FieldsLemmas.{no_path, path_not_empty}
+use Rattle.ext_tree.proofs.entry_line.path_of.Goals as goal
 
 pub returns-then-is_empty : goal.returns-then-is_empty
 returns-then-is_empty c = λ p is some e. path_not_empty p _ is some (eqb-true _ 0 (sym c.if-is_empty.ensures)) e
