@@ -20,3 +20,5 @@ pub mod Faults
 pub mod FaultySequences
 pub mod LawsOfTexts
 pub mod OneFault
+pub mod Decided
+pub mod SomeFault

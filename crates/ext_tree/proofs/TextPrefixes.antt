@@ -33,7 +33,8 @@ lines_of es text =
     (λ x (path, writable). record { path = path.0; non_empty = path.1; writable = writable }) es
     (all_both (λ x. IsPath x.0 × (0 < length x.0)) (λ x. IsWritable stamp_form x.1) es paths text.each)
 
-last_line : (es : Entries Stamp) (x : List (List ℕ) × Entry Stamp) → HasText (es ++ x ∷ []) → HasTreeLine x
+-- its last entry has a line
+pub last_line : (es : Entries Stamp) (x : List (List ℕ) × Entry Stamp) → HasText (es ++ x ∷ []) → HasTreeLine x
 last_line es x text = (all_back HasTreeLine es (x ∷ []) (lines_of (es ++ x ∷ []) text)).0
 
 -- without its last entry a tree with a text has a text
