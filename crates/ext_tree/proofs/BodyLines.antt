@@ -3,18 +3,18 @@ use Rattle.std.proofs.Common.{◌≡◌, ◌≢◌, ℕ, ◌+◌, ◌≤◌, Lis
 use Rattle.std.specs.Prelude.{codes, map, Result, Ok, Err, MatchResult}
 use mathlib.Core.Logic.{inl, inr}
 use Rattle.std.proofs.lemmas.List.{map-append, length-map}
-use Rattle.ext_text.specs.Cut.{Lacks, IsSplit}
-use Rattle.ext_text.proofs.Cuts.{cut_once, cut_none}
+use Rattle.ext_lines.specs.Split.{Lacks, IsSplit}
+use Rattle.ext_lines.proofs.ForCallers.{split_once, split_none, lines_text-push}
 use Rattle.ext_tree.specs.declared.entry.Entry.{Entry}
 use Rattle.ext_tree.specs.declared.stamp.Stamp.{Stamp}
 use Rattle.ext_tree.specs.Tree.{Entries}
-use Rattle.ext_tree.specs.TreeText.{HasText, tree_line, lines_text, tree_lines}
+use Rattle.ext_tree.specs.TreeText.{HasText, tree_line, tree_lines}
+use Rattle.ext_lines.specs.Lines.{lines_text}
 use Rattle.ext_tree.specs.Reading.{MayStand, Judges, NoneNext, BodyFault, BeginsBody, BeginsText, StopsText, TextFault}
 use Rattle.ext_tree.specs.declared.reading.TreeTextErr.{TreeTextErr}
 use Rattle.ext_tree.specs.declared.reading.TreeTextErr.TheVariants.{OutOfMemory, BadTree}
 use Rattle.ext_tree.specs.declared.reading.Line.{Line}
 use Rattle.ext_tree.specs.declared.reading.Line.TheVariants.{Item, Fault}
-use Rattle.ext_tree.proofs.WholeLines.{lines_text-push}
 
 -- behind a line there are fewer bytes
 pub cut_short : (bytes line more : List ℕ) → IsSplit 10 bytes line more → length more + 1 ≤ length bytes
@@ -35,11 +35,11 @@ entry_more bytes es longer x rest line more text cut is grown =
 -- where the first line may not stand, none may
 pub none_cut : (May : List ℕ → Type 0) (bytes line more : List ℕ) → IsSplit 10 bytes line more → ¬ May line → NoneNext May bytes
 none_cut May bytes line more cut not_may = λ l m other may.
-    not_may (subst May (cut_once 10 l line m more other.prefix_lacks cut.prefix_lacks (sym other.whole ∙ cut.whole)).0 may)
+    not_may (subst May (split_once 10 l line m more other.prefix_lacks cut.prefix_lacks (sym other.whole ∙ cut.whole)).0 may)
 
 -- nor where there is no line
 pub none_lacks : (May : List ℕ → Type 0) (bytes : List ℕ) → Lacks 10 bytes → NoneNext May bytes
-none_lacks May bytes lacks = λ l m cut _. cut_none 10 bytes l m lacks cut.whole
+none_lacks May bytes lacks = λ l m cut _. split_none 10 bytes l m lacks cut.whole
 
 -- ---- what a line was judged to be
 

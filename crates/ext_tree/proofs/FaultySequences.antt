@@ -1,23 +1,23 @@
 -- Where the reading of a text stops, no sequence goes on: the answers of the readers.
-use Rattle.std.proofs.Common.{◌≡◌, ◌≢◌, ℕ, ◌+◌, ◌<◌, ◌≤◌, Bool, false, eqb, List, [], ◌∷◌, ◌++◌, length, refl, sym, ap, ◌∙◌, subst, arith, append_assoc, length-append}
-use Rattle.std.proofs.lemmas.List.{append-nil}
+use Rattle.std.proofs.Common.{◌≡◌, ◌≢◌, ℕ, ◌+◌, ◌<◌, ◌≤◌, Bool, true, false, eqb, List, [], ◌∷◌, ◌++◌, length, refl, sym, ap, ◌∙◌, subst, arith, append_assoc, length-append}
+use Rattle.std.proofs.lemmas.List.{append-nil, length-map}
 use Rattle.std.specs.Prelude.{codes, map, ◌⊎◌, Err}
 use mathlib.Core.Logic.{inl, inr}
-use Rattle.std.proofs.lemmas.Bool.{eqb-false}
-use Rattle.std.proofs.lemmas.List.{length-map}
+use Rattle.std.proofs.lemmas.Bool.{eqb-false, eqb-true}
 use Rattle.std.proofs.lemmas.List.Concat.{flat_map-append}
 use Rattle.std.specs.List.{AllByRecursion, flat_map}
-use Rattle.ext_text.specs.Cut.{Lacks, IsSplit}
-use Rattle.ext_text.proofs.Lists.{all_append}
+use Rattle.ext_lines.specs.Split.{Lacks, IsSplit}
+use Rattle.ext_text.proofs.ForCallers.{all_append}
 use Rattle.ext_tree.specs.declared.stamp.Stamp.{Stamp}
 use Rattle.ext_tree.specs.declared.reading.TreeTextErr.{TreeTextErr}
 use Rattle.ext_tree.specs.declared.reading.TreeTextErr.TheVariants.{OutOfMemory, BadTree}
 use Rattle.ext_tree.specs.Tree.{Entries}
-use Rattle.ext_tree.specs.TreeText.{HasText, tree_line, tree_lines, lines_text, tree_text}
+use Rattle.ext_tree.specs.TreeText.{HasText, IsSequence, tree_line, tree_lines, tree_text}
+use Rattle.ext_lines.specs.Lines.{lines_text}
 use Rattle.ext_tree.specs.FirstFault.{IsFirstFault, IsOne, AtLeastOne, ReadsTree, ReadsSequence}
 use Rattle.ext_tree.specs.Reading.{MayStand, NoneNext, StopsBody, StopsText, BeginsText, TextFault}
 use Rattle.ext_tree.proofs.TextPrefixes.{lines_of, empty_text}
-use Rattle.ext_tree.proofs.WholeLines.{lines_text-append}
+use Rattle.ext_lines.proofs.ForCallers.{lines_text-append}
 use Rattle.ext_tree.proofs.BodyLines.{line_more, length-tree_lines}
 use Rattle.ext_tree.proofs.Sequences.{next_line, open_body, sequence_peeled, ended}
 use Rattle.ext_tree.proofs.Faults.{IsStuck, stuck_fault, sequence_text, sequence_lacks, tree_lacks, header_lacks, entries_lack}
@@ -208,7 +208,24 @@ text_room rest first t after next begins =
 pub text_next : (rest : List ℕ) (first : ℕ) (t : Entries Stamp) (after : List ℕ) (next : ℕ) → BeginsText rest first t after next → first + 2 ≤ next
 text_next rest first t after next begins = omega (arith, begins.counted, length-tree_lines t)
 
--- ---- bytes that are not empty
+-- ---- the last text
+
+nothing_left : (xs : List ℕ) → length xs ≤ 0 → xs ≡ []
+nothing_left [] empty = refl
+nothing_left (x ∷ xs) empty = absurd (omega arith)
+
+-- the texts of the trees so far and one more are a sequence, where nothing follows
+pub sequence_ends : (bytes : List ℕ) (done longer : List (Entries Stamp)) (t : Entries Stamp) (rest : List ℕ) (first : ℕ) (after : List ℕ) (next : ℕ) → AllByRecursion HasText done → bytes ≡ flat_map tree_text done ++ rest
+    → BeginsText rest first t after next → longer ≡ done ++ t ∷ [] → length after ≤ 0 → IsSequence bytes longer
+sequence_ends bytes done longer t rest first after next each text begins grown empty = record {
+  non_empty = omega (arith, ap length grown, length-append done (t ∷ []));
+  each = each_more done longer t each begins.tree grown;
+  text = texts_more bytes done longer t rest first after next text begins grown
+      ∙ ap (λ xs. flat_map tree_text longer ++ xs) (nothing_left after empty)
+      ∙ append-nil (flat_map tree_text longer);
+}
+
+-- ---- bytes that are empty or not
 
 pub some_bytes : (bytes : List ℕ) (test : Bool) → test ≡ eqb (length bytes) 0 → test ≡ false → 0 < length bytes
 some_bytes bytes test is fails =
@@ -220,3 +237,8 @@ not_empty bytes test is fails = λ empty. absurd (nothing (some_bytes bytes test
   where
     nothing : 0 < length bytes → bytes ≡ [] → ⊥
     nothing some empty = omega (arith, ap length empty)
+
+pub nothing_after : (bytes : List ℕ) (test : Bool) → test ≡ eqb (length bytes) 0 → test ≡ true → length bytes ≤ 0
+nothing_after bytes test is holds =
+    let none : length bytes ≡ 0 = eqb-true (length bytes) 0 (sym is ∙ holds) in
+    omega arith

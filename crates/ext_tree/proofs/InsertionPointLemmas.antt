@@ -12,7 +12,7 @@ use Rattle.std.specs.FinMap.{find, put, is_sorted}
 use Rattle.std.specs.FinMap.Entries.{below_all, by_order}
 use Rattle.std.proofs.lemmas.Bool.{and_parts, true≢false, false≢true}
 use Rattle.std.proofs.lemmas.Option.{get_or_from_slice_get, slice_get_within}
-use Rattle.ext_text.proofs.Facts.{is_less, is_greater}
+use Rattle.ext_text.proofs.ForCallers.{is_less, is_greater}
 use Rattle.ext_tree.specs.InsertionPoint.{is_past, insertion_point}
 
 -- what a look-up of a key finds at an entry

@@ -9,8 +9,7 @@ use Rattle.std.proofs.lemmas.Bool.{true≢false, false≢true, or_parts, leb-fal
 use Rattle.std.proofs.lemmas.Float.{T_from_true}
 use Rattle.ext_text.specs.Path.{IsPath, path_cmp, parent}
 use Rattle.ext_text.specs.Order.{paths_total}
-use Rattle.ext_text.proofs.Facts.{true_from_T}
-use Rattle.ext_text.proofs.PathPrefixes.{same_path}
+use Rattle.ext_text.proofs.ForCallers.{true_from_T, same_path}
 use Rattle.ext_tree.specs.declared.entry.Entry.{Entry}
 use Rattle.ext_tree.specs.declared.tree.TreeErr.TheVariants.{Exists, NotDirectory, Limit}
 use Rattle.ext_tree.specs.Tree.{Entries, IsTree, IsTreeWithin, lookup, is_directory_at, is_directory_or_root, most_entries}

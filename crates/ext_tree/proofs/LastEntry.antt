@@ -14,8 +14,7 @@ use Rattle.std.specs.FinMap.{find}
 use Rattle.std.specs.FinMap.Entries.{find-append}
 use Rattle.ext_text.specs.Order.{paths_total}
 use Rattle.ext_text.specs.Path.{IsPath, path_cmp, parent, is_prefix}
-use Rattle.ext_text.proofs.Facts.{true_from_T, is_less}
-use Rattle.ext_text.proofs.PathPrefixes.{same_path, convex, prefix_whole, prefix_short, length-parent, parent_prefix, parent_less, parent_other}
+use Rattle.ext_text.proofs.ForCallers.{true_from_T, is_less, same_path, convex, prefix_whole, prefix_short, length-parent, parent_prefix, parent_less, parent_other}
 use Rattle.ext_tree.specs.declared.entry.Entry.{Entry}
 use Rattle.ext_tree.specs.Tree.{Entries, IsTree, lookup, is_directory, is_directory_at, is_directory_or_root}
 use Rattle.ext_tree.specs.Following.{stands_after}

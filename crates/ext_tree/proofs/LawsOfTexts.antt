@@ -5,9 +5,9 @@ use Rattle.std.specs.List.{flat_map}
 use Rattle.ext_tree.specs.declared.stamp.Stamp.{Stamp}
 use Rattle.ext_tree.specs.Tree.{Entries}
 use Rattle.ext_tree.specs.TreeText.{HasText, tree_lines, tree_text}
-use Rattle.ext_tree.specs.FirstFault.{whole_lines}
+use Rattle.ext_lines.specs.Lines.{whole_lines}
 use Rattle.ext_tree.specs.TextLaws.{OneTreeOfText, OneTextOfTree, NoPrefixOfText, OneListOfSequence}
-use Rattle.ext_tree.proofs.WholeLines.{whole_lines-text}
+use Rattle.ext_lines.proofs.ForCallers.{whole_lines-text}
 use Rattle.ext_tree.proofs.Sequences.{one_tree, sequence_peeled}
 use Rattle.ext_tree.proofs.Faults.{tree_lacks, sequence_lines}
 

@@ -4,16 +4,11 @@ pub mod Kept
 pub mod Orders
 pub mod LastEntry
 pub mod PastPrefix
-pub mod Octal
 pub mod Printed
-pub mod OctalText
-pub mod LineNumbers
 pub mod FieldsLemmas
-pub mod DigestDigits
 pub mod EntryLineLemmas
 pub mod TreeLines
 pub mod TextPrefixes
-pub mod WholeLines
 pub mod BodyLines
 pub mod Sequences
 pub mod Faults

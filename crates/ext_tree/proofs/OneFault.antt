@@ -8,7 +8,8 @@ use Rattle.std.specs.List.{flat_map}
 use Rattle.ext_tree.specs.declared.stamp.Stamp.{Stamp}
 use Rattle.ext_tree.specs.Tree.{Entries}
 use Rattle.ext_tree.specs.TreeText.{IsSequence, IsTreeText, tree_lines, tree_text}
-use Rattle.ext_tree.specs.FirstFault.{Begins, IsFaultyLine, IsEarlyEnd, whole_lines}
+use Rattle.ext_tree.specs.FirstFault.{Begins, IsFaultyLine, IsEarlyEnd}
+use Rattle.ext_lines.specs.Lines.{whole_lines}
 use Rattle.ext_tree.specs.TextLaws.{NoFaultInText, NoFaultInSequence, PrefixesBegin, OneFirstFault}
 use Rattle.ext_tree.proofs.Faults.{sequence_lines}
 

@@ -9,7 +9,7 @@ use Rattle.std.specs.Cmp.{IsTotalOrder, tied_itself}
 use Rattle.std.specs.List.{AllByRecursion}
 use Rattle.std.specs.FinMap.{find, is_sorted}
 use Rattle.std.specs.FinMap.Entries.{below_all}
-use Rattle.ext_text.proofs.Facts.{true_from_T, is_less, is_equal}
+use Rattle.ext_text.proofs.ForCallers.{true_from_T, is_less, is_equal}
 
 pub both_T : (a b : Bool) → T a → T b → T (a && b)
 both_T true b p q = q

@@ -14,8 +14,7 @@ use Rattle.ext_tree.specs.Following.{stands_after}
 use Rattle.ext_tree.specs.Tree.{is_directory}
 use Rattle.ext_tree.specs.declared.entry.Entry.{Entry}
 use Rattle.ext_tree.proofs.LastEntry.{ends}
-use Rattle.ext_text.proofs.Facts.{is_equal}
-use Rattle.ext_text.proofs.PathPrefixes.{names_exact, names_tied}
+use Rattle.ext_text.proofs.ForCallers.{is_equal, names_exact, names_tied}
 
 -- the answer for the name that a path has behind a front, if there is one: a smaller name, or a directory there
 abbrev pub Answers : {C : Type 0} → Option (List ℕ) → List ℕ → Entry C → Bool → Type 0

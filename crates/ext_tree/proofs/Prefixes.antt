@@ -3,7 +3,7 @@ use Rattle.std.proofs.Common.{◌≡◌, ℕ, suc, zero, ◌+◌, ◌-◌, ◌<�
 use mathlib.Core.Logic.{inl, inr}
 use Rattle.std.proofs.lemmas.Bool.{true≢false, false≢true, cases_lt, and_parts, and_from, not-true}
 use Rattle.ext_text.specs.Path.{parent, is_prefix, is_proper_prefix}
-use Rattle.ext_text.proofs.PathPrefixes.{some_name, prefix_self, prefix_take, prefix_short, prefix_shorter, prefix_whole, length-parent, parent_prefix}
+use Rattle.ext_text.proofs.ForCallers.{some_name, prefix_self, prefix_take, prefix_short, prefix_shorter, prefix_whole, length-parent, parent_prefix}
 use Rattle.ext_tree.specs.declared.entry.Entry.{Entry}
 use Rattle.ext_tree.specs.Tree.{Entries, IsTree, lookup, is_directory_at, is_directory_or_root}
 use Rattle.ext_tree.specs.Refusals.{is_root}

@@ -5,7 +5,7 @@ use Rattle.std.specs.List.{flat_map}
 use Rattle.std.proofs.lemmas.List.{take_all}
 use Rattle.std.proofs.lemmas.List.Folds.{flat_map-map}
 use Rattle.ext_text.specs.Path.{path_text}
-use Rattle.ext_text.proofs.Parts.{path_text-cons}
+use Rattle.ext_text.proofs.ForCallers.{path_text-cons}
 use Rattle.ext_tree.specs.declared.entry.Entry.{Entry}
 use Rattle.ext_tree.specs.declared.stamp.Stamp.{Stamp}
 use Rattle.ext_tree.specs.Tree.{Entries}

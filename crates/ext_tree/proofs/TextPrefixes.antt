@@ -7,7 +7,7 @@ use Rattle.std.specs.List.{AllByRecursion}
 use Rattle.std.proofs.lemmas.List.{append-nil}
 use Rattle.ext_text.specs.Order.{paths_total}
 use Rattle.ext_text.specs.Path.{IsPath, path_cmp}
-use Rattle.ext_text.proofs.Lists.{all_append, all_prefix, all_back, all_both, all_weaker}
+use Rattle.ext_text.proofs.ForCallers.{all_append, all_prefix, all_back, all_both, all_weaker}
 use Rattle.ext_tree.specs.declared.entry.Entry.{Entry}
 use Rattle.ext_tree.specs.declared.stamp.Stamp.{Stamp}
 use Rattle.ext_tree.specs.Tree.{Entries, IsTree}

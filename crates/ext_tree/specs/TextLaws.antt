@@ -2,7 +2,8 @@
 use Rattle.std.specs.Prelude.{◌≡◌, ℕ, List, [], ◌++◌, take}
 use Rattle.ext_tree.specs.Tree.{Entries}
 use Rattle.ext_tree.specs.TreeText.{IsTreeText, IsSequence}
-use Rattle.ext_tree.specs.FirstFault.{Begins, IsFirstFault, IsOne, AtLeastOne, whole_lines}
+use Rattle.ext_tree.specs.FirstFault.{Begins, IsFirstFault, IsOne, AtLeastOne}
+use Rattle.ext_lines.specs.Lines.{whole_lines}
 use Rattle.ext_tree.specs.declared.stamp.Stamp.{Stamp}
 
 -- a text belongs to one tree

@@ -1,6 +1,6 @@
 // Reads tree texts line by line. What was read so far is known to be the start of a text, so each line is judged by the
 // entries before it alone, and the first line that may not stand there is the first faulty one.
-ghost use Rattle.std.specs.Prelude.{◌≡◌, ◌+◌, ◌<◌, ◌≤◌, ◌^◌, ◌↔◌, [], ◌∷◌, ◌++◌, length, MatchResult, IfOk, IsTrue};
+ghost use Rattle.std.specs.Prelude.{◌≡◌, ◌+◌, ◌<◌, ◌≤◌, ◌^◌, ◌↔◌, [], ◌∷◌, ◌++◌, length, MatchResult, IfOk, IsTrue, OnOk};
 ghost use Rattle.ext_tree.specs.declared.entry.Entry.{Entry};
 ghost use Rattle.ext_tree.specs.declared.stamp.Stamp.{Stamp};
 ghost use Rattle.ext_tree.specs.FirstFault.{ReadsTree, ReadsSequence};
@@ -13,8 +13,9 @@ use crate::following::may_follow;
 use crate::entry_line::entry_of_line;
 use crate::stamp::Stamp;
 use crate::tree::{MOST_ENTRIES, Tree};
-use ext_text::{ListOf, OutOfMemory, Path, split_at_byte};
-use std::alloc::{AllocFailed, Global};
+use ext_lines::{OutOfMemory, split_at_byte};
+use ext_text::{ListOf, Path};
+use std::alloc::Global;
 use thiserror::Error;
 
 /// The first line of a tree text.
@@ -44,17 +45,6 @@ impl From<OutOfMemory> for TreeTextErr {
     ghost from_gives = { λ _ e. e ≡ errors.OutOfMemory };
 
     fn from(_refused: OutOfMemory) -> TreeTextErr {
-        TreeTextErr::OutOfMemory
-    }
-}
-
-impl<T: Drop> From<AllocFailed<T>> for TreeTextErr {
-    ghost use Rattle.std.specs.Prelude.{◌≡◌};
-    ghost use Rattle.ext_tree.specs.declared.reading.TreeTextErr.TheVariants as errors;
-
-    ghost from_gives = { λ _ e. e ≡ errors.OutOfMemory };
-
-    fn from(_refused: AllocFailed<T>) -> TreeTextErr {
         TreeTextErr::OutOfMemory
     }
 }
@@ -110,7 +100,7 @@ pub fn read_trees(alloc: Global, bytes: &[u8]) -> Result<Trees, TreeTextErr>
     let mut line = 1;
     'texts: loop {
         let text = read_text(alloc, rest, line)?;
-        trees.push(Tree::from_pairs(text.entries))?;
+        push(&mut trees, Tree::from_pairs(text.entries))?;
         if text.rest.is_empty() {
             return Ok(ListOf::from_vec(trees));
         }
@@ -159,7 +149,7 @@ fn read_body(alloc: Global, bytes: &[u8], first: u64) -> Result<Body, TreeTextEr
                     });
                 }
                 Line::Item(path, entry) => {
-                    entries.push((path, entry))?;
+                    push(&mut entries, (path, entry))?;
                     rest = after;
                     line += 1;
                 }
@@ -194,6 +184,14 @@ fn may_add(entries: &[(Path, Entry<Stamp>)], path: &Path) -> bool
     ensures { (e : Entry Stamp) → HasTreeLine (path.now, e) → (IsTrue result ↔ HasText (entries.now ++ (path.now, e) ∷ [])) }
 {
     entries.len() < MOST_ENTRIES && may_follow(entries, path)
+}
+
+// Adds an item at the end.
+fn push<T: Drop>(items: &mut Vec<T>, item: T) -> Result<(), OutOfMemory>
+    ensures { OnOk result (items.new.items ≡ items.old.items ++ item ∷ []) }
+{
+    items.push(item)?;
+    Ok(())
 }
 
 #[cfg(test)]

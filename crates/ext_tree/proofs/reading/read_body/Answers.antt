@@ -16,12 +16,12 @@ returns-in-Fault c = record {
 
 pub lines-preserved : goal.lines-preserved
 lines-preserved c =
-    let grown = c.in_ok-push-in-Item.ensures.items in
-    let found = judged_item c.as_slice.result.now c.lines.entries.items c.push.new.self.items c.in-Some.text.now c.in_ok-judge-in-Some.field-0 c.in-Item.path c.in-Item.entry
+    let grown = c.in_ok-push-in-Item.ensures in
+    let found = judged_item c.as_slice.result.now c.lines.entries.items c.push.new.items.items c.in-Some.text.now c.in_ok-judge-in-Some.field-0 c.in-Item.path c.in-Item.entry
     c.as_slice.ensures.value c.in_ok-judge-in-Some.ensures c.in-Item.is grown in
     record {
       tree = found.0;
-      text = entry_more c.args.bytes.now c.lines.entries.items c.push.new.self.items (c.in-Item.path, c.in-Item.entry) c.lines.rest.now c.in-Some.text.now c.in-Some.after.now
+      text = entry_more c.args.bytes.now c.lines.entries.items c.push.new.items.items (c.in-Item.path, c.in-Item.entry) c.lines.rest.now c.in-Some.text.now c.in-Some.after.now
           c.lines.invariant.text c.in-Some.ensures found.1 grown;
       counted = omega (arith, ap length grown, length-append c.lines.entries.items ((c.in-Item.path, c.in-Item.entry) ∷ []));
       room = omega (arith, cut_short c.lines.rest.now c.in-Some.text.now c.in-Some.after.now c.in-Some.ensures);
