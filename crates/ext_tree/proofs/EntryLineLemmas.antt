@@ -60,7 +60,8 @@ module _ {C : Type 0} (form : LineForm C) where
   no_link fields none (Link t) rest is e = none t rest is (after_kind 108 108 _ _ e)
 
   module _ (lack : FieldsLack form) where
-    fields_lack : (e : Entry C) → IsWritable form e → AllByRecursion (Lacks 10) (entry_fields form e)
+    -- no field of an entry holds a newline
+    pub fields_lack : (e : Entry C) → IsWritable form e → AllByRecursion (Lacks 10) (entry_fields form e)
     fields_lack (Dir m) is = (kind_lacks 100 (omega arith), (octal_lacks 10 m (omega arith) (omega (arith, is)), tt))
     fields_lack (File m c) is = (kind_lacks 102 (omega arith), (octal_lacks 10 m (omega arith) (omega (arith, is.0)), lack c is.1))
     fields_lack (Link t) is =

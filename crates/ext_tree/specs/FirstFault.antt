@@ -47,13 +47,13 @@ pub record IsFirstFault (wanted : List (Entries Stamp) → Type 0) (bytes : List
   pub none : IsNoSequence wanted bytes
   pub stop : IsFaultyLine wanted (whole_lines bytes) line ⊎ IsEarlyEnd wanted (whole_lines bytes) line
 
--- what `read_tree` answers
+-- what `read_tree` gives
 abbrev pub ReadsTree : List ℕ → Result (Entries Stamp) TreeTextErr → Type 0
 ReadsTree bytes (Ok tree) = IsTreeText bytes tree
 ReadsTree bytes (Err OutOfMemory) = Unit {0}
 ReadsTree bytes (Err (BadTree line)) = IsFirstFault IsOne bytes line
 
--- what `read_trees` answers
+-- what `read_trees` gives
 abbrev pub ReadsSequence : List ℕ → Result (List (Entries Stamp)) TreeTextErr → Type 0
 ReadsSequence bytes (Ok trees) = IsSequence bytes trees
 ReadsSequence bytes (Err OutOfMemory) = Unit {0}

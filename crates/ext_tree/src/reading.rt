@@ -27,7 +27,7 @@ const END: &[u8] = b"end";
 /// Why bytes are not read as trees.
 #[derive(Clone, Copy, Debug, PartialEq, Eq, Error)]
 pub enum TreeTextErr {
-    /// A growth was refused.
+    /// An allocation failed.
     #[error("out of memory")]
     OutOfMemory,
     /// The bytes are no tree text, or no sequence of them; the line is the first faulty one, counted from 1.
@@ -44,12 +44,12 @@ impl From<OutOfMemory> for TreeTextErr {
 
     ghost from_gives = { λ _ e. e ≡ errors.OutOfMemory };
 
-    fn from(_refused: OutOfMemory) -> TreeTextErr {
+    fn from(_failed: OutOfMemory) -> TreeTextErr {
         TreeTextErr::OutOfMemory
     }
 }
 
-// What a line is behind the lines of entries.
+// What a line is after the lines of entries.
 #[derive(Drop)]
 enum Line {
     // The last line of their text.
@@ -64,17 +64,17 @@ enum Line {
 #[derive(Drop)]
 struct Body<'a> {
     entries: Vec<(Path, Entry<Stamp>)>,
-    // The bytes behind the text.
+    // The bytes after the text.
     rest: &'a [u8],
-    // The number of the line behind the text.
+    // The number of the line after the text.
     line: u64,
 }
 
-/// The tree of a tree text, behind which nothing may stand.
+/// The tree of a tree text, which nothing may follow.
 ///
 /// # Errors
 /// `BadTree` exactly where the bytes are no tree text. Its line, counted from 1, is the first with which no tree text
-/// begins; where the bytes stop early, it is the line behind their last newline, also where that line has begun.
+/// begins; where the bytes stop early, it is the line after their last newline, also where that line has begun.
 /// `OutOfMemory` may come at any time.
 pub fn read_tree(alloc: Global, bytes: &[u8]) -> Result<Tree<Stamp>, TreeTextErr>
     ensures { ReadsTree bytes.now result }
@@ -87,7 +87,7 @@ pub fn read_tree(alloc: Global, bytes: &[u8]) -> Result<Tree<Stamp>, TreeTextErr
     }
 }
 
-/// The trees of one or more tree texts in a sequence, in their order.
+/// The trees of a sequence of tree texts, of one at least, in their order.
 ///
 /// # Errors
 /// `BadTree` exactly where the bytes are no such sequence; the empty bytes are none. Its line is as for `read_tree`, and the
@@ -158,7 +158,7 @@ fn read_body(alloc: Global, bytes: &[u8], first: u64) -> Result<Body, TreeTextEr
     }
 }
 
-// What the line is behind the lines of the entries.
+// What the line is after the lines of the entries.
 fn judge(alloc: Global, entries: &[(Path, Entry<Stamp>)], line: &[u8]) -> Result<Line, OutOfMemory>
     requires { HasText entries.now }
     ensures { IfOk result (Judges entries.now line.now) }

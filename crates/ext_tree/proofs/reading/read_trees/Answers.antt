@@ -1,7 +1,7 @@
 use Rattle.std.proofs.Common.{arith, ◌∙◌}
 use mathlib.Core.Logic.{inr}
 use Rattle.std.proofs.lemmas.Result.{err_from_is_err_and}
-use Rattle.ext_tree.proofs.FaultySequences.{sequence_ends, nothing_after, sequence_err, texts_more, each_more, counted_more, text_room, some_bytes, grown_by}
+use Rattle.ext_tree.proofs.StopLemmas.{sequence_ends, nothing_after, sequence_err, texts_more, each_more, counted_more, text_room, some_bytes, grown_by}
 use Rattle.ext_tree.proofs.reading.read_trees.Goals as goal
 
 pub returns-in_err-text : goal.returns-in_err-text
