@@ -8,7 +8,7 @@ use Rattle.ext_text.proofs.Cuts.{cut_once, cut_none}
 use Rattle.ext_tree.specs.declared.entry.Entry.{Entry}
 use Rattle.ext_tree.specs.declared.stamp.Stamp.{Stamp}
 use Rattle.ext_tree.specs.Tree.{Entries}
-use Rattle.ext_tree.specs.TreeText.{HasText, entry_line, lines_text, tree_lines}
+use Rattle.ext_tree.specs.TreeText.{HasText, tree_line, lines_text, tree_lines}
 use Rattle.ext_tree.specs.Reading.{MayStand, Judges, NoneNext, BodyFault, BeginsBody, BeginsText, StopsText, TextFault}
 use Rattle.ext_tree.specs.declared.reading.TreeTextErr.{TreeTextErr}
 use Rattle.ext_tree.specs.declared.reading.TreeTextErr.TheVariants.{OutOfMemory, BadTree}
@@ -25,12 +25,12 @@ pub line_more : (bytes : List ℕ) (lines : List (List ℕ)) (rest line more : L
 line_more bytes lines rest line more text cut = text ∙ ap (λ xs. lines_text lines ++ xs) cut.whole ∙ sym (lines_text-push lines line more)
 
 -- the lines of the entries so far, and one more entry
-pub entry_more : (bytes : List ℕ) (es longer : Entries Stamp) (x : List (List ℕ) × Entry Stamp) (rest line more : List ℕ) → bytes ≡ lines_text (map entry_line es) ++ rest → IsSplit 10 rest line more → line ≡ entry_line x → longer ≡ es ++ x ∷ []
-    → bytes ≡ lines_text (map entry_line longer) ++ more
+pub entry_more : (bytes : List ℕ) (es longer : Entries Stamp) (x : List (List ℕ) × Entry Stamp) (rest line more : List ℕ) → bytes ≡ lines_text (map tree_line es) ++ rest → IsSplit 10 rest line more → line ≡ tree_line x → longer ≡ es ++ x ∷ []
+    → bytes ≡ lines_text (map tree_line longer) ++ more
 entry_more bytes es longer x rest line more text cut is grown =
-    line_more bytes (map entry_line es) rest line more text cut
-    ∙ ap (λ l. lines_text (map entry_line es ++ l ∷ []) ++ more) is
-    ∙ ap (λ ls. lines_text ls ++ more) (sym (map-append entry_line es (x ∷ [])) ∙ ap (map entry_line) (sym grown))
+    line_more bytes (map tree_line es) rest line more text cut
+    ∙ ap (λ l. lines_text (map tree_line es ++ l ∷ []) ++ more) is
+    ∙ ap (λ ls. lines_text ls ++ more) (sym (map-append tree_line es (x ∷ [])) ∙ ap (map tree_line) (sym grown))
 
 -- where the first line may not stand, none may
 pub none_cut : (May : List ℕ → Type 0) (bytes line more : List ℕ) → IsSplit 10 bytes line more → ¬ May line → NoneNext May bytes
@@ -43,7 +43,7 @@ none_lacks May bytes lacks = λ l m cut _. cut_none 10 bytes l m lacks cut.whole
 
 -- ---- what a line was judged to be
 
-pub judged_item : (slice es longer : Entries Stamp) (line : List ℕ) (j : Line) (p : List (List ℕ)) (e : Entry Stamp) → slice ≡ es → Judges slice line j → j ≡ Item p e → longer ≡ es ++ (p, e) ∷ [] → HasText longer × (line ≡ entry_line (p, e))
+pub judged_item : (slice es longer : Entries Stamp) (line : List ℕ) (j : Line) (p : List (List ℕ)) (e : Entry Stamp) → slice ≡ es → Judges slice line j → j ≡ Item p e → longer ≡ es ++ (p, e) ∷ [] → HasText longer × (line ≡ tree_line (p, e))
 judged_item slice es longer line j p e same judged is grown =
     let found : Judges es line (Item p e) = subst (λ i. Judges es line i) is (subst (λ xs. Judges xs line j) same judged) in
     (subst HasText (sym grown) found.0, found.1)
@@ -54,13 +54,13 @@ judged_fault slice es line j same judged is = subst (λ i. Judges es line i) is 
 -- ---- a header and a body are a text
 
 pub length-tree_lines : (es : Entries Stamp) → length (tree_lines es) ≡ length es + 2
-length-tree_lines es = omega (arith, length-append (map entry_line es) (codes "end" ∷ []), length-map es entry_line)
+length-tree_lines es = omega (arith, length-append (map tree_line es) (codes "end" ∷ []), length-map es tree_line)
 
 pub text_begins : (bytes body : List ℕ) (first : ℕ) (es : Entries Stamp) (rest : List ℕ) (next : ℕ) → IsSplit 10 bytes (codes "hostext-tree 1") body → BeginsBody body (first + 1) es rest next → BeginsText bytes first es rest next
 text_begins bytes body first es rest next cut begins = record {
   tree = begins.tree;
   text = line_more bytes [] bytes (codes "hostext-tree 1") body refl cut ∙ ap (λ xs. lines_text (codes "hostext-tree 1" ∷ []) ++ xs) begins.text
-      ∙ sym (append_assoc (lines_text (codes "hostext-tree 1" ∷ [])) (lines_text (map entry_line es ++ codes "end" ∷ [])) rest);
+      ∙ sym (append_assoc (lines_text (codes "hostext-tree 1" ∷ [])) (lines_text (map tree_line es ++ codes "end" ∷ [])) rest);
   counted = omega (arith, begins.counted, length-tree_lines es);
 }
 

@@ -4,8 +4,8 @@ use Rattle.std.proofs.lemmas.Bool.{cases_eq, eqb-true, and_parts}
 use Rattle.std.specs.List.{list_all}
 use Rattle.hex.specs.Hex.{encode_with, encode_lower, lower_digits, hex_digit_value}
 use Rattle.hex.proofs.HexLemmas.{IsDigits-lower_digits}
-use Rattle.ext_tree.specs.TreeText.{IsDigest}
-use Rattle.ext_tree.proofs.LineFields.{digest_bytes}
+use Rattle.ext_lines.specs.Hexadecimal.{Are32Bytes}
+use Rattle.ext_tree.proofs.FieldsLemmas.{digest_bytes}
 
 -- the first digit of a byte stands at twice its place
 high_place : (ds : List ℕ) (k : ℕ) → k < length ds → get_or (encode_lower ds) (2 * k) 0 ≡ get_or lower_digits (get_or ds k 0 / 16) 0
@@ -26,7 +26,7 @@ low_place (b ∷ ds) (suc k) lt =
     rw two (low_place ds k (omega arith))
 
 -- the values of both are the byte
-pub digits_give : (digits ds : List ℕ) (at high low : ℕ) → IsDigest ds → digits ≡ encode_lower ds → at < 32
+pub digits_give : (digits ds : List ℕ) (at high low : ℕ) → Are32Bytes ds → digits ≡ encode_lower ds → at < 32
     → ((n : ℕ) → hex_digit_value (get_or digits (2 * at) 0) ≡ Some n → high ≡ n)
     → ((n : ℕ) → hex_digit_value (get_or digits (2 * at + 1) 0) ≡ Some n → low ≡ n)
     → high * 16 + low ≡ get_or ds at 0

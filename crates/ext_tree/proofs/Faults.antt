@@ -10,10 +10,10 @@ use Rattle.ext_text.proofs.Cuts.{cut_or_lacks, lacks_nil}
 use Rattle.ext_text.proofs.Lists.{all_append}
 use Rattle.ext_tree.specs.declared.stamp.Stamp.{Stamp}
 use Rattle.ext_tree.specs.Tree.{Entries}
-use Rattle.ext_tree.specs.TreeText.{HasLine, HasText, entry_line, tree_lines, lines_text, tree_text}
+use Rattle.ext_tree.specs.TreeText.{HasTreeLine, HasText, tree_line, tree_lines, lines_text, tree_text}
 use Rattle.ext_tree.specs.FirstFault.{Begins, IsFirstFault, whole_lines}
 use Rattle.ext_tree.specs.Reading.{NoneNext}
-use Rattle.ext_tree.proofs.LineLaws.{line_lacks}
+use Rattle.ext_tree.proofs.TreeLines.{line_lacks}
 use Rattle.ext_tree.proofs.TextPrefixes.{lines_of}
 use Rattle.ext_tree.proofs.WholeLines.{whole_lines-text, whole_lines-cut, whole_lines-lacks, lines_text-append}
 
@@ -22,13 +22,13 @@ use Rattle.ext_tree.proofs.WholeLines.{whole_lines-text, whole_lines-cut, whole_
 pub header_lacks : Lacks 10 (codes "hostext-tree 1")
 header_lacks = AllPass-from_list_all (λ b. not (eqb b 10)) (codes "hostext-tree 1") refl
 
-pub entries_lack : (es : Entries Stamp) → AllByRecursion HasLine es → AllByRecursion (Lacks 10) (map entry_line es)
+pub entries_lack : (es : Entries Stamp) → AllByRecursion HasTreeLine es → AllByRecursion (Lacks 10) (map tree_line es)
 entries_lack [] lines = tt
 entries_lack (x ∷ es) lines = (line_lacks x lines.0, entries_lack es lines.1)
 
 -- no line of a sequence holds a newline
 pub tree_lacks : (es : Entries Stamp) → HasText es → AllByRecursion (Lacks 10) (tree_lines es)
-tree_lacks es text = (header_lacks, all_append (Lacks 10) (map entry_line es) (codes "end" ∷ []) (entries_lack es (lines_of es text)) (AllPass-from_list_all (λ b. not (eqb b 10)) (codes "end") refl, tt))
+tree_lacks es text = (header_lacks, all_append (Lacks 10) (map tree_line es) (codes "end" ∷ []) (entries_lack es (lines_of es text)) (AllPass-from_list_all (λ b. not (eqb b 10)) (codes "end") refl, tt))
 
 pub sequence_lacks : (trees : List (Entries Stamp)) → AllByRecursion HasText trees → AllByRecursion (Lacks 10) (flat_map tree_lines trees)
 sequence_lacks [] each = tt

@@ -13,7 +13,7 @@ use Rattle.ext_tree.specs.declared.stamp.Stamp.{Stamp}
 use Rattle.ext_tree.specs.declared.reading.TreeTextErr.{TreeTextErr}
 use Rattle.ext_tree.specs.declared.reading.TreeTextErr.TheVariants.{OutOfMemory, BadTree}
 use Rattle.ext_tree.specs.Tree.{Entries}
-use Rattle.ext_tree.specs.TreeText.{HasText, entry_line, tree_lines, lines_text, tree_text}
+use Rattle.ext_tree.specs.TreeText.{HasText, tree_line, tree_lines, lines_text, tree_text}
 use Rattle.ext_tree.specs.FirstFault.{IsFirstFault, IsOne, AtLeastOne, ReadsTree, ReadsSequence}
 use Rattle.ext_tree.specs.Reading.{MayStand, NoneNext, StopsBody, StopsText, BeginsText, TextFault}
 use Rattle.ext_tree.proofs.TextPrefixes.{lines_of, empty_text}
@@ -37,43 +37,43 @@ next_header done trees l a hd ht same =
     header_of [] is = absurd (cc)
     header_of (t ∷ more) is = head (sym (ended t (flat_map tree_lines more)) ∙ sym is)
       where
-        head : codes "hostext-tree 1" ∷ (map entry_line t ++ codes "end" ∷ flat_map tree_lines more) ≡ l ∷ a → l ≡ codes "hostext-tree 1"
+        head : codes "hostext-tree 1" ∷ (map tree_line t ++ codes "end" ∷ flat_map tree_lines more) ≡ l ∷ a → l ≡ codes "hostext-tree 1"
         head both = cc
 
 -- the lines of whole trees, and those of a tree that has not ended
 abbrev open_lines : List (Entries Stamp) → Entries Stamp → List (List ℕ)
-open_lines done es = flat_map tree_lines done ++ codes "hostext-tree 1" ∷ map entry_line es
+open_lines done es = flat_map tree_lines done ++ codes "hostext-tree 1" ∷ map tree_line es
 
 -- what stands behind a header and entries
 next_entry : (done trees : List (Entries Stamp)) (es : Entries Stamp) (l : List ℕ) (a : List (List ℕ)) → AllByRecursion HasText done → AllByRecursion HasText trees → HasText es → (open_lines done es ++ l ∷ []) ++ a ≡ flat_map tree_lines trees → MayStand es l
 next_entry done trees es l a hd ht text same =
-    let peeled = sequence_peeled done trees (codes "hostext-tree 1" ∷ (map entry_line es ++ l ∷ a)) hd ht (sym regrouped ∙ same) in
+    let peeled = sequence_peeled done trees (codes "hostext-tree 1" ∷ (map tree_line es ++ l ∷ a)) hd ht (sym regrouped ∙ same) in
     entry_of peeled.0 peeled.3 peeled.2
   where
-    regrouped : (open_lines done es ++ l ∷ []) ++ a ≡ flat_map tree_lines done ++ (codes "hostext-tree 1" ∷ (map entry_line es ++ l ∷ a))
+    regrouped : (open_lines done es ++ l ∷ []) ++ a ≡ flat_map tree_lines done ++ (codes "hostext-tree 1" ∷ (map tree_line es ++ l ∷ a))
     regrouped =
-        ap (λ xs. xs ++ a) (append_assoc (flat_map tree_lines done) (codes "hostext-tree 1" ∷ map entry_line es) (l ∷ []))
-        ∙ append_assoc (flat_map tree_lines done) (codes "hostext-tree 1" ∷ (map entry_line es ++ l ∷ [])) a
-        ∙ ap (λ xs. flat_map tree_lines done ++ (codes "hostext-tree 1" ∷ xs)) (append_assoc (map entry_line es) (l ∷ []) a)
+        ap (λ xs. xs ++ a) (append_assoc (flat_map tree_lines done) (codes "hostext-tree 1" ∷ map tree_line es) (l ∷ []))
+        ∙ append_assoc (flat_map tree_lines done) (codes "hostext-tree 1" ∷ (map tree_line es ++ l ∷ [])) a
+        ∙ ap (λ xs. flat_map tree_lines done ++ (codes "hostext-tree 1" ∷ xs)) (append_assoc (map tree_line es) (l ∷ []) a)
 
-    entry_of : (more : List (Entries Stamp)) → AllByRecursion HasText more → codes "hostext-tree 1" ∷ (map entry_line es ++ l ∷ a) ≡ flat_map tree_lines more → MayStand es l
+    entry_of : (more : List (Entries Stamp)) → AllByRecursion HasText more → codes "hostext-tree 1" ∷ (map tree_line es ++ l ∷ a) ≡ flat_map tree_lines more → MayStand es l
     entry_of [] hm is = absurd (cc)
     entry_of (u ∷ more) hm is =
-        let whole : codes "hostext-tree 1" ∷ (map entry_line es ++ l ∷ a) ≡ codes "hostext-tree 1" ∷ (map entry_line u ++ codes "end" ∷ flat_map tree_lines more) = is ∙ ended u (flat_map tree_lines more) in
-        let bodies : map entry_line es ++ l ∷ a ≡ map entry_line u ++ codes "end" ∷ flat_map tree_lines more = cc in
+        let whole : codes "hostext-tree 1" ∷ (map tree_line es ++ l ∷ a) ≡ codes "hostext-tree 1" ∷ (map tree_line u ++ codes "end" ∷ flat_map tree_lines more) = is ∙ ended u (flat_map tree_lines more) in
+        let bodies : map tree_line es ++ l ∷ a ≡ map tree_line u ++ codes "end" ∷ flat_map tree_lines more = cc in
         next_line [] es u l a (flat_map tree_lines more) (lines_of es text) (lines_of u hm.0) hm.0 bodies
 
 -- a header and entries are no whole tree
 unended_entries : (done trees : List (Entries Stamp)) (es : Entries Stamp) → AllByRecursion HasText done → AllByRecursion HasText trees → open_lines done es ≡ flat_map tree_lines trees → ⊥
 unended_entries done trees es hd ht same =
-    let peeled = sequence_peeled done trees (codes "hostext-tree 1" ∷ map entry_line es) hd ht same in
+    let peeled = sequence_peeled done trees (codes "hostext-tree 1" ∷ map tree_line es) hd ht same in
     never peeled.0 peeled.2
   where
-    never : (more : List (Entries Stamp)) → codes "hostext-tree 1" ∷ map entry_line es ≡ flat_map tree_lines more → ⊥
+    never : (more : List (Entries Stamp)) → codes "hostext-tree 1" ∷ map tree_line es ≡ flat_map tree_lines more → ⊥
     never [] is = cc
     never (u ∷ more) is =
-        let whole : codes "hostext-tree 1" ∷ map entry_line es ≡ codes "hostext-tree 1" ∷ (map entry_line u ++ codes "end" ∷ flat_map tree_lines more) = is ∙ ended u (flat_map tree_lines more) in
-        let bodies : map entry_line es ≡ map entry_line u ++ codes "end" ∷ flat_map tree_lines more = cc in
+        let whole : codes "hostext-tree 1" ∷ map tree_line es ≡ codes "hostext-tree 1" ∷ (map tree_line u ++ codes "end" ∷ flat_map tree_lines more) = is ∙ ended u (flat_map tree_lines more) in
+        let bodies : map tree_line es ≡ map tree_line u ++ codes "end" ∷ flat_map tree_lines more = cc in
         open_body es u (flat_map tree_lines more) bodies
 
 -- ---- stuck in a sequence
@@ -108,13 +108,13 @@ stuck_entries : (wanted : List (Entries Stamp) → Type 0) (bytes : List ℕ) (d
     → IsSplit 10 rest (codes "hostext-tree 1") body → (stops : StopsBody body first line) → IsStuck wanted bytes (open_lines done stops.entries) stops.rest
 stuck_entries wanted bytes done rest body first line hd longer text cut stops = record {
   text = read;
-  lacks = all_append (Lacks 10) (flat_map tree_lines done) (codes "hostext-tree 1" ∷ map entry_line stops.entries) (sequence_lacks done hd) (header_lacks, entries_lack stops.entries (lines_of stops.entries stops.tree));
+  lacks = all_append (Lacks 10) (flat_map tree_lines done) (codes "hostext-tree 1" ∷ map tree_line stops.entries) (sequence_lacks done hd) (header_lacks, entries_lack stops.entries (lines_of stops.entries stops.tree));
   before = record {
     trees = done ++ stops.entries ∷ [];
     more = codes "end" ∷ [];
     as_many = longer stops.entries;
     each = all_append HasText done (stops.entries ∷ []) hd (stops.tree, tt);
-    text = append_assoc (flat_map tree_lines done) (codes "hostext-tree 1" ∷ map entry_line stops.entries) (codes "end" ∷ []) ∙ sym (one_more done stops.entries);
+    text = append_assoc (flat_map tree_lines done) (codes "hostext-tree 1" ∷ map tree_line stops.entries) (codes "end" ∷ []) ∙ sym (one_more done stops.entries);
   };
   stop = λ l more end begins. stops.stop l more end (next_entry done begins.trees stops.entries l begins.more hd begins.each stops.tree begins.text);
   unended = λ trees as_many each same _. unended_entries done trees stops.entries hd each same;
@@ -124,9 +124,9 @@ stuck_entries wanted bytes done rest body first line hd longer text cut stops = 
     read =
         line_more bytes (flat_map tree_lines done) rest (codes "hostext-tree 1") body (text ∙ ap (λ xs. xs ++ rest) (sequence_text done)) cut
         ∙ ap (λ xs. lines_text (flat_map tree_lines done ++ codes "hostext-tree 1" ∷ []) ++ xs) stops.text
-        ∙ sym (append_assoc (lines_text (flat_map tree_lines done ++ codes "hostext-tree 1" ∷ [])) (lines_text (map entry_line stops.entries)) stops.rest)
-        ∙ ap (λ xs. xs ++ stops.rest) (sym (lines_text-append (flat_map tree_lines done ++ codes "hostext-tree 1" ∷ []) (map entry_line stops.entries)))
-        ∙ ap (λ ls. lines_text ls ++ stops.rest) (append_assoc (flat_map tree_lines done) (codes "hostext-tree 1" ∷ []) (map entry_line stops.entries))
+        ∙ sym (append_assoc (lines_text (flat_map tree_lines done ++ codes "hostext-tree 1" ∷ [])) (lines_text (map tree_line stops.entries)) stops.rest)
+        ∙ ap (λ xs. xs ++ stops.rest) (sym (lines_text-append (flat_map tree_lines done ++ codes "hostext-tree 1" ∷ []) (map tree_line stops.entries)))
+        ∙ ap (λ ls. lines_text ls ++ stops.rest) (append_assoc (flat_map tree_lines done) (codes "hostext-tree 1" ∷ []) (map tree_line stops.entries))
 
 -- ---- the answers
 
@@ -136,7 +136,7 @@ sequence_stops wanted bytes done rest line hd longer none text unended (inl (is,
     stuck_fault wanted bytes (flat_map tree_lines done) rest line (stuck_header wanted bytes done rest hd longer none text unended stop) (omega (arith, is))
 sequence_stops wanted bytes done rest line hd longer none text unended (inr (body, cut, stops)) =
     stuck_fault wanted bytes (open_lines done stops.entries) stops.rest line (stuck_entries wanted bytes done rest body (1 + length (flat_map tree_lines done) + 1) line hd longer text cut stops)
-    (omega (arith, stops.counted, length-append (flat_map tree_lines done) (codes "hostext-tree 1" ∷ map entry_line stops.entries), length-map stops.entries entry_line))
+    (omega (arith, stops.counted, length-append (flat_map tree_lines done) (codes "hostext-tree 1" ∷ map tree_line stops.entries), length-map stops.entries tree_line))
 
 -- what `read_tree` answers where no text goes on
 pub tree_err : (bytes : List ℕ) (e : TreeTextErr) → TextFault bytes 1 e → ReadsTree bytes (Err e)

@@ -18,7 +18,7 @@ use Rattle.ext_text.proofs.Facts.{true_from_T, is_less}
 use Rattle.ext_text.proofs.PathPrefixes.{same_path, convex, prefix_whole, prefix_short, length-parent, parent_prefix, parent_less, parent_other}
 use Rattle.ext_tree.specs.declared.entry.Entry.{Entry}
 use Rattle.ext_tree.specs.Tree.{Entries, IsTree, lookup, is_directory, is_directory_at, is_directory_or_root}
-use Rattle.ext_tree.specs.Reading.{stands_after}
+use Rattle.ext_tree.specs.Following.{stands_after}
 use Rattle.ext_tree.proofs.Orders.{find-join, sorted_prefix, prefix_below, sorted_push, all_below, find_above, found_below}
 use Rattle.ext_tree.proofs.Prefixes.{root_none, some_dir, directory_dir, dir_directory, directory_some, prefixes}
 

@@ -8,9 +8,10 @@ pub mod Octal
 pub mod Printed
 pub mod OctalText
 pub mod LineNumbers
-pub mod LineFields
+pub mod FieldsLemmas
 pub mod DigestDigits
-pub mod LineLaws
+pub mod EntryLineLemmas
+pub mod TreeLines
 pub mod TextPrefixes
 pub mod WholeLines
 pub mod BodyLines
@@ -19,3 +20,5 @@ pub mod Faults
 pub mod FaultySequences
 pub mod LawsOfTexts
 pub mod OneFault
+pub mod Decided
+pub mod SomeFault

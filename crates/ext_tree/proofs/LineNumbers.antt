@@ -9,7 +9,7 @@ use Rattle.std.specs.Char.{digit_value}
 use Rattle.std.specs.Fmt.{decimal}
 use Rattle.std.specs.Str.Parse.{AllDigits, digits_value}
 use Rattle.ext_text.specs.Cut.{Lacks}
-use Rattle.ext_tree.specs.TreeText.{mode_text}
+use Rattle.ext_tree.specs.Fields.{mode_text}
 use Rattle.ext_text.proofs.Cuts.{differs, lacks_cons, lacks_nil}
 use Rattle.ext_tree.proofs.Octal.{octal_digit}
 use Rattle.ext_tree.proofs.OctalText.{BeginsHigh, octal_first, octal_is_IsNumeral}
@@ -81,7 +81,7 @@ no_mode ds none m small e =
     let is = octal_is_IsNumeral m (omega arith) in
     none (subst (AllDigits 8) (sym e) is.0.1) (omega (arith, ap (digits_value 8) e, is.1))
 
-pub no_number : (ds : List ℕ) (most : ℕ) → most ≤ 1073741824 → (AllDigits 10 ds → digits_value 10 ds ≤ most → ⊥)
+pub no_number : (ds : List ℕ) (most : ℕ) → most ≤ 4294967295 → (AllDigits 10 ds → digits_value 10 ds ≤ most → ⊥)
     → (n : ℕ) → n ≤ most → ds ≡ decimal n → ⊥
 no_number ds most within none n small e =
     let is = decimal_is_IsNumeral n (omega arith) in
@@ -94,12 +94,12 @@ pub mode_read : (field : List ℕ) (bits : ℕ) (r : Option ℕ) → bits ≤ 40
 mode_read field bits None within is none some = absurd (omega (arith, none refl))
 mode_read field bits (Some m) within is none some = (omega (arith, some), is ∙ ap (λ (k : ℕ). mode_text k) (sym some))
 
-pub is_number : (ds : List ℕ) → AllDigits 10 ds → IsShort ds → digits_value 10 ds ≤ 1073741824
+pub is_number : (ds : List ℕ) → AllDigits 10 ds → IsShort ds → digits_value 10 ds ≤ 4294967295
     → ds ≡ decimal (digits_value 10 ds)
 is_number ds d short small =
     sym (decimal-digits_value (numerals_by_value _ tells_digits) ds d short.0 short.1 (omega arith))
 
-pub number_read : (field : List ℕ) (most : ℕ) (r : Option ℕ) → most ≤ 1073741824 → IsShort field
+pub number_read : (field : List ℕ) (most : ℕ) (r : Option ℕ) → most ≤ 4294967295 → IsShort field
     → MatchOption r (AllDigits 10 field → digits_value 10 field ≤ most → ⊥) (λ n. (n ≡ digits_value 10 field) × AllDigits 10 field × (n ≤ most))
     → MatchOption r ((n : ℕ) → n ≤ most → field ≢ decimal n) (λ n. (n ≤ most) × (field ≡ decimal n))
 number_read field most None within short h = no_number field most within h

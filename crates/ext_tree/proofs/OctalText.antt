@@ -8,7 +8,7 @@ use Rattle.std.proofs.lemmas.Fmt.{digits_is_IsNumeral}
 use Rattle.std.specs.Char.{digit_value}
 use Rattle.std.specs.Fmt.{digits}
 use Rattle.std.specs.Str.Parse.{AllDigits, IsNumeral, digits_value, digits_value_after}
-use Rattle.ext_tree.specs.TreeText.{mode_text}
+use Rattle.ext_tree.specs.Fields.{mode_text}
 use Rattle.ext_tree.proofs.Octal.{octal_digit, octal_step}
 
 -- octal digits are a numeral of the number

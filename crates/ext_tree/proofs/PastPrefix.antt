@@ -10,7 +10,7 @@ use Rattle.std.specs.declared.cmp.Ordering.TheVariants.{Less, Equal, Greater}
 use Rattle.std.specs.Ordering.{is_lt, ordering_then, eq_by_cmp}
 use Rattle.ext_text.specs.Name.{bytes_cmp}
 use Rattle.ext_text.specs.Path.{path_cmp, parent, is_prefix}
-use Rattle.ext_tree.specs.Reading.{stands_after}
+use Rattle.ext_tree.specs.Following.{stands_after}
 use Rattle.ext_tree.specs.Tree.{is_directory}
 use Rattle.ext_tree.specs.declared.entry.Entry.{Entry}
 use Rattle.ext_tree.proofs.LastEntry.{ends}

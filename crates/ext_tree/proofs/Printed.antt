@@ -9,13 +9,13 @@ use Rattle.ext_text.proofs.Parts.{path_text-cons}
 use Rattle.ext_tree.specs.declared.entry.Entry.{Entry}
 use Rattle.ext_tree.specs.declared.stamp.Stamp.{Stamp}
 use Rattle.ext_tree.specs.Tree.{Entries}
-use Rattle.ext_tree.specs.TreeText.{entry_line, tree_text}
+use Rattle.ext_tree.specs.TreeText.{tree_line, tree_text}
 
 -- an entry's line with its newline
 abbrev pub whole_line : List (List ℕ) × Entry Stamp → List ℕ
-whole_line x = entry_line x ++ 10 ∷ []
+whole_line x = tree_line x ++ 10 ∷ []
 
-lines_then_end : (es : Entries Stamp) → flat_map (λ line. line ++ 10 ∷ []) (map entry_line es ++ codes "end" ∷ []) ≡ flat_map whole_line es ++ codes "end\n"
+lines_then_end : (es : Entries Stamp) → flat_map (λ line. line ++ 10 ∷ []) (map tree_line es ++ codes "end" ∷ []) ≡ flat_map whole_line es ++ codes "end\n"
 lines_then_end [] = refl
 lines_then_end (e ∷ es) = ap (λ rest. whole_line e ++ rest) (lines_then_end es) ∙ sym (append_assoc (whole_line e) (flat_map whole_line es) (codes "end\n"))
 

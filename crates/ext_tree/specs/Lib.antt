@@ -2,8 +2,11 @@ pub mod Tree
 pub mod Laws
 pub mod Refusals
 pub mod InsertionPoint
+pub mod Following
+pub mod Fields
+pub mod EntryLine
 pub mod TreeText
-pub mod Printing
+pub mod StampLaws
 pub mod FirstFault
 pub mod Reading
 pub mod TextLaws

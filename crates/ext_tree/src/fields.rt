@@ -1,14 +1,17 @@
-// The fields of an entry's line, each read back exactly: what a reader takes is what the entry prints, and where it
-// takes nothing, no value prints that field.
-ghost use Rattle.std.specs.Prelude.{◌≡◌, ◌≢◌, ◌+◌, ◌<◌, ◌≤◌, ◌↔◌, ◌++◌, ◌∷◌, ℕ, List, length, decimal, IsTrue, MatchOption, Some, slice_index};
+// The fields of lines, each read back exactly and printed with one space after it: what a reader takes is what is
+// printed, and where it takes nothing, no value is printed so.
+ghost use Rattle.std.specs.Prelude.{◌≡◌, ◌≢◌, ◌+◌, ◌<◌, ◌≤◌, ◌↔◌, ◌++◌, [], ◌∷◌, ℕ, List, length, decimal, false, IsTrue, MatchOption, OnOk, Some, slice_index};
+ghost use Rattle.std.specs.Fmt.{digits};
 ghost use Rattle.std.specs.Str.Parse.{AllDigits, digits_value};
 ghost use Rattle.hex.specs.Hex.{encode_lower, hex_digit_value};
 ghost use Rattle.ext_text.specs.Name.{is_plain_byte};
-ghost use Rattle.ext_tree.specs.TreeText.{IsDigest, IsTarget, mode_text};
+ghost use Rattle.ext_lines.specs.Hexadecimal.{Are32Bytes};
+ghost use Rattle.ext_tree.specs.Fields.{IsStamp, IsTarget, mode_text, spaced, stamp_fields};
 ghost use Rattle.ext_tree.specs.declared.stamp.Stamp.{Stamp};
 
 use crate::stamp::Stamp;
-use ext_text::{Digest, Mode, split_at_byte};
+use ext_text::{Digest, Mode, OutOfMemory, split_at_byte};
+use itoa::Buffer;
 use std::str;
 
 /// The highest mode.
@@ -24,7 +27,7 @@ const MOST_TARGET: usize = 4096;
 fn value_of(digits: &[u8], base: u32, most: u64) -> Option<u64>
     requires low { 2 ≤ base }
     requires high { base ≤ 10 }
-    requires most { most ≤ 1073741824 }
+    requires most { most ≤ 4294967295 }
     ensures { MatchOption result
         (AllDigits base digits.now → digits_value base digits.now ≤ most → ⊥)
         (λ n. (n ≡ digits_value base digits.now) × AllDigits base digits.now × (n ≤ most)) }
@@ -40,7 +43,7 @@ fn value_of(digits: &[u8], base: u32, most: u64) -> Option<u64>
     Some(value)
 }
 
-// Whether a numeral has no zero in front: it is `0`, or begins with another digit.
+// Whether a numeral has no leading zero: it is `0`, or begins with another digit.
 fn is_short(digits: &[u8]) -> bool
     ensures { IsTrue result ↔ ((0 < length digits.now) × (slice_index digits.now 0 ≡ 48 → length digits.now ≡ 1)) }
 {
@@ -66,7 +69,7 @@ fn mode_of(field: &[u8]) -> Option<Mode>
 
 // The number that a field writes in decimal digits.
 fn number_of(field: &[u8], most: u64) -> Option<u64>
-    requires { most ≤ 1073741824 }
+    requires { most ≤ 4294967295 }
     ensures { MatchOption result
         ((n : ℕ) → n ≤ most → field.now ≢ decimal n)
         (λ n. (n ≤ most) × (field.now ≡ decimal n)) }
@@ -90,8 +93,8 @@ fn digit_of(byte: u8) -> u8
 // The bytes whose lower-case digits these are. What it gives for other texts does not count.
 fn bytes_of(digits: &[u8]) -> [u8; 32]
     requires { length digits.now ≡ 64 }
-    ensures digest { IsDigest result }
-    ensures read { (ds : List ℕ) → IsDigest ds → digits.now ≡ encode_lower ds → result ≡ ds }
+    ensures digest { Are32Bytes result }
+    ensures read { (ds : List ℕ) → Are32Bytes ds → digits.now ≡ encode_lower ds → result ≡ ds }
 {
     let mut bytes = [0; 32];
     'bytes: for at in 0..32 {
@@ -103,8 +106,8 @@ fn bytes_of(digits: &[u8]) -> [u8; 32]
 // The digest that a field writes. Only lower-case digits print back the same.
 fn digest_of(field: &[u8]) -> Option<Digest>
     ensures { MatchOption result
-        ((ds : List ℕ) → IsDigest ds → field.now ≢ encode_lower ds)
-        (λ d. IsDigest d.0 × (field.now ≡ encode_lower d.0)) }
+        ((ds : List ℕ) → Are32Bytes ds → field.now ≢ encode_lower ds)
+        (λ d. Are32Bytes d.0 × (field.now ≡ encode_lower d.0)) }
 {
     if field.len() != 64 {
         return None;
@@ -124,8 +127,9 @@ fn prints_as(digest: &Digest, field: &[u8]) -> bool
     field == digest.digits().as_slice()
 }
 
-// A mode, one space, and what follows.
-pub fn cut_mode(text: &[u8]) -> Option<(Mode, &[u8])>
+/// The mode in octal digits that a text begins with, before a space, and what follows the space; `None` exactly where it
+/// begins with no mode.
+pub fn split_mode(text: &[u8]) -> Option<(Mode, &[u8])>
     ensures { MatchOption result
         ((m : ℕ) (rest : List ℕ) → m ≤ 4095 → text.now ≢ mode_text m ++ 32 ∷ rest)
         (λ r. (r.0 ≤ 4095) × (text.now ≡ mode_text r.0 ++ 32 ∷ r.1.now)) }
@@ -134,9 +138,10 @@ pub fn cut_mode(text: &[u8]) -> Option<(Mode, &[u8])>
     Some((mode_of(field)?, rest))
 }
 
-// A number of at most so much, one space, and what follows.
-fn cut_number(text: &[u8], most: u64) -> Option<(u64, &[u8])>
-    requires { most ≤ 1073741824 }
+/// The number of at most `most`, in decimal digits, that a text begins with, before a space, and what follows the space;
+/// `None` exactly where it begins with no such number.
+pub fn split_number(text: &[u8], most: u64) -> Option<(u64, &[u8])>
+    requires { most ≤ 4294967295 }
     ensures { MatchOption result
         ((n : ℕ) (rest : List ℕ) → n ≤ most → text.now ≢ decimal n ++ 32 ∷ rest)
         (λ r. (r.0 ≤ most) × (text.now ≡ decimal r.0 ++ 32 ∷ r.1.now)) }
@@ -145,31 +150,31 @@ fn cut_number(text: &[u8], most: u64) -> Option<(u64, &[u8])>
     Some((number_of(field, most)?, rest))
 }
 
-// A digest, one space, and what follows.
-fn cut_digest(text: &[u8]) -> Option<(Digest, &[u8])>
+/// The digest in lower-case hexadecimal digits that a text begins with, before a space, and what follows the space;
+/// `None` exactly where it begins with no digest.
+pub fn split_digest(text: &[u8]) -> Option<(Digest, &[u8])>
     ensures { MatchOption result
-        ((ds : List ℕ) (rest : List ℕ) → IsDigest ds → text.now ≢ encode_lower ds ++ 32 ∷ rest)
-        (λ r. IsDigest r.0.0 × (text.now ≡ encode_lower r.0.0 ++ 32 ∷ r.1.now)) }
+        ((ds : List ℕ) (rest : List ℕ) → Are32Bytes ds → text.now ≢ encode_lower ds ++ 32 ∷ rest)
+        (λ r. Are32Bytes r.0.0 × (text.now ≡ encode_lower r.0.0 ++ 32 ∷ r.1.now)) }
 {
     let (field, rest) = split_at_byte(text, b' ')?;
     Some((digest_of(field)?, rest))
 }
 
-// A size, a digest, each with one space behind it, and what follows.
-pub fn cut_stamp(text: &[u8]) -> Option<(Stamp, &[u8])>
+/// The stamp whose fields a text begins with, and what follows them; `None` exactly where it begins with those of no
+/// stamp that a line holds.
+pub fn split_stamp(text: &[u8]) -> Option<(Stamp, &[u8])>
     ensures { MatchOption result
-        ((s : Stamp) (rest : List ℕ) → s.size ≤ 1073741824 → IsDigest s.digest.0
-        → text.now ≢ decimal s.size ++ 32 ∷ (encode_lower s.digest.0 ++ 32 ∷ rest))
-        (λ r. (r.0.size ≤ 1073741824) × IsDigest r.0.digest.0
-        × (text.now ≡ decimal r.0.size ++ 32 ∷ (encode_lower r.0.digest.0 ++ 32 ∷ r.1.now))) }
+        ((s : Stamp) (rest : List ℕ) → IsStamp s → text.now ≢ spaced (stamp_fields s) rest)
+        (λ r. IsStamp r.0 × (text.now ≡ spaced (stamp_fields r.0) r.1.now)) }
 {
-    let (size, rest) = cut_number(text, MOST_SIZE)?;
-    let (digest, rest) = cut_digest(rest)?;
+    let (size, rest) = split_number(text, MOST_SIZE)?;
+    let (digest, rest) = split_digest(rest)?;
     Some((Stamp { size, digest }, rest))
 }
 
 // So many bytes, one space, and what follows.
-fn cut_bytes(text: &[u8], count: usize) -> Option<(&[u8], &[u8])>
+fn split_bytes(text: &[u8], count: usize) -> Option<(&[u8], &[u8])>
     ensures { MatchOption result
         ((field : List ℕ) (rest : List ℕ) → length field ≡ count → text.now ≢ field ++ 32 ∷ rest)
         (λ r. (length r.0.now ≡ count) × (text.now ≡ r.0.now ++ 32 ∷ r.1.now)) }
@@ -201,17 +206,94 @@ fn is_target(bytes: &[u8]) -> bool
         && str::from_utf8(bytes).is_ok()
 }
 
-// The length of a target, the target, each with one space behind it, and what follows.
-pub fn cut_target(text: &[u8]) -> Option<(&[u8], &[u8])>
+// The length of a target, the target, a space after each, and what follows.
+pub(crate) fn split_target(text: &[u8]) -> Option<(&[u8], &[u8])>
     ensures { MatchOption result
         ((t : List ℕ) (rest : List ℕ) → IsTarget t → text.now ≢ decimal (length t) ++ 32 ∷ (t ++ 32 ∷ rest))
         (λ r. IsTarget r.0.now × (text.now ≡ decimal (length r.0.now) ++ 32 ∷ (r.0.now ++ 32 ∷ r.1.now))) }
 {
-    let (count, rest) = cut_number(text, MOST_TARGET as u64)?;
-    let (target, rest) = cut_bytes(rest, count as usize)?;
+    let (count, rest) = split_number(text, MOST_TARGET as u64)?;
+    let (target, rest) = split_bytes(rest, count as usize)?;
     if is_target(target) {
         Some((target, rest))
     } else {
         None
     }
+}
+
+/// Adds a mode to a text, in octal digits, and a space.
+///
+/// # Errors
+/// Out of memory alone.
+pub fn append_mode(text: &mut Vec<u8>, mode: Mode) -> Result<(), OutOfMemory>
+    ensures { OnOk result (text.new.items ≡ text.old.items ++ (mode_text mode ++ 32 ∷ [])) }
+{
+    append_octal(text, mode.bits())?;
+    text.push(b' ')?;
+    Ok(())
+}
+
+/// Adds a number to a text, in decimal digits, and a space.
+///
+/// # Errors
+/// Out of memory alone.
+pub fn append_number(text: &mut Vec<u8>, number: u64) -> Result<(), OutOfMemory>
+    ensures { OnOk result (text.new.items ≡ text.old.items ++ (decimal number ++ 32 ∷ [])) }
+{
+    append_decimal(text, number)?;
+    text.push(b' ')?;
+    Ok(())
+}
+
+/// Adds a digest to a text, in lower-case hexadecimal digits, and a space.
+///
+/// # Errors
+/// Out of memory alone.
+pub fn append_digest(text: &mut Vec<u8>, digest: &Digest) -> Result<(), OutOfMemory>
+    ensures { OnOk result (text.new.items ≡ text.old.items ++ (encode_lower digest.now.0 ++ 32 ∷ [])) }
+{
+    text.extend_from_slice(&digest.digits())?;
+    text.push(b' ')?;
+    Ok(())
+}
+
+/// Adds the fields of a stamp to a text, a space after each.
+///
+/// # Errors
+/// Out of memory alone.
+pub fn append_stamp(text: &mut Vec<u8>, stamp: &Stamp) -> Result<(), OutOfMemory>
+    ensures { OnOk result (text.new.items ≡ text.old.items ++ spaced (stamp_fields stamp.now) []) }
+{
+    append_number(text, stamp.size)?;
+    append_digest(text, &stamp.digest)
+}
+
+// Adds the length of a target and the target, a space after each.
+pub(crate) fn append_target(text: &mut Vec<u8>, target: &[u8]) -> Result<(), OutOfMemory>
+    ensures { OnOk result (text.new.items ≡ text.old.items ++ spaced (decimal (length target.now) ∷ target.now ∷ []) []) }
+{
+    append_number(text, target.len() as u64)?;
+    text.extend_from_slice(target)?;
+    text.push(b' ')?;
+    Ok(())
+}
+
+// Adds the octal digits of a number.
+fn append_octal(text: &mut Vec<u8>, number: u16) -> Result<(), OutOfMemory>
+    ensures { OnOk result (text.new.items ≡ text.old.items ++ digits 8 false number) }
+{
+    if number >= 8 {
+        append_octal(text, number / 8)?;
+    }
+    text.push(b'0' + (number % 8) as u8)?;
+    Ok(())
+}
+
+// Adds the decimal digits of a number.
+fn append_decimal(text: &mut Vec<u8>, number: u64) -> Result<(), OutOfMemory>
+    ensures { OnOk result (text.new.items ≡ text.old.items ++ decimal number) }
+{
+    let mut buffer = Buffer::new();
+    text.extend_from_slice(buffer.format(number).as_bytes())?;
+    Ok(())
 }

@@ -5,7 +5,7 @@ ghost use Rattle.std.specs.Ordering.{is_lt};
 ghost use Rattle.ext_text.specs.Name.{bytes_cmp};
 ghost use Rattle.ext_text.specs.Path.{is_prefix};
 ghost use Rattle.ext_tree.specs.Tree.{IsTree, is_directory};
-ghost use Rattle.ext_tree.specs.Reading.{stands_after};
+ghost use Rattle.ext_tree.specs.Following.{stands_after};
 ghost use Rattle.ext_tree.specs.declared.entry.Entry.{Entry};
 
 use crate::entry::Entry;

@@ -2,7 +2,7 @@
 //! every text, whoever made it.
 ghost use Rattle.ext_tree.specs.Laws.{EntriesHavePrefixes, DirectoriesHavePrefixes};
 ghost use Rattle.ext_tree.specs.FirstFault.{IsOne, AtLeastOne};
-ghost use Rattle.ext_tree.specs.TextLaws.{OneTreeOfText, OneTextOfTree, NoPrefixOfText, OneListOfSequence, NoFaultInText, NoFaultInSequence, PrefixesBegin, OneFirstFault};
+ghost use Rattle.ext_tree.specs.TextLaws.{OneTreeOfText, OneTextOfTree, NoPrefixOfText, OneListOfSequence, FaultOfNoSequence, FaultOfNoText, NoFaultInSequence, NoFaultInText, OneFirstFault, PrefixesBegin};
 
 /// In every tree each non-empty proper prefix of an entry's path is a directory. And the parent of a path below the root
 /// is a directory or the root exactly where each such prefix of that path is a directory: so an insert answers
@@ -32,15 +32,18 @@ pub fn one_list_of_sequence()
     ensures { OneListOfSequence }
 {}
 
-/// A tree text has no first faulty line, and no bytes have two.
+/// A tree text has no first faulty line, and bytes that are none have exactly one.
 pub fn first_fault_of_text()
     ensures none { NoFaultInText }
+    ensures some { FaultOfNoText }
     ensures one { OneFirstFault IsOne }
 {}
 
-/// A sequence of texts has no first faulty line: with each prefix of its lines a sequence begins. And no bytes have two.
+/// A sequence of texts has no first faulty line, since with each prefix of its lines a sequence begins; bytes that are
+/// none have exactly one.
 pub fn first_fault_of_sequence()
     ensures none { NoFaultInSequence }
     ensures begins { PrefixesBegin }
+    ensures some { FaultOfNoSequence }
     ensures one { OneFirstFault AtLeastOne }
 {}

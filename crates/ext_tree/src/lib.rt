@@ -6,10 +6,10 @@
 #![tactic(auto)]
 
 mod entry;
+mod entry_line;
 mod fields;
 mod following;
 pub mod laws;
-mod lines;
 mod insertion_point;
 mod reading;
 mod stamp;
@@ -19,6 +19,9 @@ mod tree;
 mod writing;
 
 pub use entry::{Entry, Held1};
+pub use entry_line::{LineContent, append_fields, append_line, entry_of_line, fields_of, path_of};
+pub use fields::{append_digest, append_mode, append_number, append_stamp, split_digest, split_mode, split_number, split_stamp};
+pub use following::may_follow;
 pub use reading::{TreeTextErr, read_tree, read_trees};
 pub use stamp::Stamp;
 pub use tree::{MOST_ENTRIES, Tree, TreeErr};

@@ -4,13 +4,13 @@ ghost use Rattle.std.specs.Prelude.{◌≡◌, ◌+◌, ◌<◌, ◌≤◌, ◌^
 ghost use Rattle.ext_tree.specs.declared.entry.Entry.{Entry};
 ghost use Rattle.ext_tree.specs.declared.stamp.Stamp.{Stamp};
 ghost use Rattle.ext_tree.specs.FirstFault.{ReadsTree, ReadsSequence};
-ghost use Rattle.ext_tree.specs.TreeText.{HasLine, HasText};
+ghost use Rattle.ext_tree.specs.TreeText.{HasTreeLine, HasText};
 ghost use Rattle.ext_tree.specs.Reading.{Judges, BeginsBody, BodyFault, BeginsText, TextFault};
 
 use crate::Trees;
 use crate::entry::Entry;
 use crate::following::may_follow;
-use crate::lines::entry_of_line;
+use crate::entry_line::entry_of_line;
 use crate::stamp::Stamp;
 use crate::tree::{MOST_ENTRIES, Tree};
 use ext_text::{ListOf, OutOfMemory, Path, split_at_byte};
@@ -191,7 +191,7 @@ fn judge(alloc: Global, entries: &[(Path, Entry<Stamp>)], line: &[u8]) -> Result
 // Whether the entries with one more at this path still have a text.
 fn may_add(entries: &[(Path, Entry<Stamp>)], path: &Path) -> bool
     requires { HasText entries.now }
-    ensures { (e : Entry Stamp) → HasLine (path.now, e) → (IsTrue result ↔ HasText (entries.now ++ (path.now, e) ∷ [])) }
+    ensures { (e : Entry Stamp) → HasTreeLine (path.now, e) → (IsTrue result ↔ HasText (entries.now ++ (path.now, e) ∷ [])) }
 {
     entries.len() < MOST_ENTRIES && may_follow(entries, path)
 }

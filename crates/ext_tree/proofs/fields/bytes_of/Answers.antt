@@ -2,7 +2,7 @@ use Rattle.std.specs.Prelude.{replicate}
 use Rattle.std.proofs.Common.{◌<◌, ◌+◌, ◌*◌, ℕ, length, refl, sym, ◌∙◌, arith}
 use Rattle.std.proofs.Math.ListN.{length-set}
 use Rattle.std.proofs.lemmas.List.{ext_get_or}
-use Rattle.ext_tree.proofs.LineFields.{each_byte}
+use Rattle.ext_tree.proofs.FieldsLemmas.{each_byte}
 use Rattle.ext_tree.proofs.DigestDigits.{digits_give, set_below, set_reads, zeros_below}
 use Rattle.ext_tree.proofs.fields.bytes_of.Goals as goal
 

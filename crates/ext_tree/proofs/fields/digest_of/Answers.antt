@@ -1,7 +1,7 @@
 use Rattle.std.proofs.Common.{length, refl, sym, ap, ◌∙◌}
 use Rattle.std.proofs.lemmas.Bool.{false≢true}
 use Rattle.hex.specs.Hex.{encode_lower}
-use Rattle.ext_tree.proofs.LineFields.{digest_digits}
+use Rattle.ext_tree.proofs.FieldsLemmas.{digest_digits}
 use Rattle.ext_tree.proofs.fields.digest_of.Goals as goal
 
 pub returns-then-field-ne64 : goal.returns-then-field-ne64

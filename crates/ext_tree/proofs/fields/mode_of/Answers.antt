@@ -1,6 +1,6 @@
 use Rattle.std.proofs.Common.{refl, sym, ap, ◌∙◌, subst, arith}
 use Rattle.std.proofs.lemmas.Bool.{false≢true}
-use Rattle.ext_tree.specs.TreeText.{mode_text}
+use Rattle.ext_tree.specs.Fields.{mode_text}
 use Rattle.ext_tree.proofs.LineNumbers.{IsShort, mode_read, mode_text_short, no_mode}
 use Rattle.ext_tree.proofs.OctalText.{mode_text-digits_value}
 use Rattle.ext_tree.proofs.fields.mode_of.Goals as goal

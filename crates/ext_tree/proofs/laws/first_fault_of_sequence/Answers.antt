@@ -1,5 +1,6 @@
 use Rattle.ext_tree.specs.FirstFault.{AtLeastOne}
 use Rattle.ext_tree.proofs.OneFault.{no_fault_in_sequence, prefixes_begin, one_first_fault}
+use Rattle.ext_tree.proofs.SomeFault.{fault_of_no_sequence}
 use Rattle.ext_tree.proofs.laws.first_fault_of_sequence.Goals as goal
 
 pub returns-clause-none : goal.returns-clause-none
@@ -10,3 +11,6 @@ returns-clause-begins c = prefixes_begin
 
 pub returns-clause-one : goal.returns-clause-one
 returns-clause-one c = one_first_fault AtLeastOne
+
+pub returns-clause-some : goal.returns-clause-some
+returns-clause-some c = fault_of_no_sequence

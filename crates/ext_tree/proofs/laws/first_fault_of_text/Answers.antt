@@ -1,5 +1,6 @@
 use Rattle.ext_tree.specs.FirstFault.{IsOne}
 use Rattle.ext_tree.proofs.OneFault.{no_fault_in_text, one_first_fault}
+use Rattle.ext_tree.proofs.SomeFault.{fault_of_no_text}
 use Rattle.ext_tree.proofs.laws.first_fault_of_text.Goals as goal
 
 pub returns-clause-none : goal.returns-clause-none
@@ -7,3 +8,6 @@ returns-clause-none c = no_fault_in_text
 
 pub returns-clause-one : goal.returns-clause-one
 returns-clause-one c = one_first_fault IsOne
+
+pub returns-clause-some : goal.returns-clause-some
+returns-clause-some c = fault_of_no_text
