@@ -6,7 +6,7 @@ use Rattle.std.proofs.lemmas.List.{map-append, take-map, drop-map, drop-drop, dr
 use Rattle.std.specs.FinMap.{is_sorted}
 use Rattle.std.specs.FinMap.Entries.{below_all}
 use Rattle.ext_text.specs.Path.{path_cmp}
-use Rattle.ext_text.proofs.Facts.{true_from_T}
+use Rattle.ext_text.proofs.ForCallers.{true_from_T}
 use Rattle.ext_tree.specs.InsertionPoint.{insertion_point, is_past}
 use Rattle.ext_layer.specs.declared.item.Item.{Item}
 use Rattle.ext_layer.specs.Overlay.{MarkedEntries, over, count_hidden}

@@ -11,8 +11,8 @@ use Rattle.std.specs.FinMap.{find, put, is_sorted}
 use Rattle.std.specs.FinMap.Entries.{below_all, where_key, by_order}
 use Rattle.ext_text.specs.Path.{path_cmp, is_prefix}
 use Rattle.ext_text.specs.Order.{paths_exact, paths_total}
-use Rattle.ext_text.proofs.Facts.{true_from_T, is_less, is_greater}
-use Rattle.ext_text.proofs.PathPrefixes.{same_path, tied_path, prefix_self, prefix_order, convex}
+use Rattle.ext_text.proofs.ForCallers.{true_from_T, is_less, is_greater}
+use Rattle.ext_text.proofs.ForCallers.{same_path, tied_path, prefix_self, prefix_order, convex}
 use Rattle.ext_tree.specs.InsertionPoint.{insertion_point, is_past}
 use Rattle.ext_tree.proofs.InsertionPointLemmas.{below_at}
 use Rattle.ext_layer.specs.Overlay.{Marked, MarkedEntries, cuts_at, hides, over_entry, first_at, lay, over, count_hidden}
