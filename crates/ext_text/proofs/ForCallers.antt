@@ -32,3 +32,5 @@ pub use Rattle.ext_text.proofs.PrefixLemmas.{prefix_short, prefix_whole, prefix_
 pub use Rattle.ext_text.proofs.PrefixLemmas.{prefix_less, prefix_order, convex}
 -- the parent: its length, that it is a prefix, that it comes before, that only the root is its own
 pub use Rattle.ext_text.proofs.PrefixLemmas.{length-parent, parent_prefix, parent_less, parent_other}
+-- what std says of `starts_with` at two lists of names is `is_prefix`
+pub use Rattle.ext_text.proofs.PrefixLemmas.{is_prefix-starts_with}

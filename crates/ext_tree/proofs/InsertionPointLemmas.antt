@@ -1,5 +1,5 @@
--- The place of a key in entries whose keys rise: what a search by halves finds, where a look-up reads and where an entry
--- goes in.
+-- The insertion point of a key in entries whose keys rise: what a search by halves finds, where a look-up reads and where
+-- an entry goes in.
 use Rattle.std.proofs.Common.{◌≡◌, ℕ, suc, zero, ◌-◌, ◌<◌, ◌≤◌, true, false, cond, List, [], ◌∷◌, length, get_or, Option, Some, None, is_some, refl, sym, ap, ◌∙◌, subst, arith}
 use Rattle.std.specs.Prelude.{IsTrue, slice_get}
 use Rattle.std.specs.List.{AllWithin, insert}
@@ -12,7 +12,7 @@ use Rattle.std.specs.FinMap.{find, put, is_sorted}
 use Rattle.std.specs.FinMap.Entries.{below_all, by_order}
 use Rattle.std.proofs.lemmas.Bool.{and_parts, true≢false, false≢true}
 use Rattle.std.proofs.lemmas.Option.{get_or_from_slice_get, slice_get_within}
-use Rattle.ext_text.proofs.Facts.{is_less, is_greater}
+use Rattle.ext_text.proofs.ForCallers.{is_less, is_greater}
 use Rattle.ext_tree.specs.InsertionPoint.{is_past, insertion_point}
 
 -- what a look-up of a key finds at an entry
@@ -31,7 +31,7 @@ module _ {K X : Type 0} (R : K → K → Ordering) where
   below_at x (e ∷ es) zero d h lt = is_less _ (and_parts _ _ h).0
   below_at x (e ∷ es) (suc j) d h lt = below_at x es j d (and_parts _ _ h).1 (omega arith)
 
-  -- a place is found once all before it is passed and nothing behind it is
+  -- an insertion point is found once all before it is passed and nothing from it on is
   pub is_insertion_point : (k : K) (es : List (K × X)) (i : ℕ) → i ≤ length es → IsPartitionPoint (λ e. is_past R k e ≡ true) (λ e. is_past R k e ≡ false) es i → i ≡ insertion_point R k es
   is_insertion_point k [] i h at = omega arith
   is_insertion_point k (e ∷ es) zero h at = ap (λ b. cond b (suc (insertion_point R k es)) 0) (sym (at.1 zero e (omega arith) (omega arith)))
@@ -54,7 +54,7 @@ module _ {K X : Type 0} (R : K → K → Ordering) where
     unfound k x (e ∷ es) h below =
         ap (λ r. cond (is_eq r) (Some e.1) (find R k es)) (o.trans k x e.0 h (is_less _ (and_parts _ _ below).0)) ∙ unfound k x es h (and_parts _ _ below).1
 
-    -- a look-up reads at the place alone
+    -- a look-up reads at the insertion point alone
     pub find_here : (k : K) (es : List (K × X)) → IsTrue (is_sorted R es) → find R k es ≡ found_at R k (slice_get es (insertion_point R k es))
     find_here k [] h = refl
     find_here k (e ∷ es) h =
@@ -65,7 +65,7 @@ module _ {K X : Type 0} (R : K → K → Ordering) where
           | Greater ↦ λ p. rest
         ] refl
 
-    -- the entry goes in at its place
+    -- the entry goes in at its insertion point
     pub insert_here : (k : K) (v : X) (es : List (K × X)) → find R k es ≡ None → insert es (insertion_point R k es) (k, v) ≡ put R k v es
     insert_here k v [] none = refl
     insert_here k v (e ∷ es) none =
@@ -84,14 +84,14 @@ module _ {K X : Type 0} (R : K → K → Ordering) where
         let above = subst (λ x. R f.0 x.0 ≡ Less) (get_or_from_slice_get es i e f at) (below_at f.0 es i f (and_parts _ _ h).0 (slice_get_within es i e at)) in
         ap (λ r. cond (is_eq r) (Some f.1) (find R e.0 es)) (o.antisymm e.0 f.0 ∙ ap ordering_reverse above) ∙ find_there es i e (and_parts _ _ h).1 at
 
-    -- what is past the last entry has its place behind all
+    -- what is past the last entry has its insertion point after all
     pub past_last : (k : K) (es : List (K × X)) (e : K × X) → IsTrue (is_sorted R es) → slice_get es (length es - 1) ≡ Some e → is_past R k e ≡ true → insertion_point R k es ≡ length es
     past_last k es e h at past =
         let within = slice_get_within es (length es - 1) e at in
         let passed : AllWithin (λ x. is_past R k x ≡ true) es 0 (length es) = λ i d low high. partitioned k es h i (length es - 1) d (omega arith) within (subst (λ x. is_past R k x ≡ true) (sym (get_or_from_slice_get es (length es - 1) e d at)) past) in
         sym (is_insertion_point k es (length es) (omega arith) (passed, λ i d low high. absurd (omega arith)))
 
-    -- what a look-up gives, by what stands at the place
+    -- what a look-up gives, by what stands at the insertion point
     pub hit : (k : K) (es : List (K × X)) (i : ℕ) (e : K × X) → IsTrue (is_sorted R es) → i ≡ insertion_point R k es → slice_get es i ≡ Some e → eq_by_cmp R k e.0 ≡ true → Some e.1 ≡ find R k es
     hit k es i e h is at same = sym (find_here k es h ∙ ap (λ n. found_at R k (slice_get es n)) (sym is) ∙ ap (found_at R k) at ∙ ap (λ b. cond b (Some e.1) None) same)
 

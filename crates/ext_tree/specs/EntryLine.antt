@@ -10,9 +10,10 @@
 use Rattle.std.specs.Prelude.{◌≡◌, ◌≢◌, ℕ, ◌<◌, ◌≤◌, List, [], ◌∷◌, length, codes, decimal, Option, Some, None}
 use Rattle.std.specs.Borrow.{Bor}
 use Rattle.std.specs.List.{AllByRecursion}
-use Rattle.ext_text.specs.Cut.{Lacks}
+use Rattle.ext_lines.specs.Split.{Lacks}
 use Rattle.ext_text.specs.Path.{IsPath, path_text}
-use Rattle.ext_tree.specs.Fields.{IsTarget, mode_text, spaced}
+use Rattle.ext_tree.specs.Fields.{IsTarget, spaced}
+use Rattle.ext_lines.specs.Numbers.{octal}
 use Rattle.ext_tree.specs.declared.entry.Entry.{Entry}
 use Rattle.ext_tree.specs.declared.entry.Entry.TheVariants.{Dir, File, Link}
 
@@ -23,8 +24,8 @@ pub record LineForm (C : Type 0) : Type 1 where
 
 -- an entry's fields
 abbrev pub entry_fields : {C : Type 0} → LineForm C → Entry C → List (List ℕ)
-entry_fields form (Dir mode) = codes "d" ∷ mode_text mode ∷ []
-entry_fields form (File mode content) = codes "f" ∷ mode_text mode ∷ form.fields content
+entry_fields form (Dir mode) = codes "d" ∷ octal mode ∷ []
+entry_fields form (File mode content) = codes "f" ∷ octal mode ∷ form.fields content
 entry_fields form (Link target) = codes "l" ∷ decimal (length target) ∷ target ∷ []
 
 -- an entry's line, without its newline

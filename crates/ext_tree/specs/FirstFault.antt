@@ -2,17 +2,14 @@
 -- faulty where some text begins with the lines before it and none with that line too; a text that stops early is faulty
 -- at the line after its last whole line, also where that line has begun. Bytes that are such a text or sequence have no
 -- faulty line.
-use Rattle.std.specs.Prelude.{◌≡◌, ℕ, ◌+◌, ◌-◌, ◌<◌, ◌≤◌, ◌==◌, ◌⊎◌, List, ◌++◌, length, take, Result, Ok, Err}
-use Rattle.std.specs.List.{AllByRecursion, flat_map, slice_split}
+use Rattle.std.specs.Prelude.{◌≡◌, ℕ, ◌+◌, ◌-◌, ◌<◌, ◌≤◌, ◌⊎◌, List, ◌++◌, length, take, Result, Ok, Err}
+use Rattle.std.specs.List.{AllByRecursion, flat_map}
+use Rattle.ext_lines.specs.Lines.{whole_lines}
 use Rattle.ext_tree.specs.Tree.{Entries}
 use Rattle.ext_tree.specs.TreeText.{HasText, IsTreeText, IsSequence, tree_lines}
 use Rattle.ext_tree.specs.declared.stamp.Stamp.{Stamp}
 use Rattle.ext_tree.specs.declared.reading.TreeTextErr.{TreeTextErr}
 use Rattle.ext_tree.specs.declared.reading.TreeTextErr.TheVariants.{OutOfMemory, BadTree}
-
--- the lines of the bytes that a newline ends
-abbrev pub whole_lines : List ℕ → List (List ℕ)
-whole_lines bytes = let parts = slice_split (λ b. b == 10) bytes in take (length parts - 1) parts
 
 -- how many trees a reader wants: one, or one and more
 abbrev pub IsOne : List (Entries Stamp) → Type 0
@@ -50,13 +47,13 @@ pub record IsFirstFault (wanted : List (Entries Stamp) → Type 0) (bytes : List
   pub none : IsNoSequence wanted bytes
   pub stop : IsFaultyLine wanted (whole_lines bytes) line ⊎ IsEarlyEnd wanted (whole_lines bytes) line
 
--- what `read_tree` answers
+-- what `read_tree` gives
 abbrev pub ReadsTree : List ℕ → Result (Entries Stamp) TreeTextErr → Type 0
 ReadsTree bytes (Ok tree) = IsTreeText bytes tree
 ReadsTree bytes (Err OutOfMemory) = Unit {0}
 ReadsTree bytes (Err (BadTree line)) = IsFirstFault IsOne bytes line
 
--- what `read_trees` answers
+-- what `read_trees` gives
 abbrev pub ReadsSequence : List ℕ → Result (List (Entries Stamp)) TreeTextErr → Type 0
 ReadsSequence bytes (Ok trees) = IsSequence bytes trees
 ReadsSequence bytes (Err OutOfMemory) = Unit {0}

@@ -1,5 +1,4 @@
 pub mod Tree
-pub mod Laws
 pub mod Refusals
 pub mod InsertionPoint
 pub mod Following
@@ -9,4 +8,4 @@ pub mod TreeText
 pub mod StampLaws
 pub mod FirstFault
 pub mod Reading
-pub mod TextLaws
+pub mod Laws

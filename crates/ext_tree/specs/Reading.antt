@@ -1,8 +1,9 @@
 -- What the reader of tree texts decides from one line to the next, and where it stops.
 use Rattle.std.specs.Prelude.{◌≡◌, ℕ, ◌+◌, ◌⊎◌, List, [], ◌∷◌, ◌++◌, length, map, codes}
-use Rattle.ext_text.specs.Cut.{IsSplit}
+use Rattle.ext_lines.specs.Split.{IsSplit}
 use Rattle.ext_tree.specs.Tree.{Entries}
-use Rattle.ext_tree.specs.TreeText.{HasText, tree_line, tree_lines, lines_text, tree_text}
+use Rattle.ext_tree.specs.TreeText.{HasText, tree_line, tree_lines, tree_text}
+use Rattle.ext_lines.specs.Lines.{lines_text}
 use Rattle.ext_tree.specs.declared.entry.Entry.{Entry}
 use Rattle.ext_tree.specs.declared.stamp.Stamp.{Stamp}
 use Rattle.ext_tree.specs.declared.reading.TreeTextErr.{TreeTextErr}

@@ -17,7 +17,7 @@ insert_refusal es p =
     else if nat_le most_entries (length es) then Some Limit
     else None
 
--- the answer is the refusal, where there is one; where there is none, only an allocation may fail
+-- the result is the refusal, where there is one; where there is none, only an allocation may fail
 abbrev pub Refuses : {T : Type 0} → Result T TreeErr → Option TreeErr → Type 0
 Refuses (Ok done) refusal = refusal ≡ None
 Refuses (Err OutOfMemory) refusal = refusal ≡ None

@@ -9,6 +9,7 @@
 -- A file's line holds its stamp. The grammar is by printing: a text is what some tree is printed as.
 use Rattle.std.specs.Prelude.{◌≡◌, ℕ, ◌<◌, List, [], ◌∷◌, ◌++◌, length, map, codes}
 use Rattle.std.specs.List.{AllByRecursion, flat_map}
+use Rattle.ext_lines.specs.Lines.{lines_text}
 use Rattle.ext_tree.specs.Fields.{IsStamp, stamp_fields}
 use Rattle.ext_tree.specs.Tree.{Entries, IsTreeWithin}
 use Rattle.ext_tree.specs.EntryLine.{HasLine, IsWritable, LineForm, entry_line}
@@ -30,10 +31,6 @@ HasTreeLine x = HasLine stamp_form x
 -- the lines of a tree's text
 abbrev pub tree_lines : Entries Stamp → List (List ℕ)
 tree_lines es = codes "hostext-tree 1" ∷ map tree_line es ++ codes "end" ∷ []
-
--- lines with their newlines
-abbrev pub lines_text : List (List ℕ) → List ℕ
-lines_text lines = flat_map (λ line. line ++ 10 ∷ []) lines
 
 abbrev pub tree_text : Entries Stamp → List ℕ
 tree_text es = lines_text (tree_lines es)

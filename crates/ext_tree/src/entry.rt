@@ -1,7 +1,8 @@
 ghost use Rattle.std.specs.Prelude.{◌≡◌, IfOk};
 ghost use Rattle.ext_tree.specs.Tree.{is_directory, is_file};
 
-use ext_text::{Mode, OutOfMemory, Text};
+use ext_lines::OutOfMemory;
+use ext_text::{Mode, Text};
 use std::alloc::Global;
 
 /// What stands at a path.

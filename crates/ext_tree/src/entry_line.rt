@@ -6,7 +6,8 @@ ghost use Rattle.ext_tree.specs.EntryLine.{LineForm, FieldsOnce, FieldsLack, Rea
 
 use crate::entry::Entry;
 use crate::fields::{append_mode, append_target, split_mode, split_target};
-use ext_text::{OutOfMemory, Path, PathErr, Text};
+use ext_lines::OutOfMemory;
+use ext_text::{Path, PathErr, Text};
 use std::alloc::Global;
 
 #[cfg(test)]

@@ -1,4 +1,4 @@
-// Which path may stand behind the entries of a tree, by a look at the last of them alone.
+// Which path may follow the entries of a tree, by a look at the last of them alone.
 ghost use Rattle.std.specs.Prelude.{◌≡◌, [], ◌∷◌, ◌++◌, ◌↔◌, IsTrue, MatchOption, slice_get};
 ghost use Rattle.std.specs.Option.{option_copied};
 ghost use Rattle.std.specs.Ordering.{is_lt};
@@ -11,7 +11,7 @@ ghost use Rattle.ext_tree.specs.declared.entry.Entry.{Entry};
 use crate::entry::Entry;
 use ext_text::{Name, Path};
 
-// Whether the entries with one more at this path are a tree. What stands at the path does not count.
+/// Whether the entries with one more at this path are a tree, whatever stands there.
 pub fn may_follow<C>(entries: &[(Path, Entry<C>)], path: &Path) -> bool
     requires { IsTree entries.now }
     ensures { (e : Entry C) → (IsTrue result ↔ IsTree (entries.now ++ (path.now, e) ∷ [])) }
@@ -23,8 +23,8 @@ pub fn may_follow<C>(entries: &[(Path, Entry<C>)], path: &Path) -> bool
     }
 }
 
-// Whether the path may stand behind the last entry. The names of its folder are compared once, with the last path's:
-// behind them the last path has a smaller name, or nothing, and is then the folder itself.
+// Whether the path may follow the last entry. The names of its parent are compared once, with the last path's: after them
+// the last path has a smaller name, or nothing, and is then the parent itself.
 fn stands_after<C>(last: &(Path, Entry<C>), path: &Path) -> bool
     ensures { result ≡ stands_after last.now path.now }
 {
@@ -38,7 +38,7 @@ fn stands_after<C>(last: &(Path, Entry<C>), path: &Path) -> bool
     }
 }
 
-// Whether a name comes after the last entry, which has this name in the same folder or is the folder.
+// Whether a name comes after the last entry, which has this name in the same directory or is the directory.
 fn comes_after<C>(last_name: Option<&Name>, entry: &Entry<C>, name: &Name) -> bool
     ensures { MatchOption (option_copied last_name.entry) (result ≡ is_directory entry.now) (λ last. result ≡ is_lt (bytes_cmp last name.now)) }
 {

@@ -1,8 +1,7 @@
 //! Laws of trees and of their texts, each the contract of a function that does nothing: what holds of every tree and of
 //! every text, whoever made it.
-ghost use Rattle.ext_tree.specs.Laws.{EntriesHavePrefixes, DirectoriesHavePrefixes};
 ghost use Rattle.ext_tree.specs.FirstFault.{IsOne, AtLeastOne};
-ghost use Rattle.ext_tree.specs.TextLaws.{OneTreeOfText, OneTextOfTree, NoPrefixOfText, OneListOfSequence, FaultOfNoSequence, FaultOfNoText, NoFaultInSequence, NoFaultInText, OneFirstFault, PrefixesBegin};
+ghost use Rattle.ext_tree.specs.Laws.{DirectoriesHavePrefixes, EntriesHavePrefixes, FaultOfNoSequence, FaultOfNoText, NoFaultInSequence, NoFaultInText, NoPrefixOfText, OneFirstFault, OneListOfSequence, OneTextOfTree, OneTreeOfText, PrefixesBegin};
 
 /// In every tree each non-empty proper prefix of an entry's path is a directory. And the parent of a path below the root
 /// is a directory or the root exactly where each such prefix of that path is a directory: so an insert answers

@@ -1,7 +1,7 @@
 //! Trees of entries, and their text.
 //!
-//! A [`Tree`] is a finite map from paths to entries in which every proper front of a path is a directory. A tree text
-//! is read into its tree and a tree is printed as its one text; what is no text is refused at its first faulty line.
+//! A [`Tree`] is a finite map from paths to entries in which each non-empty proper prefix of a path is a directory. A tree text
+//! is read into its tree and a tree is printed as its one text; bytes that are no text are refused at their first faulty line.
 //! The crates that layer, search and change trees stand on this one.
 #![tactic(auto)]
 

@@ -3,7 +3,8 @@ ghost use Rattle.std.specs.Prelude.{◌≡◌};
 use crate::entry::Held1;
 use crate::entry_line::LineContent;
 use crate::fields::{append_stamp, split_stamp};
-use ext_text::{Digest, OutOfMemory};
+use ext_lines::OutOfMemory;
+use ext_text::Digest;
 use std::alloc::Global;
 
 /// What is known of a file's bytes: how many there are, and their SHA-256 digest.

@@ -9,7 +9,8 @@ ghost use Rattle.ext_tree.specs.Refusals.{Refuses, insert_refusal};
 
 use crate::entry::Entry;
 use crate::insertion_point::{entry_at, entry_of, is_directory_or_root, insertion_point_of};
-use ext_text::{OutOfMemory, Path};
+use ext_lines::OutOfMemory;
+use ext_text::Path;
 use std::alloc::Global;
 use std::marker::Model;
 use thiserror::Error;

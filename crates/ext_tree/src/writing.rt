@@ -5,7 +5,8 @@ use crate::entry::Entry;
 use crate::entry_line;
 use crate::stamp::Stamp;
 use crate::tree::Tree;
-use ext_text::{OutOfMemory, Path, Text};
+use ext_lines::OutOfMemory;
+use ext_text::{Path, Text};
 use std::alloc::Global;
 
 // The first line of a text.

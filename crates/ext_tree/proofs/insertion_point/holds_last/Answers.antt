@@ -1,6 +1,6 @@
 use Rattle.std.proofs.Common.{rules, sym, ◌-◌, length}
 use Rattle.std.proofs.lemmas.Bool.{OnTrue_from}
-use Rattle.ext_tree.proofs.Kept.{directory_of}
+use Rattle.ext_tree.proofs.TreeLemmas.{directory_of}
 use Rattle.ext_tree.proofs.insertion_point.holds_last.Goals as goal
 
 pub returns-in-Some : goal.returns-in-Some

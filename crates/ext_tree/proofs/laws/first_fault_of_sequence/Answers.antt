@@ -1,6 +1,6 @@
 use Rattle.ext_tree.specs.FirstFault.{AtLeastOne}
-use Rattle.ext_tree.proofs.OneFault.{no_fault_in_sequence, prefixes_begin, one_first_fault}
-use Rattle.ext_tree.proofs.SomeFault.{fault_of_no_sequence}
+use Rattle.ext_tree.proofs.OneFaultLemmas.{no_fault_in_sequence, prefixes_begin, one_first_fault}
+use Rattle.ext_tree.proofs.SomeFaultLemmas.{fault_of_no_sequence}
 use Rattle.ext_tree.proofs.laws.first_fault_of_sequence.Goals as goal
 
 pub returns-clause-none : goal.returns-clause-none

@@ -1,6 +1,6 @@
 use Rattle.ext_tree.specs.FirstFault.{IsOne}
-use Rattle.ext_tree.proofs.OneFault.{no_fault_in_text, one_first_fault}
-use Rattle.ext_tree.proofs.SomeFault.{fault_of_no_text}
+use Rattle.ext_tree.proofs.OneFaultLemmas.{no_fault_in_text, one_first_fault}
+use Rattle.ext_tree.proofs.SomeFaultLemmas.{fault_of_no_text}
 use Rattle.ext_tree.proofs.laws.first_fault_of_text.Goals as goal
 
 pub returns-clause-none : goal.returns-clause-none

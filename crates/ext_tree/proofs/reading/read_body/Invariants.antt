@@ -1,6 +1,7 @@
 use Rattle.std.proofs.Common.{◌≡◌, ◌+◌, ◌≤◌, ◌++◌, length}
 use Rattle.std.specs.Prelude.{map}
-use Rattle.ext_tree.specs.TreeText.{HasText, tree_line, lines_text}
+use Rattle.ext_tree.specs.TreeText.{HasText, tree_line}
+use Rattle.ext_lines.specs.Lines.{lines_text}
 use Rattle.ext_tree.proofs.reading.read_body.Given as goal
 
 -- the bytes are the lines of the entries so far, and the rest

@@ -1,5 +1,5 @@
 use Rattle.std.proofs.Common.{◌∙◌, arith}
-use Rattle.ext_tree.proofs.Printed.{all_printed_borrowed}
+use Rattle.ext_tree.proofs.WritingLemmas.{all_printed_borrowed}
 use Rattle.ext_tree.proofs.writing.write_entries_into.Goals as goal
 
 pub returns-clause-printed : goal.returns-clause-printed

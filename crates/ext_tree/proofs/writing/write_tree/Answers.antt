@@ -1,6 +1,6 @@
 use Rattle.std.proofs.Common.{ap, ◌∙◌, arith}
 use Rattle.ext_tree.specs.TreeText.{tree_text}
-use Rattle.ext_tree.proofs.Printed.{all_printed}
+use Rattle.ext_tree.proofs.WritingLemmas.{all_printed}
 use Rattle.ext_tree.proofs.writing.write_tree.Goals as goal
 
 pub returns-clause-printed : goal.returns-clause-printed

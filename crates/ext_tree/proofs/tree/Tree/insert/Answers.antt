@@ -2,7 +2,7 @@ use Rattle.std.proofs.Common.{sym, ap, ◌∙◌, subst}
 use Rattle.std.specs.FinMap.{put}
 use Rattle.ext_text.specs.Path.{path_cmp}
 use Rattle.ext_tree.specs.Tree.{IsTreeWithin}
-use Rattle.ext_tree.proofs.Kept.{put_at, tree_put_at}
+use Rattle.ext_tree.proofs.TreeLemmas.{put_at, tree_put_at}
 use Rattle.ext_tree.proofs.tree.Tree.insert.Goals as goal
 
 pub invariant_of-self-in-None : goal.invariant_of-self-in-None

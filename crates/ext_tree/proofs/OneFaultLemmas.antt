@@ -8,9 +8,10 @@ use Rattle.std.specs.List.{flat_map}
 use Rattle.ext_tree.specs.declared.stamp.Stamp.{Stamp}
 use Rattle.ext_tree.specs.Tree.{Entries}
 use Rattle.ext_tree.specs.TreeText.{IsSequence, IsTreeText, tree_lines, tree_text}
-use Rattle.ext_tree.specs.FirstFault.{Begins, IsFaultyLine, IsEarlyEnd, whole_lines}
-use Rattle.ext_tree.specs.TextLaws.{NoFaultInText, NoFaultInSequence, PrefixesBegin, OneFirstFault}
-use Rattle.ext_tree.proofs.Faults.{sequence_lines}
+use Rattle.ext_tree.specs.FirstFault.{Begins, IsFaultyLine, IsEarlyEnd}
+use Rattle.ext_lines.specs.Lines.{whole_lines}
+use Rattle.ext_tree.specs.Laws.{NoFaultInText, NoFaultInSequence, PrefixesBegin, OneFirstFault}
+use Rattle.ext_tree.proofs.FirstFaultLemmas.{sequence_lines}
 
 -- one text is a sequence
 pub one_text : (bytes : List ℕ) (tree : Entries Stamp) → IsTreeText bytes tree → IsSequence bytes (tree ∷ [])

@@ -1,9 +1,9 @@
--- The fronts of an entry's path: the folders of a tree have theirs.
+-- The prefixes of an entry's path are directories.
 use Rattle.std.proofs.Common.{◌≡◌, ℕ, suc, zero, ◌+◌, ◌-◌, ◌<◌, ◌≤◌, ◌≢◌, true, false, not, List, [], ◌∷◌, length, Option, Some, None, is_some, refl, sym, ap, ◌∙◌, subst, arith}
 use mathlib.Core.Logic.{inl, inr}
 use Rattle.std.proofs.lemmas.Bool.{true≢false, false≢true, cases_lt, and_parts, and_from, not-true}
 use Rattle.ext_text.specs.Path.{parent, is_prefix, is_proper_prefix}
-use Rattle.ext_text.proofs.PathPrefixes.{some_name, prefix_self, prefix_take, prefix_short, prefix_shorter, prefix_whole, length-parent, parent_prefix}
+use Rattle.ext_text.proofs.ForCallers.{some_name, prefix_self, prefix_take, prefix_short, prefix_shorter, prefix_whole, length-parent, parent_prefix}
 use Rattle.ext_tree.specs.declared.entry.Entry.{Entry}
 use Rattle.ext_tree.specs.Tree.{Entries, IsTree, lookup, is_directory_at, is_directory_or_root}
 use Rattle.ext_tree.specs.Refusals.{is_root}
@@ -17,7 +17,7 @@ pub some_dir : {C : Type 0} (o : Option (Entry C)) → is_directory_at o ≡ tru
 some_dir None is = absurd (false≢true is)
 some_dir (Some e) is = refl
 
--- a folder that is not the root is a directory
+-- what is a directory or the root, and not the root, is a directory
 pub directory_dir : {C : Type 0} (es : Entries C) (p : List (List ℕ)) → 0 < length p → is_directory_or_root es p ≡ true → is_directory_at (lookup es p) ≡ true
 directory_dir es [] some directory = absurd (omega arith)
 directory_dir es (n ∷ p) some directory = directory
@@ -33,8 +33,8 @@ directory_there : {C : Type 0} (es : Entries C) (p : List (List ℕ)) → (p ≢
 directory_there es [] dir = refl
 directory_there es (n ∷ p) dir = dir (λ is. true≢false (sym (ap is_root is)))
 
--- where the parent of a path is a folder, so is each shorter front of the path: the parent's parent is one, and so on
--- upwards
+-- where the parent of a path is a directory or the root, so is each shorter prefix of the path: the parent's parent is
+-- one, and so on upwards
 prefixes_within : {C : Type 0} (es : Entries C) → IsTree es → (most : ℕ) (r q : List (List ℕ)) → length q ≤ most → is_directory_or_root es (parent q) ≡ true → is_prefix r q ≡ true → length r < length q → is_directory_or_root es r ≡ true
 prefixes_within es tree zero r q small directory prefix short = absurd (omega arith)
 prefixes_within es tree (suc most) r q small directory prefix short =

@@ -1,4 +1,4 @@
--- Lists of entries in the order of their keys, cut in two: what is found in the whole, and that both parts are in order.
+-- Lists of entries in the order of their keys, split in two: what is found in the whole, and that both parts are in order.
 use Rattle.std.proofs.Common.{◌≡◌, Bool, true, false, cond, ◌&&◌, List, [], ◌∷◌, ◌++◌, Option, Some, None, is_some, refl, ap, ◌∙◌, T}
 use Rattle.std.proofs.lemmas.Bool.{false≢true}
 use Rattle.std.proofs.lemmas.Float.{T_from_true}
@@ -9,7 +9,7 @@ use Rattle.std.specs.Cmp.{IsTotalOrder, tied_itself}
 use Rattle.std.specs.List.{AllByRecursion}
 use Rattle.std.specs.FinMap.{find, is_sorted}
 use Rattle.std.specs.FinMap.Entries.{below_all}
-use Rattle.ext_text.proofs.Facts.{true_from_T, is_less, is_equal}
+use Rattle.ext_text.proofs.ForCallers.{true_from_T, is_less, is_equal}
 
 pub both_T : (a b : Bool) → T a → T b → T (a && b)
 both_T true b p q = q
@@ -53,12 +53,12 @@ module _ {K X : Type 0} (R : K → K → Ordering) where
   below_back x [] fs h = h
   below_back x (e ∷ es) fs h = below_back x es fs (second_T _ _ h)
 
-  -- a front of a list in order is in order
+  -- a prefix of a list in order is in order
   pub sorted_prefix : (es fs : List (K × X)) → T (is_sorted R (es ++ fs)) → T (is_sorted R es)
   sorted_prefix [] fs h = tt
   sorted_prefix (e ∷ es) fs h = both_T _ _ (below_prefix e.0 es fs (first_T _ _ h)) (sorted_prefix es fs (second_T _ _ h))
 
-  -- the keys of the front are below the key behind it
+  -- the keys of the prefix are below the key after it
   pub prefix_below : (es fs : List (K × X)) (k : K) (v : X) → T (is_sorted R (es ++ (k, v) ∷ fs)) → AllByRecursion (λ e. R e.0 k ≡ Less) es
   prefix_below [] fs k v h = tt
   prefix_below (e ∷ es) fs k v h = (

@@ -5,17 +5,17 @@ use mathlib.Core.Logic.{inl, inr}
 use Rattle.std.proofs.lemmas.List.{append-nil, append_cancel_left}
 use Rattle.std.proofs.lemmas.List.Sums.{AllPass-from_list_all}
 use Rattle.std.specs.List.{AllByRecursion, flat_map}
-use Rattle.ext_text.specs.Cut.{Lacks, IsSplit}
-use Rattle.ext_text.proofs.Cuts.{cut_or_lacks, lacks_nil}
-use Rattle.ext_text.proofs.Lists.{all_append}
+use Rattle.ext_lines.specs.Split.{Lacks, IsSplit}
+use Rattle.ext_lines.proofs.ForCallers.{split_or_lacks, lacks_nil, whole_lines-text, whole_lines-split, whole_lines-lacks, lines_text-append}
+use Rattle.ext_text.proofs.ForCallers.{all_append}
 use Rattle.ext_tree.specs.declared.stamp.Stamp.{Stamp}
 use Rattle.ext_tree.specs.Tree.{Entries}
-use Rattle.ext_tree.specs.TreeText.{HasTreeLine, HasText, tree_line, tree_lines, lines_text, tree_text}
-use Rattle.ext_tree.specs.FirstFault.{Begins, IsFirstFault, whole_lines}
+use Rattle.ext_tree.specs.TreeText.{HasTreeLine, HasText, tree_line, tree_lines, tree_text}
+use Rattle.ext_lines.specs.Lines.{lines_text, whole_lines}
+use Rattle.ext_tree.specs.FirstFault.{Begins, IsFirstFault}
 use Rattle.ext_tree.specs.Reading.{NoneNext}
-use Rattle.ext_tree.proofs.TreeLines.{line_lacks}
-use Rattle.ext_tree.proofs.TextPrefixes.{lines_of}
-use Rattle.ext_tree.proofs.WholeLines.{whole_lines-text, whole_lines-cut, whole_lines-lacks, lines_text-append}
+use Rattle.ext_tree.proofs.TreeLineLemmas.{line_lacks}
+use Rattle.ext_tree.proofs.TreeTextLemmas.{lines_of}
 
 -- ---- the lines of texts
 
@@ -86,11 +86,11 @@ early_end wanted bytes lines rest stuck lacks =
     }
 
 faulty_line : (wanted : List (Entries Stamp) → Type 0) (bytes : List ℕ) (lines : List (List ℕ)) (rest l more : List ℕ) → IsStuck wanted bytes lines rest → IsSplit 10 rest l more → IsFirstFault wanted bytes (length lines + 1)
-faulty_line wanted bytes lines rest l more stuck cut =
-    let after : lines ++ whole_lines rest ≡ lines ++ l ∷ whole_lines more = ap (λ xs. lines ++ xs) (whole_lines-cut rest l more cut) in
+faulty_line wanted bytes lines rest l more stuck split =
+    let after : lines ++ whole_lines rest ≡ lines ++ l ∷ whole_lines more = ap (λ xs. lines ++ xs) (whole_lines-split rest l more split) in
     let seen : whole_lines bytes ≡ lines ++ l ∷ whole_lines more = ap whole_lines stuck.text ∙ whole_lines-text lines rest stuck.lacks ∙ after in
     record {
-      none = λ trees as_many is. stuck.stop l more cut (record {
+      none = λ trees as_many is. stuck.stop l more split (record {
         trees = trees;
         more = whole_lines more;
         as_many = as_many;
@@ -101,13 +101,13 @@ faulty_line wanted bytes lines rest l more stuck cut =
         counted = omega arith;
         there = omega (arith, ap length seen, length-append lines (l ∷ whole_lines more));
         before = subst (Begins wanted) (sym (ap (take (length lines + 1 - 1)) seen ∙ take_lines lines l (whole_lines more) (length lines + 1 - 1) (omega arith))) stuck.before;
-        faulty = λ begins. stuck.stop l more cut (subst (Begins wanted) (ap (take (length lines + 1)) seen ∙ take_more lines l (whole_lines more) (length lines + 1) (omega arith)) begins);
+        faulty = λ begins. stuck.stop l more split (subst (Begins wanted) (ap (take (length lines + 1)) seen ∙ take_more lines l (whole_lines more) (length lines + 1) (omega arith)) begins);
       });
     }
 
 pub stuck_fault : (wanted : List (Entries Stamp) → Type 0) (bytes : List ℕ) (lines : List (List ℕ)) (rest : List ℕ) (line : ℕ) → IsStuck wanted bytes lines rest → line ≡ length lines + 1 → IsFirstFault wanted bytes line
 stuck_fault wanted bytes lines rest line stuck is =
-    subst (IsFirstFault wanted bytes) (sym is) (elim (cut_or_lacks 10 rest) [
+    subst (IsFirstFault wanted bytes) (sym is) (elim (split_or_lacks 10 rest) [
       | inl lacks ↦ early_end wanted bytes lines rest stuck lacks
-      | inr (l, more, cut) ↦ faulty_line wanted bytes lines rest l more stuck cut
+      | inr (l, more, split) ↦ faulty_line wanted bytes lines rest l more stuck split
     ])

@@ -1,6 +1,6 @@
 -- The lines of a tree's text.
 use Rattle.std.proofs.Common.{◌≡◌, ◌≢◌, ℕ, List, codes}
-use Rattle.ext_text.specs.Cut.{Lacks}
+use Rattle.ext_lines.specs.Split.{Lacks}
 use Rattle.ext_tree.specs.StampLaws.{stamps_lack, stamps_once}
 use Rattle.ext_tree.specs.TreeText.{HasTreeLine, stamp_form, tree_line}
 use Rattle.ext_tree.specs.declared.entry.Entry.{Entry}

@@ -11,18 +11,20 @@ use Rattle.std.specs.Ordering.{eq_by_cmp}
 use Rattle.std.specs.Str.{IsUtf8, is_utf8}
 use Rattle.hex.specs.Hex.{decode_of, encode_lower}
 use Rattle.hex.proofs.HexLemmas.{decode_of-same}
-use Rattle.ext_lines.specs.Hexadecimal.{Are32Bytes}
+use Rattle.ext_text.specs.Digest.{IsDigest}
 use Rattle.ext_lines.proofs.ForCallers.{hex_count, hex_reads}
-use Rattle.ext_text.specs.Name.{IsName, bytes_cmp, is_plain_byte, is_name_byte}
+use Rattle.ext_text.specs.Name.{IsName, bytes_cmp, is_name_byte}
+use Rattle.ext_lines.specs.Plain.{is_plain_byte}
 use Rattle.ext_text.specs.Path.{IsPath, path_parts, path_text}
-use Rattle.ext_text.proofs.PathPrefixes.{same_name, tied_name}
-use Rattle.ext_tree.specs.Fields.{IsTarget, mode_text, spaced}
+use Rattle.ext_text.proofs.ForCallers.{same_name, tied_name, parts_text}
+use Rattle.ext_tree.specs.Fields.{IsTarget, spaced}
+use Rattle.ext_lines.specs.Numbers.{octal}
 use Rattle.ext_tree.specs.EntryLine.{entry_fields}
 use Rattle.ext_tree.specs.TreeText.{HasTreeLine, stamp_form, tree_line}
 use Rattle.ext_tree.specs.declared.entry.Entry.{Entry}
 use Rattle.ext_tree.specs.declared.entry.Entry.TheVariants.{Dir, File, Link}
 use Rattle.ext_tree.specs.declared.stamp.Stamp.{Stamp}
-use Rattle.ext_tree.proofs.FieldsLemmas.{parts_text, spaced-append}
+use Rattle.ext_tree.proofs.FieldsLemmas.{spaced-append}
 
 abbrev pub Decided : Type 0 → Type 0
 Decided P = P ⊎ (P → ⊥)
@@ -111,8 +113,8 @@ rest_of (p ∷ prefix) (t ∷ text) = elim (cases_eq t p) [
 
 name : (bytes : List ℕ) → Decided (IsName bytes)
 name bytes = by_both_ways
-    (λ (p : (0 < length bytes) × ((length bytes ≤ 255) × ((bytes ≢ 46 ∷ []) × ((bytes ≢ 46 ∷ 46 ∷ []) × (AllPass is_name_byte bytes × IsUtf8 bytes))))). record { some = p.0; short = p.1.0; here = p.1.1.0; above = p.1.1.1.0; plain = p.1.1.1.1.0; text = p.1.1.1.1.1 })
-    (λ is. (is.some, (is.short, (is.here, (is.above, (is.plain, is.text))))))
+    (λ (p : (0 < length bytes) × ((length bytes ≤ 255) × ((bytes ≢ 46 ∷ []) × ((bytes ≢ 46 ∷ 46 ∷ []) × (AllPass is_name_byte bytes × IsUtf8 bytes))))). record { non_empty = p.0; at_most_255 = p.1.0; not_dot = p.1.1.0; not_dot_dot = p.1.1.1.0; plain = p.1.1.1.1.0; utf8 = p.1.1.1.1.1 })
+    (λ is. (is.non_empty, (is.at_most_255, (is.not_dot, (is.not_dot_dot, (is.plain, is.utf8))))))
     (both (less 0 (length bytes)) (both (no_more (length bytes) 255) (both (opposite (same_text bytes (46 ∷ []))) (both (opposite (same_text bytes (46 ∷ 46 ∷ []))) (both (all_pass is_name_byte bytes) (utf8 bytes))))))
 
 path : (names : List (List ℕ)) → Decided (IsPath names)
@@ -127,8 +129,8 @@ target bytes = by_both_ways
     (λ is. (is.non_empty, (is.at_most_4096, (is.plain, is.text))))
     (both (less 0 (length bytes)) (both (no_more (length bytes) 4096) (both (all_pass is_plain_byte bytes) (utf8 bytes))))
 
-bytes_32 : (bytes : List ℕ) → Decided (Are32Bytes bytes)
-bytes_32 bytes = by_both_ways
+digest : (bytes : List ℕ) → Decided (IsDigest bytes)
+digest bytes = by_both_ways
     (λ (p : (length bytes ≡ 32) × AllByRecursion (λ b. b < 256) bytes). record { count = p.0; each = p.1 })
     (λ is. (is.count, is.each))
     (both (cases_eq (length bytes) 32) (each (λ b. b < 256) (λ b. less b 256) bytes))
@@ -140,7 +142,7 @@ PathOf text p = IsPath p × ((0 < length p) × (text ≡ path_text p))
 path_of : (text : List ℕ) → Decided ((p : List (List ℕ)) × PathOf text p)
 path_of text = elim (both (path (path_parts text)) (both (less 0 (length (path_parts text))) (same_text text (path_text (path_parts text))))) [
   | inl found ↦ inl (path_parts text, found)
-  | inr none ↦ inr (λ found. none (subst (PathOf text) (sym (ap path_parts found.1.1.1 ∙ parts_text found.0 found.1.0.each found.1.1.0)) found.1))
+  | inr none ↦ inr (λ found. none (subst (PathOf text) (sym (ap path_parts found.1.1.1 ∙ parts_text found.0 found.1.0.each)) found.1))
 ]
 
 -- ---- lines
@@ -195,28 +197,28 @@ no_value r a x ok err = cc
 
 -- a file of this mode and size
 abbrev FileLine : List ℕ → ℕ → ℕ → Type 0
-FileLine line m size = (ds : List ℕ) × (Are32Bytes ds × LineAt (File m (stamp size ds)) line)
+FileLine line m size = (ds : List ℕ) × (IsDigest ds × LineAt (File m (stamp size ds)) line)
 
 file_of : (line : List ℕ) (m size : ℕ) → Decided (FileLine line m size)
-file_of line m size = elim (rest_of (spaced (codes "f" ∷ mode_text m ∷ decimal size ∷ []) []) line) [
+file_of line m size = elim (rest_of (spaced (codes "f" ∷ octal m ∷ decimal size ∷ []) []) line) [
   | inl found ↦ decoded found.0 found.1 (decode_of (take 64 found.0)) refl
   | inr none ↦ inr (λ file. none (encode_lower file.0 ++ 32 ∷ path_text file.1.1.0, begins file))
 ]
   where
-    begins : (file : FileLine line m size) → line ≡ spaced (codes "f" ∷ mode_text m ∷ decimal size ∷ []) [] ++ (encode_lower file.0 ++ 32 ∷ path_text file.1.1.0)
+    begins : (file : FileLine line m size) → line ≡ spaced (codes "f" ∷ octal m ∷ decimal size ∷ []) [] ++ (encode_lower file.0 ++ 32 ∷ path_text file.1.1.0)
     begins file =
-        file.1.1.1.1.1 ∙ sym (spaced-append (codes "f" ∷ mode_text m ∷ decimal size ∷ []) (encode_lower file.0 ++ 32 ∷ path_text file.1.1.0))
+        file.1.1.1.1.1 ∙ sym (spaced-append (codes "f" ∷ octal m ∷ decimal size ∷ []) (encode_lower file.0 ++ 32 ∷ path_text file.1.1.0))
 
-    reads : (file : FileLine line m size) (rest : List ℕ) → line ≡ spaced (codes "f" ∷ mode_text m ∷ decimal size ∷ []) [] ++ rest → decode_of (take 64 rest) ≡ Ok file.0
+    reads : (file : FileLine line m size) (rest : List ℕ) → line ≡ spaced (codes "f" ∷ octal m ∷ decimal size ∷ []) [] ++ rest → decode_of (take 64 rest) ≡ Ok file.0
     reads file rest is =
-        ap (λ xs. decode_of (take 64 xs)) (append_cancel_left (spaced (codes "f" ∷ mode_text m ∷ decimal size ∷ []) []) rest (encode_lower file.0 ++ 32 ∷ path_text file.1.1.0) (sym is ∙ begins file))
+        ap (λ xs. decode_of (take 64 xs)) (append_cancel_left (spaced (codes "f" ∷ octal m ∷ decimal size ∷ []) []) rest (encode_lower file.0 ++ 32 ∷ path_text file.1.1.0) (sym is ∙ begins file))
         ∙ ap decode_of (take_at (encode_lower file.0) (32 ∷ path_text file.1.1.0) 64 (hex_count file.0 file.1.0).0)
         ∙ hex_reads file.0 file.1.0
 
-    decoded : (rest : List ℕ) → line ≡ spaced (codes "f" ∷ mode_text m ∷ decimal size ∷ []) [] ++ rest → (r : Result (List ℕ) _) → decode_of (take 64 rest) ≡ r → Decided (FileLine line m size)
-    decoded rest is (Ok ds) read = elim (both (bytes_32 ds) (line_at (File m (stamp size ds)) line)) [
+    decoded : (rest : List ℕ) → line ≡ spaced (codes "f" ∷ octal m ∷ decimal size ∷ []) [] ++ rest → (r : Result (List ℕ) _) → decode_of (take 64 rest) ≡ r → Decided (FileLine line m size)
+    decoded rest is (Ok ds) read = elim (both (digest ds) (line_at (File m (stamp size ds)) line)) [
       | inl found ↦ inl (ds, found)
-      | inr none ↦ inr (λ file. none (subst (λ xs. Are32Bytes xs × LineAt (File m (stamp size xs)) line) (decode_of-same (take 64 rest) file.0 ds (reads file rest is) read) file.1))
+      | inr none ↦ inr (λ file. none (subst (λ xs. IsDigest xs × LineAt (File m (stamp size xs)) line) (decode_of-same (take 64 rest) file.0 ds (reads file rest is) read) file.1))
     ]
     decoded rest is (Err e) read = inr (λ file. no_value (decode_of (take 64 rest)) file.0 e (reads file rest is) read)
 

@@ -8,12 +8,12 @@ use Rattle.ext_tree.specs.declared.stamp.Stamp.{Stamp}
 use Rattle.ext_tree.specs.Tree.{Entries}
 use Rattle.ext_tree.specs.TreeText.{HasTreeLine, HasText, tree_line, tree_lines}
 use Rattle.ext_tree.specs.Reading.{MayStand}
-use Rattle.ext_tree.proofs.TreeLines.{line_injective, line_not_end}
-use Rattle.ext_tree.proofs.TextPrefixes.{lines_of, prefix_next}
+use Rattle.ext_tree.proofs.TreeLineLemmas.{line_injective, line_not_end}
+use Rattle.ext_tree.proofs.TreeTextLemmas.{lines_of, prefix_next}
 
 -- ---- the lines of one tree
 
--- two lists of entries with the same lines and `end` behind them are one list, and the rests are one
+-- two lists of entries with the same lines and `end` after them are one list, and the rests are one
 one_body : (es fs : Entries Stamp) (a b : List (List ℕ)) → AllByRecursion HasTreeLine es → AllByRecursion HasTreeLine fs → map tree_line es ++ codes "end" ∷ a ≡ map tree_line fs ++ codes "end" ∷ b → (es ≡ fs) × (a ≡ b)
 one_body [] [] a b he hf same = (refl, cc)
 one_body [] (y ∷ fs) a b he hf same = let head : codes "end" ≡ tree_line y = cc in absurd (line_not_end y (sym head))
@@ -25,7 +25,7 @@ one_body (x ∷ es) (y ∷ fs) a b he hf same =
     let rest : (es ≡ fs) × (a ≡ b) = one_body es fs a b he.1 hf.1 tail in
     (λ i. entry i ∷ rest.0 i, rest.1)
 
--- what stands behind the lines of a tree's first entries
+-- what follows the lines of a tree's first entries
 pub next_line : (done es fs : Entries Stamp) (l : List ℕ) (a b : List (List ℕ)) → AllByRecursion HasTreeLine es → AllByRecursion HasTreeLine fs → HasText (done ++ fs) → map tree_line es ++ l ∷ a ≡ map tree_line fs ++ codes "end" ∷ b → MayStand (done ++ es) l
 next_line done [] [] l a b he hf text same = let head : l ≡ codes "end" = cc in inl head
 next_line done [] (y ∷ fs) l a b he hf text same =

@@ -5,24 +5,25 @@ use mathlib.Core.Logic.{inl, inr}
 use Rattle.std.proofs.lemmas.Bool.{cases_lt, cases_Bool, false≢true}
 use Rattle.std.proofs.lemmas.List.{append-nil, get_or_default}
 use Rattle.std.specs.List.{AllByRecursion, flat_map}
-use Rattle.ext_text.specs.Cut.{IsSplit}
-use Rattle.ext_text.proofs.Cuts.{cut_or_lacks}
+use Rattle.ext_lines.specs.Split.{IsSplit}
+use Rattle.ext_lines.proofs.ForCallers.{split_or_lacks}
 use Rattle.ext_text.specs.Path.{IsPath}
 use Rattle.ext_tree.specs.Tree.{Entries, IsTree}
 use Rattle.ext_tree.specs.Following.{stands_after}
-use Rattle.ext_tree.specs.TreeText.{HasText, HasTreeLine, IsSequence, lines_text, tree_line, tree_lines, tree_text}
+use Rattle.ext_tree.specs.TreeText.{HasText, HasTreeLine, IsSequence, tree_line, tree_lines, tree_text}
+use Rattle.ext_lines.specs.Lines.{lines_text}
 use Rattle.ext_tree.specs.FirstFault.{AtLeastOne, IsFirstFault, IsOne}
 use Rattle.ext_tree.specs.Reading.{BeginsBody, BeginsText, MayStand, StopsBody, StopsText}
-use Rattle.ext_tree.specs.TextLaws.{FaultOfNoSequence, FaultOfNoText}
+use Rattle.ext_tree.specs.Laws.{FaultOfNoSequence, FaultOfNoText}
 use Rattle.ext_tree.specs.declared.entry.Entry.{Entry}
 use Rattle.ext_tree.specs.declared.reading.TreeTextErr.TheVariants.{BadTree}
 use Rattle.ext_tree.specs.declared.stamp.Stamp.{Stamp}
-use Rattle.ext_tree.proofs.BodyLines.{cut_short, line_more, entry_more, none_cut, none_lacks, no_header, no_line, text_begins}
-use Rattle.ext_tree.proofs.Decided.{Decided, entry_of, same_text}
-use Rattle.ext_tree.proofs.FaultySequences.{counted_more, each_more, sequence_err, text_next, text_room, texts_more, tree_err, tree_more}
-use Rattle.ext_tree.proofs.LastEntry.{may_first, may_next}
-use Rattle.ext_tree.proofs.TextPrefixes.{adds, empty_text, last_line}
-use Rattle.ext_tree.proofs.TreeLines.{line_injective}
+use Rattle.ext_tree.proofs.ReadingLemmas.{split_short, line_more, entry_more, none_split, none_lacks, no_header, no_line, text_begins}
+use Rattle.ext_tree.proofs.DecisionLemmas.{Decided, entry_of, same_text}
+use Rattle.ext_tree.proofs.StopLemmas.{counted_more, each_more, sequence_ends, sequence_err, text_next, text_room, texts_more, tree_err, tree_more}
+use Rattle.ext_tree.proofs.FollowingLemmas.{may_first, may_next}
+use Rattle.ext_tree.proofs.TreeTextLemmas.{adds, empty_text, last_line}
+use Rattle.ext_tree.proofs.TreeLineLemmas.{line_injective}
 
 -- ---- one entry more
 
@@ -90,24 +91,24 @@ BodyOrStop bytes first = ((es : Entries Stamp) × ((rest : List ℕ) × ((next :
 
 body_or_stop : (most : ℕ) (bytes : List ℕ) (first : ℕ) (es : Entries Stamp) (rest : List ℕ) → length rest < most → HasText es → bytes ≡ lines_text (map tree_line es) ++ rest → BodyOrStop bytes first
 body_or_stop zero bytes first es rest short tree text = absurd (omega arith)
-body_or_stop (suc most) bytes first es rest short tree text = elim (cut_or_lacks 10 rest) [
+body_or_stop (suc most) bytes first es rest short tree text = elim (split_or_lacks 10 rest) [
   | inl lacks ↦ inr (first + length es, record { entries = es; rest = rest; tree = tree; text = text; counted = refl; stop = none_lacks (MayStand es) rest lacks })
-  | inr (line, more, cut) ↦ elim (judged es line tree) [
+  | inr (line, more, split) ↦ elim (judged es line tree) [
     | inl end ↦ inl (es, (more, (first + (length es + 1), record {
         tree = tree;
-        text = line_more bytes (map tree_line es) rest line more text cut
+        text = line_more bytes (map tree_line es) rest line more text split
             ∙ ap (λ l. lines_text (map tree_line es ++ l ∷ []) ++ more) end;
         counted = refl;
       })))
     | inr (inl item) ↦
-        body_or_stop most bytes first (es ++ item.0 ∷ []) more (shorter line more cut) item.1.0
-        (entry_more bytes es (es ++ item.0 ∷ []) item.0 rest line more text cut item.1.1 refl)
-    | inr (inr fault) ↦ inr (first + length es, record { entries = es; rest = rest; tree = tree; text = text; counted = refl; stop = none_cut (MayStand es) rest line more cut fault })
+        body_or_stop most bytes first (es ++ item.0 ∷ []) more (shorter line more split) item.1.0
+        (entry_more bytes es (es ++ item.0 ∷ []) item.0 rest line more text split item.1.1 refl)
+    | inr (inr fault) ↦ inr (first + length es, record { entries = es; rest = rest; tree = tree; text = text; counted = refl; stop = none_split (MayStand es) rest line more split fault })
   ]
 ]
   where
     shorter : (line more : List ℕ) → IsSplit 10 rest line more → length more < most
-    shorter line more cut = omega (arith, cut_short rest line more cut)
+    shorter line more split = omega (arith, split_short rest line more split)
 
 -- ---- one text
 
@@ -115,18 +116,18 @@ abbrev TextOrStop : List ℕ → ℕ → Type 0
 TextOrStop bytes first = ((es : Entries Stamp) × ((rest : List ℕ) × ((next : ℕ) × BeginsText bytes first es rest next))) ⊎ ((line : ℕ) × StopsText bytes first line)
 
 text_or_stop : (bytes : List ℕ) (first : ℕ) → TextOrStop bytes first
-text_or_stop bytes first = elim (cut_or_lacks 10 bytes) [
+text_or_stop bytes first = elim (split_or_lacks 10 bytes) [
   | inl lacks ↦ inr (first, no_line bytes first lacks)
-  | inr (line, body, cut) ↦ elim (same_text line (codes "hostext-tree 1")) [
-    | inr other ↦ inr (first, no_header bytes line body first cut other)
-    | inl header ↦ after_header body (subst (λ l. IsSplit 10 bytes l body) header cut)
+  | inr (line, body, split) ↦ elim (same_text line (codes "hostext-tree 1")) [
+    | inr other ↦ inr (first, no_header bytes line body first split other)
+    | inl header ↦ after_header body (subst (λ l. IsSplit 10 bytes l body) header split)
   ]
 ]
   where
     after_header : (body : List ℕ) → IsSplit 10 bytes (codes "hostext-tree 1") body → TextOrStop bytes first
-    after_header body cut = elim (body_or_stop (suc (length body)) body (first + 1) [] body (omega arith) empty_text refl) [
-      | inl found ↦ inl (found.0, (found.1.0, (found.1.1.0, text_begins bytes body first found.0 found.1.0 found.1.1.0 cut found.1.1.1)))
-      | inr stops ↦ inr (stops.0, inr (body, cut, stops.1))
+    after_header body split = elim (body_or_stop (suc (length body)) body (first + 1) [] body (omega arith) empty_text refl) [
+      | inl found ↦ inl (found.0, (found.1.0, (found.1.1.0, text_begins bytes body first found.0 found.1.0 found.1.1.0 split found.1.1.1)))
+      | inr stops ↦ inr (stops.0, inr (body, split, stops.1))
     ]
 
 -- ---- the laws
@@ -154,25 +155,12 @@ sequence_fault (suc most) bytes done rest first short each text counted unended 
         (texts_more bytes done (done ++ es ∷ []) es rest first after next text begins refl)
         (counted_more done (done ++ es ∷ []) es rest first after next counted begins refl)
         (inr some) none
-    | inr empty ↦ absurd (none (done ++ es ∷ []) (whole es after next begins empty))
+    | inr empty ↦ absurd (none (done ++ es ∷ []) (sequence_ends bytes done (done ++ es ∷ []) es rest first after next each text begins refl empty))
   ]
 ]
   where
     fewer : (es : Entries Stamp) (after : List ℕ) (next : ℕ) → BeginsText rest first es after next → length after < most
     fewer es after next begins = omega (arith, text_room rest first es after next begins, text_next rest first es after next begins)
-
-    nothing : (xs : List ℕ) → length xs ≤ 0 → xs ≡ []
-    nothing [] empty = refl
-    nothing (x ∷ xs) empty = absurd (omega arith)
-
-    whole : (es : Entries Stamp) (after : List ℕ) (next : ℕ) → BeginsText rest first es after next → length after ≤ 0 → IsSequence bytes (done ++ es ∷ [])
-    whole es after next begins empty = record {
-      non_empty = omega (arith, length-append done (es ∷ []));
-      each = each_more done (done ++ es ∷ []) es each begins.tree refl;
-      text = texts_more bytes done (done ++ es ∷ []) es rest first after next text begins refl
-          ∙ ap (λ xs. flat_map tree_text (done ++ es ∷ []) ++ xs) (nothing after empty)
-          ∙ append-nil (flat_map tree_text (done ++ es ∷ []));
-    }
 
 pub fault_of_no_sequence : FaultOfNoSequence
 fault_of_no_sequence bytes none = sequence_fault (suc (length bytes)) bytes [] bytes 1 (omega arith) tt refl refl (inl refl) none

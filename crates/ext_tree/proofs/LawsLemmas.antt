@@ -5,13 +5,13 @@ use Rattle.std.specs.List.{flat_map}
 use Rattle.ext_tree.specs.declared.stamp.Stamp.{Stamp}
 use Rattle.ext_tree.specs.Tree.{Entries}
 use Rattle.ext_tree.specs.TreeText.{HasText, tree_lines, tree_text}
-use Rattle.ext_tree.specs.FirstFault.{whole_lines}
-use Rattle.ext_tree.specs.TextLaws.{OneTreeOfText, OneTextOfTree, NoPrefixOfText, OneListOfSequence}
-use Rattle.ext_tree.proofs.WholeLines.{whole_lines-text}
-use Rattle.ext_tree.proofs.Sequences.{one_tree, sequence_peeled}
-use Rattle.ext_tree.proofs.Faults.{tree_lacks, sequence_lines}
+use Rattle.ext_lines.specs.Lines.{whole_lines}
+use Rattle.ext_tree.specs.Laws.{OneTreeOfText, OneTextOfTree, NoPrefixOfText, OneListOfSequence}
+use Rattle.ext_lines.proofs.ForCallers.{whole_lines-text}
+use Rattle.ext_tree.proofs.SequenceLemmas.{one_tree, sequence_peeled}
+use Rattle.ext_tree.proofs.FirstFaultLemmas.{tree_lacks, sequence_lines}
 
--- the lines behind a tree's text
+-- the lines after a tree's text
 text_lines : (es : Entries Stamp) (rest : List ℕ) → HasText es → whole_lines (tree_text es ++ rest) ≡ tree_lines es ++ whole_lines rest
 text_lines es rest text = whole_lines-text (tree_lines es) rest (tree_lacks es text)
 

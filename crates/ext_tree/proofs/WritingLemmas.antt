@@ -1,11 +1,9 @@
 -- The text of a tree, line by line.
-use Rattle.std.proofs.Common.{Bor, ◌≡◌, ℕ, ◌-◌, ◌≤◌, List, [], ◌∷◌, ◌++◌, length, map, take, drop, get_or, refl, sym, ap, ◌∙◌, append_assoc, arith}
+use Rattle.std.proofs.Common.{Bor, ◌≡◌, ℕ, ◌≤◌, List, [], ◌∷◌, ◌++◌, length, map, take, refl, sym, ap, ◌∙◌, append_assoc, arith}
 use Rattle.std.specs.Prelude.{codes}
 use Rattle.std.specs.List.{flat_map}
 use Rattle.std.proofs.lemmas.List.{take_all}
 use Rattle.std.proofs.lemmas.List.Folds.{flat_map-map}
-use Rattle.ext_text.specs.Path.{path_text}
-use Rattle.ext_text.proofs.Parts.{path_text-cons}
 use Rattle.ext_tree.specs.declared.entry.Entry.{Entry}
 use Rattle.ext_tree.specs.declared.stamp.Stamp.{Stamp}
 use Rattle.ext_tree.specs.Tree.{Entries}
@@ -24,18 +22,6 @@ pub all_printed : (es : Entries Stamp) (i : ℕ) (text : List ℕ) → length es
 all_printed es i text h is =
     ap (λ t. t ++ codes "end\n") (is ∙ ap (λ done. codes "hostext-tree 1\n" ++ flat_map whole_line done) (take_all i es h))
     ∙ ap (λ rest. codes "hostext-tree 1\n" ++ rest) (sym (lines_then_end es))
-
--- a path's text is its first name, and each other name with its slash
-path_text-parts : (names : List (List ℕ)) (first : List ℕ) → 1 ≤ length names → first ≡ get_or names 0 first → path_text names ≡ first ++ flat_map (λ n. 47 ∷ n) (take (length names - 1) (drop 1 names))
-path_text-parts [] first h is = absurd (omega arith)
-path_text-parts (name ∷ names) first h is =
-    path_text-cons name names ∙ (λ i. sym is i ++ flat_map (λ n. 47 ∷ n) (sym (take_all (length (name ∷ names) - 1) names (omega arith)) i))
-
--- what is there once the first name and then the others have been printed
-pub path_printed : (old mid new : List ℕ) (names : List (List ℕ)) (first : List ℕ) → 1 ≤ length names → first ≡ get_or names 0 first → mid ≡ old ++ first → new ≡ mid ++ flat_map (λ n. 47 ∷ n) (take (length names - 1) (drop 1 names)) → new ≡ old ++ path_text names
-path_printed old mid new names first h is begun done =
-    let rest = flat_map (λ n. 47 ∷ n) (take (length names - 1) (drop 1 names)) in
-    done ∙ ap (λ t. t ++ rest) begun ∙ append_assoc old first rest ∙ ap (λ t. old ++ t) (sym (path_text-parts names first h is))
 
 -- all lines of entries that are borrowed have been printed
 pub all_printed_borrowed : (es : List (Bor (List (List ℕ) × Entry Stamp))) (i : ℕ) (text : List ℕ) → length es ≤ i → text ≡ codes "hostext-tree 1\n" ++ flat_map (λ x. whole_line x.now) (take i es) → text ++ codes "end\n" ≡ tree_text (map (λ x. x.now) es)

@@ -1,4 +1,4 @@
--- Which path may stand behind the last entry of a tree.
+-- Which path may follow the last entry of a tree.
 use Rattle.std.proofs.Common.{◌≡◌, ◌≢◌, ℕ, suc, ◌+◌, ◌-◌, ◌<◌, ◌≤◌, Bool, true, false, cond, ◌||◌, List, [], ◌∷◌, ◌++◌, length, take, Option, Some, None, is_some, refl, sym, ap, ◌∙◌, subst, arith, get_or, take_all}
 use Rattle.std.specs.Prelude.{nat_lt, nat_eq, ◌⊎◌, ◌↔◌, IsTrue}
 use Rattle.std.proofs.Math.Seq.{take-suc}
@@ -14,13 +14,12 @@ use Rattle.std.specs.FinMap.{find}
 use Rattle.std.specs.FinMap.Entries.{find-append}
 use Rattle.ext_text.specs.Order.{paths_total}
 use Rattle.ext_text.specs.Path.{IsPath, path_cmp, parent, is_prefix}
-use Rattle.ext_text.proofs.Facts.{true_from_T, is_less}
-use Rattle.ext_text.proofs.PathPrefixes.{same_path, convex, prefix_whole, prefix_short, length-parent, parent_prefix, parent_less, parent_other}
+use Rattle.ext_text.proofs.ForCallers.{true_from_T, is_less, same_path, convex, prefix_whole, prefix_short, length-parent, parent_prefix, parent_less, parent_other}
 use Rattle.ext_tree.specs.declared.entry.Entry.{Entry}
 use Rattle.ext_tree.specs.Tree.{Entries, IsTree, lookup, is_directory, is_directory_at, is_directory_or_root}
 use Rattle.ext_tree.specs.Following.{stands_after}
-use Rattle.ext_tree.proofs.Orders.{find-join, sorted_prefix, prefix_below, sorted_push, all_below, find_above, found_below}
-use Rattle.ext_tree.proofs.Prefixes.{root_none, some_dir, directory_dir, dir_directory, directory_some, prefixes}
+use Rattle.ext_tree.proofs.OrderLemmas.{find-join, sorted_prefix, prefix_below, sorted_push, all_below, find_above, found_below}
+use Rattle.ext_tree.proofs.PrefixLemmas.{root_none, some_dir, directory_dir, dir_directory, directory_some, prefixes}
 
 -- ---- one more entry at the end
 
@@ -71,7 +70,7 @@ push_tree es p e tree below path some directory =
     root_not [] some same = omega arith
     root_not (n ∷ q) some same = cc
 
--- ---- a front of a tree
+-- ---- a prefix of a tree
 
 prefix_keeps : {C : Type 0} (a b : Option (Entry C)) → is_some a ≡ true → cond (is_some a) a b ≡ a
 prefix_keeps None b found = absurd (false≢true found)
@@ -85,7 +84,7 @@ prefix_dir : {C : Type 0} (a b : Option (Entry C)) → is_directory_at (cond (is
 prefix_dir None b dir = inr (some_dir b dir)
 prefix_dir (Some e) b dir = inl dir
 
--- a directory in which an entry of the front stands is in the front
+-- a directory in which an entry of the prefix stands is in the prefix
 directory_prefix : {C : Type 0} (es : Entries C) (k : List (List ℕ)) (e : Entry C) (q : List (List ℕ)) → AllByRecursion (λ x. path_cmp x.0 k ≡ Less) es → is_some (lookup es q) ≡ true → 0 < length q → is_directory_or_root (es ++ (k, e) ∷ []) (parent q) ≡ true → is_directory_or_root es (parent q) ≡ true
 directory_prefix es k e q below found some directory =
     let none : find path_cmp k es ≡ None = find_above path_cmp paths_total k es below in
@@ -136,7 +135,7 @@ or_from : (a b : Bool) → (a ≡ true) ⊎ (b ≡ true) → (a || b) ≡ true
 or_from true b either = refl
 or_from false b either = elim either [ inl is ↦ absurd (false≢true is) | inr is ↦ is ]
 
--- what passes the test may stand behind the tree
+-- what passes the test may follow the tree
 pub follows_tree : {C : Type 0} (es : Entries C) (q : List (List ℕ)) (f : Entry C) (p : List (List ℕ)) (e : Entry C) → IsTree (es ++ (q, f) ∷ []) → IsPath p → stands_after (q, f) p ≡ true → IsTree ((es ++ (q, f) ∷ []) ++ (p, e) ∷ [])
 follows_tree es q f p e tree path passed =
     let parts = and_parts (is_lt (path_cmp q p)) _ passed in
@@ -168,7 +167,7 @@ follows_tree es q f p e tree path passed =
     past_some (n ∷ a) [] less = absurd (false≢true (ap is_lt less))
     past_some a (m ∷ b) less = omega arith
 
--- and what stands behind a tree passes the test
+-- and what follows a tree passes the test
 pub tree_follows : {C : Type 0} (es : Entries C) (q : List (List ℕ)) (f : Entry C) (p : List (List ℕ)) (e : Entry C) → IsTree ((es ++ (q, f) ∷ []) ++ (p, e) ∷ []) → stands_after (q, f) p ≡ true
 tree_follows es q f p e whole =
     let tree : IsTree (es ++ (q, f) ∷ []) = pop_tree (es ++ (q, f) ∷ []) p e whole in
@@ -235,17 +234,17 @@ tree_first p e tree =
     alone : is_some (lookup ((p, e) ∷ []) (parent p)) ≡ true → eq_by_cmp path_cmp (parent p) p ≡ false → ⊥
     alone there apart = false≢true (sym (ap (λ b. is_some (cond b (Some e) None)) apart) ∙ there)
 
--- ---- what `may_follow` answers
+-- ---- what `may_follow` gives
 
 -- a list that is not empty ends with its last element
 pub ends : {X : Type 0} (xs : List X) (d : X) → 0 < length xs → d ≡ get_or xs (length xs - 1) d → xs ≡ take (length xs - 1) xs ++ d ∷ []
 ends xs d some is =
-    let place : length xs - 1 < length xs = omega arith in
+    let within : length xs - 1 < length xs = omega arith in
     let whole : suc (length xs - 1) ≡ length xs = omega arith in
-    sym (take_all (length xs) xs (omega arith)) ∙ ap (λ k. take k xs) (sym whole) ∙ take-suc xs (length xs - 1) d place
+    sym (take_all (length xs) xs (omega arith)) ∙ ap (λ k. take k xs) (sym whole) ∙ take-suc xs (length xs - 1) d within
     ∙ ap (λ y. take (length xs - 1) xs ++ y ∷ []) (sym is)
 
--- behind no entry a path of one name may stand
+-- a path of one name may follow no entry
 pub may_first : {C : Type 0} (es : Entries C) (names p : List (List ℕ)) → length es < 1 → names ≡ p → IsPath p → (e : Entry C) → (IsTrue (nat_eq (length names) 1) ↔ IsTree (es ++ (p, e) ∷ []))
 may_first [] names p none same path e = (
   (λ one. first_tree p e path (sym (ap length same) ∙ eqb-true (length names) 1 one)),
@@ -253,7 +252,7 @@ may_first [] names p none same path e = (
 )
 may_first (x ∷ es) names p none same path e = absurd (omega arith)
 
--- behind entries a path that stands after the last one
+-- a path that stands after the last entry may follow
 pub may_next : {C : Type 0} (es : Entries C) (last : List (List ℕ) × Entry C) (p : List (List ℕ)) (test : Bool) → 0 < length es → last ≡ get_or es (length es - 1) last → IsTree es → IsPath p → test ≡ stands_after last p → (e : Entry C) → (IsTrue test ↔ IsTree (es ++ (p, e) ∷ []))
 may_next {C} es last p test some is tree path same e =
     let prefix : Entries C = take (length es - 1) es in

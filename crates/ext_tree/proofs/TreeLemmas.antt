@@ -9,8 +9,7 @@ use Rattle.std.proofs.lemmas.Bool.{true≢false, false≢true, or_parts, leb-fal
 use Rattle.std.proofs.lemmas.Float.{T_from_true}
 use Rattle.ext_text.specs.Path.{IsPath, path_cmp, parent}
 use Rattle.ext_text.specs.Order.{paths_total}
-use Rattle.ext_text.proofs.Facts.{true_from_T}
-use Rattle.ext_text.proofs.PathPrefixes.{same_path}
+use Rattle.ext_text.proofs.ForCallers.{true_from_T, same_path}
 use Rattle.ext_tree.specs.declared.entry.Entry.{Entry}
 use Rattle.ext_tree.specs.declared.tree.TreeErr.TheVariants.{Exists, NotDirectory, Limit}
 use Rattle.ext_tree.specs.Tree.{Entries, IsTree, IsTreeWithin, lookup, is_directory_at, is_directory_or_root, most_entries}
@@ -18,7 +17,7 @@ use Rattle.ext_tree.specs.Refusals.{insert_refusal, is_root}
 use Rattle.ext_tree.specs.InsertionPoint.{insertion_point}
 use Rattle.ext_tree.proofs.InsertionPointLemmas.{find_there, insert_here}
 
--- the folder of an entry is one, by whatever spelling
+-- the parent of an entry is a directory or the root, by whatever spelling
 pub directory_of : {C : Type 0} (es : Entries C) (i : ℕ) (e : List (List ℕ) × Entry C) (directory : List (List ℕ)) → IsTree es → slice_get es i ≡ Some e → eq_by_cmp path_cmp directory (parent e.0) ≡ true → IsTrue (is_directory_or_root es directory)
 directory_of es i e directory tree at same =
     let there = find_there path_cmp paths_total es i e tree.sorted at in
@@ -59,7 +58,7 @@ at_put es p q e P here there h =
       | false ↦ λ _ was. there was
     ] refl (sym (ap is_some (find-put path_cmp paths_total q p e es)) ∙ h)
 
--- a folder stays one where an entry comes that was absent
+-- a directory or root stays one where an entry comes that was absent
 directory_stays : {C : Type 0} (es : Entries C) (p f : List (List ℕ)) (e : Entry C) → is_some (lookup es p) ≡ false → IsTrue (is_directory_or_root es f) → IsTrue (is_directory_or_root (put path_cmp p e es) f)
 directory_stays es p [] e absent h = refl
 directory_stays es p (n ∷ f) e absent h =
@@ -89,8 +88,8 @@ tree_put es p e is path h =
       count = subst (λ n. n ≤ most_entries) (sym (length-put path_cmp paths_total p e es (T_from_true _ tree.sorted) ∙ ap (λ b. cond b (length es) (length es + 1)) free.absent)) (omega arith);
     }
 
--- what the entry is put into at its place, where the place and the refusal are asked of the list and the path as they
--- are seen through references
+-- what the entry is put into at its insertion point, where that and the refusal are asked of the list and the path as
+-- they are seen through references
 pub put_at : {C : Type 0} {es seen : Entries C} {p names : List (List ℕ)} {i : ℕ} (e : Entry C) → seen ≡ es → names ≡ p → i ≡ insertion_point path_cmp names seen → None ≡ insert_refusal seen p → insert es i (p, e) ≡ put path_cmp p e es
 put_at {es = es} {p = p} e same named at free =
     ap (λ n. insert es n (p, e)) (at ∙ (λ j. insertion_point path_cmp (named j) (same j)))

@@ -1,4 +1,4 @@
--- Trees that have a text: their entries have lines, their fronts have texts, and which entry may be added.
+-- Trees that have a text: their entries have lines, their prefixes have texts, and which entry may be added.
 use Rattle.std.proofs.Common.{◌≡◌, ◌≢◌, ℕ, ◌<◌, Bool, false, List, [], ◌∷◌, ◌++◌, length, Option, Some, None, sym, ◌∙◌, subst, arith, append_assoc, length-append}
 use Rattle.std.specs.Prelude.{codes, IsTrue, ◌↔◌}
 use mathlib.Core.Logic.{inl, inr}
@@ -7,17 +7,17 @@ use Rattle.std.specs.List.{AllByRecursion}
 use Rattle.std.proofs.lemmas.List.{append-nil}
 use Rattle.ext_text.specs.Order.{paths_total}
 use Rattle.ext_text.specs.Path.{IsPath, path_cmp}
-use Rattle.ext_text.proofs.Lists.{all_append, all_prefix, all_back, all_both, all_weaker}
+use Rattle.ext_text.proofs.ForCallers.{all_append, all_prefix, all_back, all_both, all_weaker}
 use Rattle.ext_tree.specs.declared.entry.Entry.{Entry}
 use Rattle.ext_tree.specs.declared.stamp.Stamp.{Stamp}
 use Rattle.ext_tree.specs.Tree.{Entries, IsTree}
 use Rattle.ext_tree.specs.EntryLine.{IsWritable, ReadsLine}
 use Rattle.ext_tree.specs.TreeText.{HasTreeLine, HasText, stamp_form}
 use Rattle.ext_tree.specs.Reading.{MayStand}
-use Rattle.ext_tree.proofs.TreeLines.{line_injective, line_not_end}
-use Rattle.ext_tree.proofs.Orders.{each_found}
-use Rattle.ext_tree.proofs.Prefixes.{root_none}
-use Rattle.ext_tree.proofs.LastEntry.{pop_tree, empty_tree}
+use Rattle.ext_tree.proofs.TreeLineLemmas.{line_injective, line_not_end}
+use Rattle.ext_tree.proofs.OrderLemmas.{each_found}
+use Rattle.ext_tree.proofs.PrefixLemmas.{root_none}
+use Rattle.ext_tree.proofs.FollowingLemmas.{pop_tree, empty_tree}
 
 -- ---- texts
 
@@ -50,12 +50,12 @@ pop_text es x text = record {
 regrouped : (es : Entries Stamp) (x : List (List ℕ) × Entry Stamp) (more : Entries Stamp) → es ++ (x ∷ more) ≡ (es ++ x ∷ []) ++ more
 regrouped es x more = sym (append_assoc es (x ∷ []) more)
 
--- and so has each front
+-- and so has each prefix
 pub prefix_text : (es more : Entries Stamp) → HasText (es ++ more) → HasText es
 prefix_text es [] text = subst HasText (append-nil es) text
 prefix_text es (x ∷ more) text = pop_text es x (prefix_text (es ++ x ∷ []) more (subst HasText (regrouped es x more) text))
 
--- the front up to the next entry
+-- the prefix up to the next entry
 pub prefix_next : (es : Entries Stamp) (x : List (List ℕ) × Entry Stamp) (more : Entries Stamp) → HasText (es ++ (x ∷ more)) → HasText (es ++ x ∷ [])
 prefix_next es x more text = prefix_text (es ++ x ∷ []) more (subst HasText (regrouped es x more) text)
 
@@ -73,7 +73,7 @@ adds es p follows text room tree e line = (
   (λ longer. (tree e).1 longer.within.tree),
 )
 
--- ---- lines that may not stand behind the entries
+-- ---- lines that may not stand after the entries
 
 -- a line that is neither the last one nor an entry's
 pub no_entry : (es : Entries Stamp) (line : List ℕ) (found : Option (List (List ℕ) × Entry Stamp)) → (line ≢ codes "end") → ReadsLine stamp_form line found → found ≡ None → MayStand es line → ⊥
