@@ -10,9 +10,9 @@ use Rattle.std.specs.Ordering.{is_lt, eq_by_cmp}
 use Rattle.std.specs.FinMap.{find, is_sorted}
 use Rattle.std.specs.FinMap.Entries.{below_all}
 use Rattle.ext_text.specs.Path.{path_cmp, is_prefix, is_proper_prefix}
-use Rattle.ext_text.proofs.Facts.{true_from_T}
-use Rattle.ext_text.proofs.Lists.{all_append}
-use Rattle.ext_text.proofs.PathPrefixes.{prefix_both}
+use Rattle.ext_text.proofs.ForCallers.{true_from_T}
+use Rattle.ext_text.proofs.ForCallers.{all_append}
+use Rattle.ext_text.proofs.ForCallers.{prefix_both}
 use Rattle.ext_tree.specs.Tree.{Entries, IsTree, IsTreeWithin, lookup, is_directory}
 use Rattle.ext_tree.specs.declared.entry.Entry.{Entry}
 use Rattle.ext_layer.specs.Layered.{CutsOff, IsVisible, cuts_below}

@@ -9,10 +9,11 @@ use Rattle.std.specs.FinMap.{find, is_sorted}
 use Rattle.std.specs.FinMap.Entries.{below_all, same_entries}
 use Rattle.ext_text.specs.Path.{path_cmp}
 use Rattle.ext_text.specs.Order.{paths_exact, paths_total}
-use Rattle.ext_text.proofs.Lists.{all_back}
-use Rattle.ext_text.proofs.PathPrefixes.{same_path, tied_path, prefix_self}
+use Rattle.ext_text.proofs.ForCallers.{all_back}
+use Rattle.ext_text.proofs.ForCallers.{same_path, tied_path, prefix_self}
 use Rattle.ext_tree.specs.Tree.{Entries, lookup, most_entries}
-use Rattle.ext_tree.specs.TreeText.{HasText, IsWritable}
+use Rattle.ext_tree.specs.EntryLine.{IsWritable}
+use Rattle.ext_tree.specs.TreeText.{HasText, stamp_form}
 use Rattle.ext_tree.specs.declared.entry.Entry.{Entry}
 use Rattle.ext_tree.specs.declared.stamp.Stamp.{Stamp}
 use Rattle.ext_layer.specs.Layered.{IsLayered, IsVisible}
@@ -70,8 +71,8 @@ module _ {C : Type 0} (P : Entry C → Type 0) where
 pub layered_has_text : LayeredHasText
 layered_has_text layers es all layered count = record {
   within = record { tree = layered.tree; count = count };
-  each = all_from_lookup IsWritable es layered.tree.sorted (λ p e h.
+  each = all_from_lookup (IsWritable stamp_form) es layered.tree.sorted (λ p e h.
       let v = layered.visible p e h in
       let text : HasText v.layer = (all_back HasText v.above (v.layer ∷ v.below) (subst (AllByRecursion HasText) v.split all)).0 in
-      all_at IsWritable v.layer p e text.each v.stands);
+      all_at (IsWritable stamp_form) v.layer p e text.each v.stands);
 }

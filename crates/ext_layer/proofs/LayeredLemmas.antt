@@ -7,8 +7,8 @@ use Rattle.std.specs.Option.{option_map}
 use Rattle.std.specs.List.{AllByRecursion}
 use Rattle.std.specs.FinMap.{find}
 use Rattle.ext_text.specs.Path.{path_cmp, is_prefix, parent, is_proper_prefix}
-use Rattle.ext_text.proofs.Lists.{all_back}
-use Rattle.ext_text.proofs.PathPrefixes.{some_name, prefix_both, prefix_trans, parent_prefix, parent_other}
+use Rattle.ext_text.proofs.ForCallers.{all_back}
+use Rattle.ext_text.proofs.ForCallers.{some_name, prefix_both, prefix_trans, parent_prefix, parent_other}
 use Rattle.ext_tree.specs.Tree.{Entries, IsTree, lookup, is_directory, is_directory_at, is_directory_or_root, most_entries}
 use Rattle.ext_tree.specs.declared.entry.Entry.{Entry}
 use Rattle.ext_layer.specs.Layered.{CutsOff, IsLayered, IsVisible, cuts_below}

@@ -6,8 +6,8 @@ use Rattle.std.proofs.lemmas.List.{map-append, take-map, drop-map, drop-drop, dr
 use Rattle.std.specs.FinMap.{is_sorted}
 use Rattle.std.specs.FinMap.Entries.{below_all}
 use Rattle.ext_text.specs.Path.{path_cmp}
-use Rattle.ext_text.proofs.Facts.{true_from_T}
-use Rattle.ext_tree.specs.Place.{is_past, place}
+use Rattle.ext_text.proofs.ForCallers.{true_from_T}
+use Rattle.ext_tree.specs.InsertionPoint.{insertion_point, is_past}
 use Rattle.ext_layer.specs.declared.item.Item.{Item}
 use Rattle.ext_layer.specs.Overlay.{MarkedEntries, over, count_hidden}
 use Rattle.ext_layer.specs.Item.{seen, all_seen}
@@ -16,7 +16,7 @@ use Rattle.ext_layer.proofs.OverlaySteps.{laid_first, skip, sorted_drop, step}
 module _ {C : Type 0} where
   -- how many items stand before the path of an upper one
   abbrev count_before : Item C → List (Item C) → ℕ
-  count_before upper lower = place path_cmp (seen upper).0 (all_seen lower)
+  count_before upper lower = insertion_point path_cmp (seen upper).0 (all_seen lower)
 
   sorted_rest : (n : ℕ) (items : List (Item C)) → is_sorted path_cmp (all_seen items) ≡ true → T (is_sorted path_cmp (all_seen (drop n items)))
   sorted_rest n items h = subst (λ l. T (is_sorted path_cmp l)) (drop-map seen n items) (sorted_drop n (all_seen items) (T_from_true _ h))
@@ -85,7 +85,7 @@ module _ {C : Type 0} where
       let long : 63 < length (all_seen lower) = subst (λ n. 63 < n) (sym (length-map lower seen)) lt in
       let at : seen last ≡ get_or (all_seen lower) 63 (seen last) = ap seen is ∙ sym (get_or-map seen lower 63 last (seen last) lt) in
       skip (seen upper).0 63 (all_seen lower) (seen last) (T_from_true _ sorted) long (ap (is_past path_cmp (seen upper).0) (sym at) ∙ past)
-      ∙ ap (λ l. 64 + place path_cmp (seen upper).0 l) (drop-map seen 64 lower)
+      ∙ ap (λ l. 64 + insertion_point path_cmp (seen upper).0 l) (drop-map seen 64 lower)
 
   -- the count goes on after a stride
   pub stride_counted : (upper : Item C) (lower rest : List (Item C)) (passed : ℕ) → count_before upper lower ≡ passed + count_before upper (drop passed lower) → rest ≡ drop passed lower → count_before upper rest ≡ 64 + count_before upper (drop 64 rest) → count_before upper lower ≡ (passed + 64) + count_before upper (drop (passed + 64) lower)

@@ -9,8 +9,8 @@ use Rattle.std.specs.FinMap.{find, is_sorted}
 use Rattle.std.specs.FinMap.Entries.{below_all, where_key, find-put, find-where_key, is_sorted-put, is_sorted-where_key}
 use Rattle.ext_text.specs.Path.{path_cmp, is_prefix}
 use Rattle.ext_text.specs.Order.{paths_exact, paths_total}
-use Rattle.ext_text.proofs.Facts.{true_from_T}
-use Rattle.ext_text.proofs.PathPrefixes.{same_path, tied_path, prefix_self, prefix_trans}
+use Rattle.ext_text.proofs.ForCallers.{true_from_T}
+use Rattle.ext_text.proofs.ForCallers.{same_path, tied_path, prefix_self, prefix_trans}
 use Rattle.ext_layer.specs.Overlay.{Marked, MarkedEntries, Overlay, visible, hidden, absent, first_of_two, some_prefix, cuts_at, overlay_of, overlay_at, hides, over_entry, lay, over}
 use Rattle.ext_layer.proofs.Prefixes.{not_found, some_prefix-same, some_prefix-none, some_prefix-at, some_prefix-or}
 

@@ -11,10 +11,10 @@ use Rattle.std.specs.FinMap.{find, put, is_sorted}
 use Rattle.std.specs.FinMap.Entries.{below_all, where_key, by_order}
 use Rattle.ext_text.specs.Path.{path_cmp, is_prefix}
 use Rattle.ext_text.specs.Order.{paths_exact, paths_total}
-use Rattle.ext_text.proofs.Facts.{true_from_T, is_less, is_greater}
-use Rattle.ext_text.proofs.PathPrefixes.{same_path, tied_path, prefix_self, prefix_order, convex}
-use Rattle.ext_tree.specs.Place.{is_past, place}
-use Rattle.ext_tree.proofs.Place.{below_at}
+use Rattle.ext_text.proofs.ForCallers.{true_from_T, is_less, is_greater}
+use Rattle.ext_text.proofs.ForCallers.{same_path, tied_path, prefix_self, prefix_order, convex}
+use Rattle.ext_tree.specs.InsertionPoint.{insertion_point, is_past}
+use Rattle.ext_tree.proofs.InsertionPointLemmas.{below_at}
 use Rattle.ext_layer.specs.Overlay.{Marked, MarkedEntries, cuts_at, hides, over_entry, first_at, lay, over, count_hidden}
 use Rattle.ext_layer.proofs.Prefixes.{not_found}
 
@@ -81,17 +81,17 @@ sorted_drop (suc n) [] h = h
 sorted_drop (suc n) (e ∷ es) h = sorted_drop n es (T_from_true _ (and_parts (below_all path_cmp e.0 es) (is_sorted path_cmp es) (true_from_T _ h)).1)
 
 -- where a path is past one entry, it is past all before that one
-pub skip : {X : Type 0} (p : List (List ℕ)) (n : ℕ) (es : List (List (List ℕ) × X)) (d : List (List ℕ) × X) → T (is_sorted path_cmp es) → n < length es → is_past path_cmp p (get_or es n d) ≡ true → place path_cmp p es ≡ suc n + place path_cmp p (drop (suc n) es)
+pub skip : {X : Type 0} (p : List (List ℕ)) (n : ℕ) (es : List (List (List ℕ) × X)) (d : List (List ℕ) × X) → T (is_sorted path_cmp es) → n < length es → is_past path_cmp p (get_or es n d) ≡ true → insertion_point path_cmp p es ≡ suc n + insertion_point path_cmp p (drop (suc n) es)
 skip p n [] d h lt past = absurd (omega arith)
-skip p zero (e ∷ es) d h lt past = ap (λ b. cond b (suc (place path_cmp p es)) 0) past ∙ sym (one_more (place path_cmp p es))
+skip p zero (e ∷ es) d h lt past = ap (λ b. cond b (suc (insertion_point path_cmp p es)) 0) past ∙ sym (one_more (insertion_point path_cmp p es))
 skip p (suc n) (e ∷ es) d h lt past =
     let x = and_parts (below_all path_cmp e.0 es) (is_sorted path_cmp es) (true_from_T _ h) in
     let shorter : n < length es = omega arith in
     let rest = skip p n es d (T_from_true _ x.1) shorter past in
     let before = paths_total.trans e.0 (get_or es n d).0 p (below_at path_cmp e.0 es n d x.0 shorter) (before_past p (get_or es n d).0 (is_greater _ past)) in
     let here : is_past path_cmp p e ≡ true = ap is_gt (paths_total.antisymm p e.0 ∙ ap ordering_reverse before) in
-    let sum : suc (place path_cmp p es) ≡ suc (suc n) + place path_cmp p (drop (suc n) es) = omega arith in
-    ap (λ b. cond b (suc (place path_cmp p es)) 0) here ∙ sum
+    let sum : suc (insertion_point path_cmp p es) ≡ suc (suc n) + insertion_point path_cmp p (drop (suc n) es) = omega arith in
+    ap (λ b. cond b (suc (insertion_point path_cmp p es)) 0) here ∙ sum
 
 module _ {C : Type 0} where
   -- an entry of a lower list that stands before stays before
@@ -187,12 +187,12 @@ module _ {C : Type 0} where
   step_at u us es n = take n es ++ laid_first u (drop n es) ∷ over us (drop (count_hidden u (drop n es)) (drop n es))
 
   -- the lower entries before it, the first upper entry, and the other upper entries over what it does not hide
-  pub step : (u : List (List ℕ) × Marked C) (us es : MarkedEntries C) → T (below_all path_cmp u.0 us) → T (is_sorted path_cmp es) → over (u ∷ us) es ≡ step_at u us es (place path_cmp u.0 es)
+  pub step : (u : List (List ℕ) × Marked C) (us es : MarkedEntries C) → T (below_all path_cmp u.0 us) → T (is_sorted path_cmp es) → over (u ∷ us) es ≡ step_at u us es (insertion_point path_cmp u.0 es)
   step u us [] below h = step_first u us [] below refl h
   step u us (e ∷ es) below h =
       let x = and_parts (below_all path_cmp e.0 es) (is_sorted path_cmp es) (true_from_T _ h) in
       let rest = step u us es below (T_from_true _ x.1) in
-      elim (is_past path_cmp u.0 e) as (λ b. is_past path_cmp u.0 e ≡ b → over us (lay u (e ∷ es)) ≡ step_at u us (e ∷ es) (cond b (suc (place path_cmp u.0 es)) 0)) [
+      elim (is_past path_cmp u.0 e) as (λ b. is_past path_cmp u.0 e ≡ b → over us (lay u (e ∷ es)) ≡ step_at u us (e ∷ es) (cond b (suc (insertion_point path_cmp u.0 es)) 0)) [
         | true ↦ λ t.
             let past = is_greater _ t in
             ap (over us) (lay_past u e es past)

@@ -8,8 +8,8 @@ use Rattle.std.specs.FinMap.{find}
 use Rattle.std.specs.FinMap.Entries.{below_all}
 use Rattle.ext_text.specs.Name.{bytes_cmp}
 use Rattle.ext_text.specs.Path.{path_cmp, is_prefix}
-use Rattle.ext_text.proofs.Facts.{true_from_T, is_less}
-use Rattle.ext_text.proofs.PathPrefixes.{same_name, tied_name, same_path, prefix_order}
+use Rattle.ext_text.proofs.ForCallers.{true_from_T, is_less}
+use Rattle.ext_text.proofs.ForCallers.{same_name, tied_name, same_path, prefix_order}
 use Rattle.ext_layer.specs.Overlay.{some_prefix}
 
 -- a list whose keys all come after a path has none of its prefixes

@@ -19,11 +19,7 @@ pub(crate) struct Item<'a, C> {
 fn cuts_below<C>(entry: &Entry<C>) -> bool
     ensures { result ≡ cuts_below (Some entry.now) }
 {
-    match entry {
-        Entry::Dir(_mode) => false,
-        Entry::File(_mode, _content) => true,
-        Entry::Link(_target) => true,
-    }
+    !entry.is_directory()
 }
 
 // The items of a single layer.

@@ -2,7 +2,7 @@
 ghost use Rattle.std.specs.Prelude.{◌≡◌, ◌+◌, ◌≤◌, ◌++◌, drop, length, IfOk, OnOk, IsTrue};
 ghost use Rattle.std.specs.FinMap.{is_sorted};
 ghost use Rattle.ext_text.specs.Path.{path_cmp};
-ghost use Rattle.ext_tree.specs.Place.{is_past, place};
+ghost use Rattle.ext_tree.specs.InsertionPoint.{insertion_point, is_past};
 ghost use Rattle.ext_layer.specs.Overlay.{count_hidden, cuts_at, first_at, hides, over, over_entry};
 ghost use Rattle.ext_layer.specs.Item.{all_seen, seen};
 
@@ -50,7 +50,7 @@ fn append<'a, C>(items: &mut Vec<Item<'a, C>>, more: &[Item<'a, C>]) -> Result<(
 // few upper items in a large lower list cost little.
 fn insertion_point<C>(lower: &[Item<C>], upper: &Item<C>) -> usize
     requires { IsTrue (is_sorted path_cmp (all_seen lower.now)) }
-    ensures count { result ≡ place path_cmp (seen upper.now).0 (all_seen lower.now) }
+    ensures count { result ≡ insertion_point path_cmp (seen upper.now).0 (all_seen lower.now) }
     ensures within { result ≤ length lower.now }
 {
     let mut passed = 0;
@@ -68,7 +68,7 @@ fn insertion_point<C>(lower: &[Item<C>], upper: &Item<C>) -> usize
 fn passes_stride<C>(lower: &[Item<C>], upper: &Item<C>) -> bool
     requires { IsTrue (is_sorted path_cmp (all_seen lower.now)) }
     ensures within { IsTrue result → STRIDE ≤ length lower.now }
-    ensures passed { IsTrue result → place path_cmp (seen upper.now).0 (all_seen lower.now) ≡ STRIDE + place path_cmp (seen upper.now).0 (all_seen (drop STRIDE lower.now)) }
+    ensures passed { IsTrue result → insertion_point path_cmp (seen upper.now).0 (all_seen lower.now) ≡ STRIDE + insertion_point path_cmp (seen upper.now).0 (all_seen (drop STRIDE lower.now)) }
 {
     match lower.get(STRIDE - 1) {
         Some(last) => is_past(upper, last),
@@ -78,7 +78,7 @@ fn passes_stride<C>(lower: &[Item<C>], upper: &Item<C>) -> bool
 
 // How many of the lower items stand before the upper one, by a comparison for each.
 fn insertion_near<C>(lower: &[Item<C>], upper: &Item<C>) -> usize
-    ensures count { result ≡ place path_cmp (seen upper.now).0 (all_seen lower.now) }
+    ensures count { result ≡ insertion_point path_cmp (seen upper.now).0 (all_seen lower.now) }
     ensures within { result ≤ length lower.now }
 {
     'near: for (index, item) in lower.iter().enumerate() {

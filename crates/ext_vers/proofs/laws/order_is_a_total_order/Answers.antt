@@ -1,5 +1,5 @@
-use Rattle.ext_vers.proofs.Laws.{order_exact, order_total}
-use Rattle.ext_vers.proofs.comparing.order_is_a_total_order.Goals as goal
+use Rattle.ext_vers.proofs.LawsLemmas.{order_exact, order_total}
+use Rattle.ext_vers.proofs.laws.order_is_a_total_order.Goals as goal
 
 pub returns-clause-total : goal.returns-clause-total
 returns-clause-total c = order_total

@@ -14,7 +14,7 @@ use Rattle.std.proofs.lemmas.Bool.{cases_lt, cases_Bool, eqb-true}
 use Rattle.std.proofs.lemmas.Bool.Decides.{nat_tests}
 use Rattle.std.proofs.lemmas.List.Elements.{All-head, All-tail}
 use Rattle.std.proofs.lemmas.Str.{digit_value_digit}
-use Rattle.ext_vers.specs.Scan.{after}
+use Rattle.ext_vers.specs.Token.{after}
 
 -- each byte is one of `0` to `9`
 abbrev pub Digits : List ℕ → Type 0
@@ -53,7 +53,7 @@ nonzero a y e h = grind (arith, nat_tests)
 is_digit : (x : ℕ) → is_ascii_digit x ≡ true → (48 ≤ x) × (x ≤ 57)
 is_digit x h = grind (arith, nat_tests)
 
--- as many digits behind a larger number write a larger one
+-- as many digits after a larger number write a larger one
 pub larger : (xs ys : List ℕ) (m n : ℕ) → Digits xs → Digits ys → length xs ≡ length ys → m < n → digits_value_after 10 m xs < digits_value_after 10 n ys
 larger [] [] m n dx dy e h = h
 larger [] (y ∷ ys) m n dx dy e h = absurd (omega arith)
@@ -61,7 +61,7 @@ larger (x ∷ xs) [] m n dx dy e h = absurd (omega arith)
 larger (x ∷ xs) (y ∷ ys) m n dx dy e h =
     larger xs ys (m * 10 + digit_value x) (n * 10 + digit_value y) dx.3 dy.3 (omega arith) (step m n (digit_value x) x (digit_value y) y dx.0 dx.2 dy.0 h)
 
--- digits behind a number that is not 0 write more than fewer digits, or as many, do
+-- digits after a number that is not 0 write more than fewer digits, or as many, do
 pub longer : (xs ys : List ℕ) (m : ℕ) → Digits xs → Digits ys → 0 < m → length ys ≤ length xs → digits_value_after 10 0 ys < digits_value_after 10 m xs
 longer [] [] m dx dy h le = h
 longer [] (y ∷ ys) m dx dy h le = absurd (omega arith)
@@ -90,7 +90,7 @@ same_length (x ∷ xs) (y ∷ ys) n dx dy e =
       ]
     ]
 
--- a zero in front changes no number
+-- a leading zero changes no number
 pub value_after_zeros : (xs : List ℕ) → digits_value 10 (after (λ b. eqb b 48) xs) ≡ digits_value 10 xs
 value_after_zeros [] = refl
 value_after_zeros (x ∷ xs) =
@@ -136,7 +136,7 @@ digits_from_pass (x ∷ xs) h =
     let within : (48 ≤ x) × (x ≤ 57) = is_digit x (All-head (λ b. is_ascii_digit b ≡ true) x xs h) in
     (digit_value_digit x within, within.0, within.1, digits_from_pass xs (All-tail (λ b. is_ascii_digit b ≡ true) x xs h))
 
--- what `number_cmp` answers
+-- the order of numbers by their digits without leading zeros
 pub numbers : (a b : List ℕ) → AllPass is_ascii_digit a → AllPass is_ascii_digit b → ordering_then (nat_cmp (length (after (λ c. eqb c 48) a)) (length (after (λ c. eqb c 48) b))) (slice_cmp nat_cmp (after (λ c. eqb c 48) a) (after (λ c. eqb c 48) b)) ≡ nat_cmp (digits_value 10 a) (digits_value 10 b)
 numbers a b da db =
     rw (← value_after_zeros a, ← value_after_zeros b)
