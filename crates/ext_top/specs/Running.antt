@@ -5,8 +5,7 @@ use Rattle.std.specs.Io.KnownBytes.{Appends}
 use Rattle.ext_text.specs.Causes.{Rose}
 use Rattle.ext_io.specs.SourceState.{SourceState}
 use Rattle.ext_io.specs.SinkState.{SinkState}
-use Rattle.ext_io.specs.Whole.{ReadsAll, Took}
-use Rattle.ext_io.specs.ProperPrefix.{AppendsProperPrefix}
+use Rattle.ext_io.specs.Whole.{ReadsAll, Took, AppendsProperPrefix}
 use Rattle.ext_top.specs.Words.{Command, IsUsage, command_words}
 use Rattle.ext_top.specs.Step.{Replies, reads_source, takes_memory}
 use Rattle.ext_top.specs.Outcome.{status_of, reply_of}
