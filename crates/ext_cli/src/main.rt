@@ -74,7 +74,7 @@ fn run_command(rt: &HostRuntime, command: &[String]) -> Result<Status, OutOfMemo
     Ok(run(rt.alloc(), &words, &mut source, &mut sink))
 }
 
-// Prints the line of a status from 2 on. A fault in printing it is ignored: the number tells the same.
+// Prints the line of a status from 2 on. A fault in printing it is ignored: the number tells as much.
 fn report(rt: &HostRuntime, status: &Status) {
     let _ = match status {
         Status::Done | Status::Refused(_) => Ok(()),
