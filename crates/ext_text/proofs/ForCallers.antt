@@ -26,6 +26,8 @@ pub use Rattle.ext_text.proofs.PrefixLemmas.{same_path, tied_path}
 pub use Rattle.ext_text.proofs.PrefixLemmas.{some_name}
 -- prefixes: of itself, of a prefix, of each other, and of so many names
 pub use Rattle.ext_text.proofs.PrefixLemmas.{prefix_self, prefix_trans, prefix_both, prefix_take, take_prefix}
+-- a prefix is the first names, a proper one those and shorter than the whole
+pub use Rattle.ext_text.proofs.PrefixLemmas.{prefix_first, proper_first}
 -- how long a prefix is; one as long as the whole is the whole
 pub use Rattle.ext_text.proofs.PrefixLemmas.{prefix_short, prefix_whole, prefix_shorter}
 -- prefixes in path order: each before the whole, and between a prefix and a path all begin with the prefix

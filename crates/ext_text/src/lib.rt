@@ -10,6 +10,7 @@ mod arch;
 mod class;
 mod digest;
 mod joining;
+pub mod laws;
 mod list;
 mod mode;
 mod name;
