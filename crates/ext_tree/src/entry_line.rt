@@ -10,9 +10,6 @@ use ext_lines::OutOfMemory;
 use ext_text::{Path, PathErr, Text};
 use std::alloc::Global;
 
-#[cfg(test)]
-mod tests;
-
 /// Contents of files that a line holds.
 pub trait LineContent: Sized {
     /// Which contents a line holds, and as which fields.
