@@ -14,7 +14,7 @@ use Rattle.ext_text.specs.Order.{paths_exact, paths_total}
 use Rattle.ext_text.proofs.ForCallers.{true_from_T, is_less, is_greater}
 use Rattle.ext_text.proofs.ForCallers.{same_path, tied_path, prefix_self, prefix_order, convex}
 use Rattle.ext_tree.specs.InsertionPoint.{insertion_point, is_past}
-use Rattle.ext_tree.proofs.InsertionPointLemmas.{below_at}
+use Rattle.ext_tree.proofs.ForCallers.{below_at}
 use Rattle.ext_layer.specs.Overlay.{Marked, MarkedEntries, cuts_at, hides, over_entry, first_at, lay, over, count_hidden}
 use Rattle.ext_layer.proofs.Prefixes.{not_found}
 
