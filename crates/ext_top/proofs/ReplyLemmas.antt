@@ -1,6 +1,6 @@
 -- The reply to a source is one.
 use Rattle.std.proofs.Common.{◌≡◌, ◌<◌, ◌≤◌, ℕ, List, length, refl, sym, ap, ◌∙◌, subst, arith, inl, inr}
-use Rattle.std.specs.Prelude.{◌⊎◌, reverse, Some, None}
+use Rattle.std.specs.Prelude.{◌⊎◌, reverse, None}
 use Rattle.ext_text.specs.declared.which.Which.TheVariants as limits
 use Rattle.ext_tree.specs.Tree.{Entries, most_entries}
 use Rattle.ext_tree.specs.TreeText.{tree_text}

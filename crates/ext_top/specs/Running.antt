@@ -1,6 +1,6 @@
 -- How a run ends, by its status: what it took from the source, what it wrote, and which fault it may blame. All of it is
 -- said over the step of any command.
-use Rattle.std.specs.Prelude.{◌≡◌, ℕ, ◌+◌, ◌≤◌, ◌⊎◌, Bool, true, false, IsTrue, List, [], length, Option, Some}
+use Rattle.std.specs.Prelude.{◌≡◌, ℕ, ◌+◌, ◌≤◌, ◌⊎◌, Bool, true, false, IsTrue, List, [], length, Some}
 use Rattle.std.specs.Io.KnownBytes.{Appends}
 use Rattle.ext_text.specs.Causes.{Rose}
 use Rattle.ext_io.specs.SourceState.{SourceState}
