@@ -5,6 +5,7 @@ pub mod OrderLemmas
 pub mod FollowingLemmas
 pub mod StandsAfterLemmas
 pub mod WritingLemmas
+pub mod AppendLemmas
 pub mod FieldsLemmas
 pub mod EntryLineLemmas
 pub mod TreeLineLemmas
