@@ -12,6 +12,21 @@ l 21 ../usr/lib/os-release etc/os-release
 end
 ";
 
+// A text of version 2, and its entries as they show.
+const HIDING: &[u8] = b"hostext-tree 2
+o 700 a
+d 755 a/b
+w c
+end
+";
+
+const SHOWN: &[u8] = b"hostext-tree 2
+d 700 a
+d 755 a/b
+w c
+end
+";
+
 // A path, whether an entry of SMALL stands there, and why none may be put there.
 const REFUSED: [(&[u8], bool, TreeErr); 6] = [
     (b"", false, TreeErr::Exists),
@@ -91,6 +106,12 @@ fn a_tree_is_written_as_it_was_read(rt: HostRuntime) -> Result<(), Fail> {
     assert!(rt; file.is_file() && !file.is_directory());
     assert_eq!(rt; written(alloc, copied(alloc, tree)?.as_slice())?.bytes(), SMALL);
     assert!(rt; is_text(alloc, &Tree::new(alloc), b"hostext-tree 1\nend\n")?);
+    let hiding = read_tree(alloc, HIDING)?;
+    assert!(rt; is_text(alloc, &hiding, HIDING)?);
+    assert_eq!(rt; written(alloc, hiding.pairs())?.bytes(), SHOWN);
+    let (_path, opaque) = hiding.at(0).ok_or("an opaque directory")?;
+    assert!(rt; opaque.is_opaque() && opaque.is_directory() && !opaque.is_hide());
+    assert_eq!(rt; written(alloc, copied(alloc, hiding)?.as_slice())?.bytes(), SHOWN);
     laws::every_prefix_is_a_directory::<Stamp>();
     laws::one_tree_of_text();
     laws::one_text_of_tree();

@@ -10,12 +10,18 @@ const EMPTY: &[u8] = b"e3b0c44298fc1c149afbf4c8996fb92427ae41e4649b934ca495991b7
 #[derive(Clone, Copy)]
 enum Want {
     Dir(u16),
+    Opaque(u16),
     File(u16, u64),
     Link(&'static [u8]),
+    Hide,
 }
 
 // Lines of entries, with their paths. The digest of each file is that of no bytes.
-const LINES: [(&[u8], &[u8], Want); 15] = [
+const LINES: [(&[u8], &[u8], Want); 19] = [
+    (b"o 755 usr", b"usr", Want::Opaque(0o755)),
+    (b"o 0 o 0 a", b"o 0 a", Want::Opaque(0)),
+    (b"w usr/a", b"usr/a", Want::Hide),
+    (b"w 755 a b", b"755 a b", Want::Hide),
     (b"d 755 usr", b"usr", Want::Dir(0o755)),
     (b"d 0 a", b"a", Want::Dir(0)),
     (b"d 7 a", b"a", Want::Dir(0o7)),
@@ -46,7 +52,14 @@ const LINES: [(&[u8], &[u8], Want); 15] = [
 ];
 
 // Lines of no entry.
-const OTHERS: [&[u8]; 40] = [
+const OTHERS: [&[u8]; 47] = [
+    b"o",
+    b"o 755",
+    b"o 8 a",
+    b"w",
+    b"w ",
+    b"w /a",
+    b"wa",
     b"",
     b"end",
     b"d",
@@ -90,7 +103,10 @@ const OTHERS: [&[u8]; 40] = [
 ];
 
 // Lines that may not stand after the lines of BEFORE, as line 4.
-const FAULTY: [&[u8]; 36] = [
+const FAULTY: [&[u8]; 39] = [
+    b"o 755 b",
+    b"w b",
+    b"hostext-tree 2",
     b"",
     b"hostext-tree 1",
     b" end",
@@ -134,7 +150,12 @@ const BEFORE: &[u8] = b"hostext-tree 1\nd 755 a\nl 1 b a/f\n";
 const AFTER: &[u8] = b"\nd 755 z\nend\n";
 
 // Texts, with the number of trees of their sequence or its first faulty line.
-const SEQUENCES: [(&[u8], Result<u64, u64>); 16] = [
+const SEQUENCES: [(&[u8], Result<u64, u64>); 20] = [
+    // Each text has its own version.
+    (b"hostext-tree 1\nend\nhostext-tree 2\nw a\nend\n", Ok(2)),
+    (b"hostext-tree 2\nend\nhostext-tree 2\nw a\nend\n", Err(2)),
+    (b"hostext-tree 1\nend\nhostext-tree 2\nend\n", Err(4)),
+    (b"hostext-tree 2\nw a\nend\nhostext-tree 1\nw a\nend\n", Err(5)),
     // A sequence has one text at least.
     (b"", Err(1)),
     (b"\n", Err(1)),
@@ -157,7 +178,24 @@ const SEQUENCES: [(&[u8], Result<u64, u64>); 16] = [
 ];
 
 // Texts, with the number of entries of their tree or its first faulty line.
-const TEXTS: [(&[u8], Result<u64, u64>); 15] = [
+const TEXTS: [(&[u8], Result<u64, u64>); 31] = [
+    // Version 2 has a line `o` or `w`, and only version 2.
+    (b"hostext-tree 2\nw usr\nend\n", Ok(1)),
+    (b"hostext-tree 2\nd 755 a\nw b\nend\n", Ok(2)),
+    (b"hostext-tree 2\nd 755 a\no 700 b\nend\n", Ok(2)),
+    (b"hostext-tree 2\no 755 a\nl 1 b a/b\nend\n", Ok(2)),
+    (b"hostext-tree 2\nd 755 usr\nend\n", Err(3)),
+    (b"hostext-tree 2\nend\n", Err(2)),
+    (b"hostext-tree 2\nend", Err(2)),
+    (b"hostext-tree 2\nd 755 usr\n", Err(3)),
+    (b"hostext-tree 2\nd 755 usr\nx\nend\n", Err(3)),
+    (b"hostext-tree 1\nw a\nend\n", Err(2)),
+    (b"hostext-tree 1\no 755 a\nend\n", Err(2)),
+    (b"hostext-tree 3\nw a\nend\n", Err(1)),
+    (b"hostext-tree 2\nw a\nd 755 a/b\nend\n", Err(3)),
+    (b"hostext-tree 2\nw a\nw a\nend\n", Err(3)),
+    (b"hostext-tree 2\nw b\nw a\nend\n", Err(3)),
+    (b"hostext-tree 2\nw a\nend\nx", Err(4)),
     (b"hostext-tree 1\nend\n", Ok(0)),
     (b"hostext-tree 1\nd 755 usr\nd 755 usr/bin\nl 3 bin usr/sbin\nend\n", Ok(3)),
     (b"hostext-tree 1\nf 644 0 e3b0c44298fc1c149afbf4c8996fb92427ae41e4649b934ca495991b7852b855 a\nend\n", Ok(1)),
@@ -205,6 +243,8 @@ fn is_read_as(alloc: Global, line: &[u8], path: &[u8], want: &Want) -> Result<bo
 fn is_wanted(entry: &Entry<Stamp>, want: &Want) -> bool {
     match (entry, want) {
         (Entry::Dir(mode), Want::Dir(bits)) => mode.bits() == *bits,
+        (Entry::Opaque(mode), Want::Opaque(bits)) => mode.bits() == *bits,
+        (Entry::Hide, Want::Hide) => true,
         (Entry::File(mode, stamp), Want::File(bits, size)) => {
             mode.bits() == *bits && stamp.size == *size && stamp.digest.digits().as_slice() == EMPTY
         }
