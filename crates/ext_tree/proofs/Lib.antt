@@ -11,6 +11,7 @@ pub mod TreeLineLemmas
 pub mod TreeTextLemmas
 pub mod ReadingLemmas
 pub mod SequenceLemmas
+pub mod IdleLemmas
 pub mod FirstFaultLemmas
 pub mod StopLemmas
 pub mod LawsLemmas

