@@ -2,7 +2,7 @@
 -- visible, or what lower layers have is hidden, or nothing is there and what they have comes through. The first layer
 -- that says something decides. A mark says that the entry cuts: nothing of lower layers comes through below it. A file
 -- and a link cut, and so does a directory that lies over an entry that cuts.
-use Rattle.std.specs.Prelude.{◌≡◌, ℕ, Bool, true, false, if◌then◌else◌, not, ◌&&◌, ◌||◌, List, [], ◌∷◌, map, Option, Some, None}
+use Rattle.std.specs.Prelude.{ℕ, Bool, true, false, if◌then◌else◌, not, ◌||◌, List, [], ◌∷◌, map, Option, Some, None}
 use Rattle.std.specs.FinMap.{find, put}
 use Rattle.std.specs.FinMap.Entries.{where_key}
 use Rattle.std.specs.List.{prefix_len}
