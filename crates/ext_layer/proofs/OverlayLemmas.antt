@@ -1,6 +1,6 @@
 -- What marked lists say at each path: an upper list laid over a lower one says what the upper one says, and where
 -- nothing is there what the lower one says.
-use Rattle.std.proofs.Common.{◌≡◌, ℕ, Bool, true, false, cond, not, ◌||◌, T, List, [], ◌∷◌, ◌++◌, Option, Some, None, refl, sym, ap, ◌∙◌, subst}
+use Rattle.std.proofs.Common.{◌≡◌, ℕ, Bool, true, false, cond, not, ◌||◌, T, List, [], ◌∷◌, Option, Some, None, refl, sym, ap, ◌∙◌, subst}
 use Rattle.std.proofs.Math.Bool.{or-false}
 use Rattle.std.proofs.lemmas.Bool.{false≢true, false_from_ne_true, and_parts}
 use Rattle.std.proofs.lemmas.Float.{T_from_true}
