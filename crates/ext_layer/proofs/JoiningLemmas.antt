@@ -1,7 +1,7 @@
 -- What a list of layers says at each path: what is visible there, and what the lists of two parts say in turn.
 use Rattle.std.proofs.Common.{◌≡◌, ℕ, ◌<◌, Bool, true, false, cond, not, ◌&&◌, List, [], ◌∷◌, ◌++◌, length, map, take, drop, Option, Some, None, is_some, refl, sym, ap, ◌∙◌, subst, arith}
 use mathlib.Core.Logic.{inl, inr}
-use Rattle.std.proofs.lemmas.Bool.{false≢true, and_parts, and_from, false_from_ne_true, not_from_false}
+use Rattle.std.proofs.lemmas.Bool.{false≢true, and_parts, and_from, not-true, false_from_ne_true, not_from_false}
 use Rattle.std.proofs.lemmas.Float.{T_from_true}
 use Rattle.std.proofs.lemmas.List.{take-append-drop}
 use Rattle.std.specs.Option.{option_map}
@@ -19,7 +19,7 @@ use Rattle.ext_layer.specs.Layered.{CutsOff, IsVisible, cuts_below}
 use Rattle.ext_layer.specs.declared.item.Item.{Item}
 use Rattle.ext_layer.specs.Item.{all_seen}
 use Rattle.ext_layer.specs.Joining.{Joins, layers_overlay}
-use Rattle.ext_layer.specs.Overlay.{Marked, MarkedEntries, Overlay, visible, hidden, absent, first_of_two, some_prefix, cuts_at, overlay_of, overlay_at, marked, said_by, visible_in, with_mark, over}
+use Rattle.ext_layer.specs.Overlay.{Marked, MarkedEntries, Overlay, visible, hidden, absent, first_of_two, some_prefix, cuts_at, overlay_of, overlay_at, marked, visible_in, with_mark, over}
 use Rattle.ext_layer.proofs.Prefixes.{not_found, some_prefix-none, some_prefix-at}
 use Rattle.ext_layer.proofs.OverlayLemmas.{first_assoc, none_overlay, over_overlay, sorted_over}
 

@@ -1,5 +1,5 @@
 -- The laws of layered trees.
-use Rattle.std.proofs.Common.{◌≡◌, ℕ, zero, ◌<◌, ◌≤◌, Bool, true, false, cond, not, ◌&&◌, List, [], ◌∷◌, ◌++◌, length, Option, Some, None, is_some, refl, sym, ap, ◌∙◌, subst, arith}
+use Rattle.std.proofs.Common.{◌≡◌, ℕ, zero, true, false, cond, not, List, [], ◌∷◌, ◌++◌, Option, Some, None, is_some, refl, sym, ap, ◌∙◌, subst, arith}
 use Rattle.std.proofs.lemmas.Bool.{false≢true, and_parts}
 use Rattle.std.proofs.lemmas.Float.{T_from_true}
 use Rattle.std.proofs.lemmas.List.Elements.{Contains-append_right}
@@ -11,13 +11,12 @@ use Rattle.ext_text.specs.Path.{path_cmp}
 use Rattle.ext_text.specs.Order.{paths_exact, paths_total}
 use Rattle.ext_text.proofs.ForCallers.{all_back}
 use Rattle.ext_text.proofs.ForCallers.{same_path, tied_path, prefix_self}
-use Rattle.ext_tree.specs.Tree.{Entries, as_shown, is_file, is_hide, is_opaque, lookup, most_entries}
+use Rattle.ext_tree.specs.Tree.{Entries, as_shown, is_file, is_hide, is_opaque, lookup}
 use Rattle.ext_tree.specs.EntryLine.{IsWritable}
 use Rattle.ext_tree.specs.TreeText.{HasText, stamp_form}
 use Rattle.ext_tree.specs.declared.entry.Entry.{Entry}
 use Rattle.ext_tree.specs.declared.entry.Entry.TheVariants.{Dir, Opaque, File, Link, Hide}
 use Rattle.ext_tree.specs.declared.stamp.Stamp.{Stamp}
-use Rattle.ext_layer.specs.Layered.{IsLayered, IsVisible}
 use Rattle.ext_layer.specs.Laws.{EntriesAreOfLayers, FilesAreOfLayers, IsOfLayer, LayeredHasText, NothingHides, OneLayeredTree}
 use Rattle.ext_layer.proofs.Prefixes.{not_found}
 

@@ -1,7 +1,7 @@
 -- What is visible of trees is a tree.
 use Rattle.std.proofs.Common.{◌≡◌, ℕ, ◌<◌, ◌≤◌, Bool, true, false, cond, not, List, [], ◌∷◌, ◌++◌, length, map, take, get_or, ◌+◌, Option, Some, None, is_some, refl, sym, ap, ◌∙◌, subst, arith}
 use mathlib.Core.Logic.{inl, inr}
-use Rattle.std.proofs.lemmas.Bool.{false≢true, and_parts, and_from, not-true, not-false, false_from_ne_true, not_from_false}
+use Rattle.std.proofs.lemmas.Bool.{false≢true, and_parts, and_from, not-true, false_from_ne_true, not_from_false}
 use Rattle.std.proofs.lemmas.List.{length-map, map-append, take_more}
 use Rattle.std.specs.Option.{option_map}
 use Rattle.std.specs.Borrow.{Bor}
@@ -10,15 +10,15 @@ use Rattle.std.specs.FinMap.{find, is_sorted}
 use Rattle.ext_text.specs.Path.{path_cmp, is_prefix, parent, is_proper_prefix}
 use Rattle.ext_text.proofs.ForCallers.{all_back}
 use Rattle.ext_text.proofs.ForCallers.{some_name, prefix_both, prefix_trans, parent_prefix, parent_other}
-use Rattle.ext_tree.specs.Tree.{Entries, IsTree, lookup, as_shown, is_directory, is_directory_at, is_hide, is_opaque, is_directory_or_root, most_entries}
+use Rattle.ext_tree.specs.Tree.{Entries, IsTree, lookup, as_shown, is_directory, is_directory_at, is_hide, is_directory_or_root, most_entries}
 use Rattle.ext_tree.specs.declared.entry.Entry.{Entry}
 use Rattle.ext_tree.specs.declared.entry.Entry.TheVariants.{Dir, Opaque, File, Link, Hide}
 use Rattle.ext_layer.specs.Layered.{CutsOff, IsLayered, IsVisible, cuts_below}
 use Rattle.ext_layer.specs.declared.item.Item.{Item}
 use Rattle.ext_layer.specs.Item.{seen, all_seen, all_shown}
 use Rattle.ext_layer.specs.Joining.{Joins, layers_overlay}
-use Rattle.ext_layer.specs.Overlay.{Marked, MarkedEntries, Overlay, visible, hidden, absent, first_of_two, some_prefix, cuts_at, overlay_of, overlay_at, marked, said_by, visible_in, with_mark}
-use Rattle.ext_layer.proofs.JoiningLemmas.{is_sorted-map, is_sorted-filter, no_hide, shown, seen_of, passing, find_marked, lookup_visible, open_above, open_absent, visible_found, found_visible, overlay_from_visible, visible_from_overlay}
+use Rattle.ext_layer.specs.Overlay.{Marked, MarkedEntries, Overlay, visible, hidden, absent, first_of_two, some_prefix, cuts_at, overlay_of, overlay_at, marked, visible_in, with_mark}
+use Rattle.ext_layer.proofs.JoiningLemmas.{is_sorted-map, is_sorted-filter, no_hide, shown, seen_of, find_marked, lookup_visible, open_above, open_absent, visible_found, found_visible, overlay_from_visible, visible_from_overlay}
 
 parent_above : (p : List (List ℕ)) → (p ≡ [] → ⊥) → is_proper_prefix (parent p) p ≡ true
 parent_above p below =

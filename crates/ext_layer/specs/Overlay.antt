@@ -3,7 +3,7 @@
 -- that says something decides. A mark says that the entry cuts: nothing of lower layers comes through below it. All cut
 -- but directories that are not opaque, and so does such a directory that lies over an entry that cuts. A whiteout hides
 -- what lies under it, and stays in the list to do so.
-use Rattle.std.specs.Prelude.{◌≡◌, ℕ, Bool, true, false, if◌then◌else◌, not, ◌&&◌, ◌||◌, List, [], ◌∷◌, map, Option, Some, None}
+use Rattle.std.specs.Prelude.{ℕ, Bool, true, false, if◌then◌else◌, not, ◌||◌, List, [], ◌∷◌, map, Option, Some, None}
 use Rattle.std.specs.FinMap.{find, put}
 use Rattle.std.specs.FinMap.Entries.{where_key}
 use Rattle.std.specs.List.{filter, prefix_len}
