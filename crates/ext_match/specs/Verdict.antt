@@ -10,7 +10,7 @@ use Rattle.ext_text.specs.Scope.{scope_name}
 use Rattle.ext_text.specs.declared.arch.Arch.{Arch}
 use Rattle.ext_text.specs.declared.class.Class.{Class}
 use Rattle.ext_text.specs.declared.scope.Scope.{Scope}
-use Rattle.ext_release.specs.Words.{has_word}
+use Rattle.ext_lines.specs.Words.{has_word}
 use Rattle.ext_match.specs.Class.{level_key, scope_key}
 use Rattle.ext_match.specs.declared.verdict.Verdict.{Verdict}
 use Rattle.ext_match.specs.declared.verdict.Verdict.TheVariants as verdicts

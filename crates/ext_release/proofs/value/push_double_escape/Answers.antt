@@ -1,7 +1,7 @@
 use Rattle.std.proofs.Common.{◌++◌, ◌∙◌, List, ℕ, arith, ap, get_or, lit<, sym}
 use Rattle.std.specs.String.{string_bytes}
-use Rattle.ext_release.proofs.Quotes.{other_step, special_low, special_step}
-use Rattle.ext_release.proofs.value.push_escaped.Goals as goal
+use Rattle.ext_release.proofs.ValueLemmas.{other_step, special_low, special_step}
+use Rattle.ext_release.proofs.value.push_double_escape.Goals as goal
 
 pub returns-then-is_special-clause-escaped : goal.returns-then-is_special-clause-escaped
 returns-then-is_special-clause-escaped c =
