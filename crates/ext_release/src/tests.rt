@@ -1,10 +1,10 @@
 use crate::{Release, ReleaseErr, read_release};
 use std::alloc::Global;
-use std::process::Abort;
-use std::test::Fail;
 
 // What a key has in a file; an empty text stands for no value.
-const VALUES: [(&[u8], &str, &str); 49] = [
+type ValueRow = (&'static [u8], &'static str, &'static str);
+
+const VALUES: [ValueRow; 49] = [
     (ROW, "ID", "debian"),
     (ROW, "VERSION_ID", "1.3"),
     (ROW, "id", ""),
@@ -108,94 +108,136 @@ BUG_REPORT_URL=\"https://bugs.debian.org/\"
 ";
 
 // What a shell that has read it says.
-const DEBIAN_VALUES: [(&str, &str); 10] = [
-    ("PRETTY_NAME", "Debian GNU/Linux 12 (bookworm)"),
-    ("NAME", "Debian GNU/Linux"),
-    ("VERSION_ID", "12"),
-    ("VERSION", "12 (bookworm)"),
-    ("VERSION_CODENAME", "bookworm"),
-    ("ID", "debian"),
-    ("ID_LIKE", ""),
-    ("HOME_URL", "https://www.debian.org/"),
-    ("SUPPORT_URL", "https://www.debian.org/support"),
-    ("BUG_REPORT_URL", "https://bugs.debian.org/"),
+const DEBIAN_VALUES: [ValueRow; 10] = [
+    (DEBIAN, "PRETTY_NAME", "Debian GNU/Linux 12 (bookworm)"),
+    (DEBIAN, "NAME", "Debian GNU/Linux"),
+    (DEBIAN, "VERSION_ID", "12"),
+    (DEBIAN, "VERSION", "12 (bookworm)"),
+    (DEBIAN, "VERSION_CODENAME", "bookworm"),
+    (DEBIAN, "ID", "debian"),
+    (DEBIAN, "ID_LIKE", ""),
+    (DEBIAN, "HOME_URL", "https://www.debian.org/"),
+    (DEBIAN, "SUPPORT_URL", "https://www.debian.org/support"),
+    (DEBIAN, "BUG_REPORT_URL", "https://bugs.debian.org/"),
 ];
 
 const LISTS: &[u8] =
     b"PORTABLE_PREFIXES=\"a b\"\nMANY=' \t one\t\ttwo  three \t'\nBLANK=\" \"\nONE=one\n";
 
-// The words of a key's value; the last is a word that is not among them.
-const WORDS: [(&str, &[&str], &str); 5] = [
-    ("PORTABLE_PREFIXES", &["a", "b"], "a b"),
-    ("MANY", &["one", "two", "three"], "on"),
-    ("BLANK", &[], ""),
-    ("ONE", &["one"], "one "),
-    ("NONE", &[], "one"),
+// The words of a key's value.
+const WORDS: [(&str, &[&str]); 5] = [
+    ("PORTABLE_PREFIXES", &["a", "b"]),
+    ("MANY", &["one", "two", "three"]),
+    ("BLANK", &[]),
+    ("ONE", &["one"]),
+    ("NONE", &[]),
 ];
 
-fn check_value(rt: &impl Abort, release: &Release, key: &str, value: &str) {
-    if value.is_empty() {
-        assert!(rt; release.value(key).is_none(), "{key} has a value");
-    } else {
-        assert_eq!(rt; release.value(key), Some(value));
+// What is no word of a key's value.
+const NO_WORDS: [(&str, &str); 10] = [
+    ("PORTABLE_PREFIXES", "a b"),
+    ("PORTABLE_PREFIXES", ""),
+    ("MANY", "on"),
+    ("MANY", ""),
+    ("BLANK", " "),
+    ("BLANK", ""),
+    ("ONE", "one "),
+    ("ONE", ""),
+    ("NONE", "one"),
+    ("NONE", ""),
+];
+
+// Whether the key has the value in the file.
+fn has_value(alloc: Global, file: &[u8], key: &str, value: &str) -> bool {
+    match read_release(alloc, file) {
+        Ok(release) => release.value(key).unwrap_or("") == value,
+        Err(_) => false,
     }
 }
 
-fn check_words(
-    rt: &impl Abort,
-    release: &Release,
-    key: &str,
-    expected: &[&str],
-) -> Result<(), Fail> {
-    let words = release.words(key)?;
-    assert_eq!(rt; words.len(), expected.len());
+// The first row whose key has another value.
+fn wrong_value(alloc: Global, rows: &[ValueRow]) -> Option<usize> {
+    for (index, (file, key, value)) in rows.iter().enumerate() {
+        if !has_value(alloc, file, key, value) {
+            return Some(index);
+        }
+    }
+    None
+}
+
+// The number of the file's first faulty line, or 0.
+fn faulty_line(alloc: Global, file: &[u8]) -> u64 {
+    match read_release(alloc, file) {
+        Err(ReleaseErr::BadRelease { line }) => line,
+        _ => 0,
+    }
+}
+
+// The first row whose file has another first faulty line.
+fn wrong_fault(alloc: Global) -> Option<usize> {
+    for (index, (file, line)) in FAULTS.iter().enumerate() {
+        if faulty_line(alloc, file) != *line {
+            return Some(index);
+        }
+    }
+    None
+}
+
+// Whether the key's words are these, as a list and one by one.
+fn has_words(release: &Release, key: &str, expected: &[&str]) -> bool {
+    let Ok(words) = release.words(key) else {
+        return false;
+    };
     for (word, text) in words.as_slice().iter().zip(expected) {
-        assert_eq!(rt; word.bytes(), text.as_bytes());
-        assert!(rt; release.has_word(key, text));
+        if word.bytes() != text.as_bytes() || !release.has_word(key, text) {
+            return false;
+        }
     }
-    Ok(())
+    words.len() == expected.len()
 }
 
-fn fault(alloc: Global, file: &[u8]) -> Option<ReleaseErr> {
-    read_release(alloc, file).err()
+// The first row whose key has other words.
+fn wrong_words(release: &Release) -> Option<usize> {
+    for (index, (key, words)) in WORDS.iter().enumerate() {
+        if !has_words(release, key, words) {
+            return Some(index);
+        }
+    }
+    None
+}
+
+// The first row whose text is a word.
+fn wrong_word(release: &Release) -> Option<usize> {
+    for (index, (key, text)) in NO_WORDS.iter().enumerate() {
+        if release.has_word(key, text) {
+            return Some(index);
+        }
+    }
+    None
 }
 
 #[test]
-fn values_are_read_by_the_rules_of_lines_and_quotes(rt: HostRuntime) -> Result<(), Fail> {
-    for (file, key, value) in VALUES {
-        let release = read_release(rt.alloc(), file)?;
-        check_value(&rt, &release, key, value);
-    }
-    Ok(())
+fn values_are_read_by_the_rules_of_lines_and_quotes(rt: HostRuntime) {
+    assert_eq!(rt; wrong_value(rt.alloc(), &VALUES), None);
+}
+
+#[test]
+fn a_distribution_reads_as_in_a_shell(rt: HostRuntime) {
+    assert_eq!(rt; wrong_value(rt.alloc(), &DEBIAN_VALUES), None);
 }
 
 #[test]
 fn the_first_faulty_line_is_told(rt: HostRuntime) {
-    for (file, line) in FAULTS {
-        assert_eq!(rt;
-            fault(rt.alloc(), file),
-            Some(ReleaseErr::BadRelease { line }),
-            "{file:?}"
-        );
-    }
+    assert_eq!(rt; wrong_fault(rt.alloc()), None);
 }
 
 #[test]
-fn a_distribution_reads_as_in_a_shell(rt: HostRuntime) -> Result<(), Fail> {
-    let release = read_release(rt.alloc(), DEBIAN)?;
-    for (key, value) in DEBIAN_VALUES {
-        check_value(&rt, &release, key, value);
+fn words_stand_between_blanks(rt: HostRuntime) {
+    match read_release(rt.alloc(), LISTS) {
+        Ok(release) => {
+            assert_eq!(rt; wrong_words(&release), None);
+            assert_eq!(rt; wrong_word(&release), None);
+        }
+        Err(_) => assert!(rt; false, "no release"),
     }
-    Ok(())
-}
-
-#[test]
-fn words_stand_between_blanks(rt: HostRuntime) -> Result<(), Fail> {
-    let release = read_release(rt.alloc(), LISTS)?;
-    for (key, expected, other) in WORDS {
-        check_words(&rt, &release, key, expected)?;
-        assert!(rt; !release.has_word(key, other));
-        assert!(rt; !release.has_word(key, ""));
-    }
-    Ok(())
 }
