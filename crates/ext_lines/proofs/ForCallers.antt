@@ -1,5 +1,7 @@
 -- The lemmas on this crate's definitions that other crates cite.
 
+-- what holds at all holds at each error
+pub use Rattle.ext_lines.proofs.MemoryLemmas.{on_err}
 -- ---- splitting
 
 -- a byte is another than this one, as a test
@@ -18,6 +20,10 @@ pub use Rattle.ext_lines.proofs.SplitLemmas.{one_part, first_part, one_part_by, 
 pub use Rattle.ext_lines.proofs.SplitLemmas.{split_at_first, none_at_all, split_from_index}
 -- `split_of` is the split at the byte, and `None` where the text lacks it
 pub use Rattle.ext_lines.proofs.SplitLemmas.{split_of-split, split_of-lacks}
+-- ---- prefixes that were added at the end of a text
+
+-- none, one of a longer text, and one after a text that was added whole
+pub use Rattle.ext_lines.proofs.PrefixLemmas.{appends_nothing, appends_more, appends_after}
 -- ---- lines
 
 -- the lines of a text: one where no newline is, and the first at a newline

@@ -1,4 +1,6 @@
+pub mod MemoryLemmas
 pub mod SplitLemmas
+pub mod PrefixLemmas
 pub mod LinesLemmas
 pub mod PlainLemmas
 pub mod WordsLemmas

@@ -1,12 +1,12 @@
 -- A word is among the pieces that are not empty where it is among the pieces, since a word is not empty itself.
-use Rattle.std.proofs.Common.{◌≡◌, ℕ, suc, true, false, not, cond, eqb, List, [], ◌∷◌, length, refl, sym, ap, ◌∙◌, arith}
-use Rattle.std.specs.List.{filter, list_any, slice_split}
+use Rattle.std.proofs.Common.{◌≡◌, ℕ, suc, true, false, not, eqb, List, [], ◌∷◌, length, refl, sym, ap, ◌∙◌, arith}
+use Rattle.std.specs.List.{list_any, slice_split}
 use Rattle.std.specs.Str.{bytes_eq}
 use Rattle.std.proofs.lemmas.Bool.Decides.{nat_tests}
 use Rattle.std.proofs.lemmas.Map.Views.{any-filter_same}
 use mathlib.Core.Bool.{false≢true}
 use Rattle.ext_lines.specs.Blanks.{is_blank}
-use Rattle.ext_lines.specs.Words.{has_word, words_of}
+use Rattle.ext_lines.specs.Words.{has_word}
 
 more : (n : ℕ) → eqb (suc n) 0 ≡ false
 more n = grind (arith, nat_tests)
@@ -28,18 +28,3 @@ has_word-pieces word text some = sym (any-filter_same (bytes_eq word) (λ piece.
 -- the empty text is no word
 pub has_word-none : (word text : List ℕ) → eqb (length word) 0 ≡ true → has_word word text ≡ false
 has_word-none word text none = any-filter_same (bytes_eq word) (λ piece. not (eqb (length piece) 0)) false (λ piece same. no_piece word piece none same) (slice_split is_blank text)
-
--- a piece that isn't empty is the first word
-pub words-piece : (text piece after : List ℕ) → slice_split is_blank text ≡ piece ∷ slice_split is_blank after → eqb (length piece) 0 ≡ false → words_of text ≡ piece ∷ words_of after
-words-piece text [] after pieces some = absurd (false≢true (sym some))
-words-piece text (b ∷ piece) after pieces some = ap (filter (λ p. not (eqb (length p) 0))) pieces ∙ ap (λ t. cond (not t) ((b ∷ piece) ∷ words_of after) (words_of after)) (more (length piece))
-
--- an empty piece is no word
-pub words-empty : (text piece after : List ℕ) → slice_split is_blank text ≡ piece ∷ slice_split is_blank after → eqb (length piece) 0 ≡ true → words_of text ≡ words_of after
-words-empty text [] after pieces none = ap (filter (λ p. not (eqb (length p) 0))) pieces
-words-empty text (b ∷ piece) after pieces none = absurd (false≢true (sym (more (length piece)) ∙ none))
-
--- the last piece is a word, unless it is empty
-pub words-last : (text : List ℕ) → slice_split is_blank text ≡ text ∷ [] → eqb (length text) 0 ≡ false → words_of text ≡ text ∷ []
-words-last [] pieces some = absurd (false≢true (sym some))
-words-last (b ∷ text) pieces some = ap (filter (λ p. not (eqb (length p) 0))) pieces ∙ ap (λ t. cond (not t) ((b ∷ text) ∷ []) []) (more (length text))

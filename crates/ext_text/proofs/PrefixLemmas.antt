@@ -1,4 +1,4 @@
--- Fronts of paths: what a path begins with, where it stands in path order, and a path's parent.
+-- Prefixes of paths: what a path begins with, where it stands in path order, and a path's parent.
 use Rattle.std.proofs.Common.{◌≡◌, ◌≢◌, ℕ, zero, suc, ◌+◌, ◌-◌, ◌<◌, ◌≤◌, ◌&&◌, true, false, List, [], ◌∷◌, length, take, refl, sym, ap, ◌∙◌, subst, arith, length-take}
 use mathlib.Core.Logic.{inl, inr}
 use Rattle.std.proofs.lemmas.Bool.{false≢true, true≢false, and_parts, and_from, cases_lt}
@@ -9,10 +9,10 @@ use Rattle.std.specs.Ordering.{is_lt, is_gt, is_eq, ordering_then, ordering_reve
 use Rattle.std.specs.Cmp.{IsTotalOrder, tied_itself}
 use Rattle.std.specs.Cmp.Lexicographic.{pointwise, texts_ties, nat_list_cmp_total}
 use Rattle.std.specs.FinMap.{IsAntisymmetric, slice_cmp-IsAntisymmetric, nat_cmp-IsAntisymmetric}
-use Rattle.ext_text.specs.Name.{bytes_cmp}
+use Rattle.ext_lines.specs.ByteOrder.{bytes_cmp}
 use Rattle.ext_text.specs.Path.{path_cmp, parent, is_prefix}
 use Rattle.ext_text.specs.Order.{paths_total, paths_exact}
-use Rattle.ext_text.proofs.Facts.{is_equal}
+use Rattle.ext_text.proofs.OrderLemmas.{is_equal}
 
 -- ---- what ties is equal, and what is equal ties
 
@@ -41,9 +41,9 @@ some_name (n ∷ p) some = omega arith
 pub names_tied : (n : List ℕ) → bytes_cmp n n ≡ Equal
 names_tied n = tied_itself names_total n
 
--- ---- fronts
+-- ---- prefixes
 
--- a front is what the list begins with
+-- a prefix is what the list begins with
 pub is_prefix-starts_with : (p q : List (List ℕ)) → pointwise (pointwise nat_eq) p (take (length p) q) ≡ is_prefix p q
 is_prefix-starts_with [] [] = refl
 is_prefix-starts_with [] (m ∷ q) = refl
@@ -70,7 +70,7 @@ prefix_short (n ∷ p) (m ∷ q) prefix =
     let rest : length p ≤ length q = prefix_short p q (and_parts (eq_by_cmp bytes_cmp n m) (is_prefix p q) prefix).1 in
     omega arith
 
--- a front of the same length is the whole
+-- a prefix of the same length is the whole
 pub prefix_whole : (p q : List (List ℕ)) → is_prefix p q ≡ true → length p ≡ length q → p ≡ q
 prefix_whole [] [] prefix same = refl
 prefix_whole [] (m ∷ q) prefix same = absurd (omega arith)
@@ -81,17 +81,17 @@ prefix_whole (n ∷ p) (m ∷ q) prefix same =
     let rest : p ≡ q = prefix_whole p q parts.1 (omega arith) in
     λ i. name i ∷ rest i
 
--- each a front of the other, two paths are one
+-- each a prefix of the other, two paths are one
 pub prefix_both : (p q : List (List ℕ)) → is_prefix p q ≡ true → is_prefix q p ≡ true → p ≡ q
 prefix_both p q there back = prefix_whole p q there (omega (arith, prefix_short p q there, prefix_short q p back))
 
--- a front that is not the whole is shorter
+-- a prefix that is not the whole is shorter
 pub prefix_shorter : (p q : List (List ℕ)) → is_prefix p q ≡ true → p ≢ q → length p < length q
 prefix_shorter p q prefix other =
     let apart : length p ≢ length q = λ same. other (prefix_whole p q prefix same) in
     omega (arith, prefix_short p q prefix, apart)
 
--- a front is one of as many names of the path as it has, or more
+-- a prefix is one of as many names of the path as it has, or more
 pub prefix_take : (k : ℕ) (r q : List (List ℕ)) → is_prefix r q ≡ true → length r ≤ k → is_prefix r (take k q) ≡ true
 prefix_take k [] q prefix short = refl
 prefix_take k (n ∷ r) [] prefix short = absurd (false≢true prefix)
@@ -100,14 +100,15 @@ prefix_take (suc k) (n ∷ r) (m ∷ q) prefix short =
     let parts = and_parts (eq_by_cmp bytes_cmp n m) (is_prefix r q) prefix in
     and_from _ _ parts.0 (prefix_take k r q parts.1 (omega arith))
 
-take_prefix : (k : ℕ) (p : List (List ℕ)) → is_prefix (take k p) p ≡ true
+-- the first names are a prefix
+pub take_prefix : (k : ℕ) (p : List (List ℕ)) → is_prefix (take k p) p ≡ true
 take_prefix zero p = refl
 take_prefix (suc k) [] = refl
 take_prefix (suc k) (n ∷ p) = and_from _ _ (tied_name n n refl) (take_prefix k p)
 
--- ---- fronts in path order
+-- ---- prefixes in path order
 
--- a proper front comes before the whole
+-- a proper prefix comes before the whole
 pub prefix_less : (p q : List (List ℕ)) → is_prefix p q ≡ true → length p < length q → path_cmp p q ≡ Less
 prefix_less [] [] prefix short = absurd (omega arith)
 prefix_less [] (m ∷ q) prefix short = refl
@@ -116,7 +117,7 @@ prefix_less (n ∷ p) (m ∷ q) prefix short =
     let parts = and_parts (eq_by_cmp bytes_cmp n m) (is_prefix p q) prefix in
     ap (λ r. ordering_then r (path_cmp p q)) (is_equal _ parts.0) ∙ prefix_less p q parts.1 (omega arith)
 
--- no front comes after its path
+-- no prefix comes after its path
 pub prefix_order : (p q : List (List ℕ)) → is_prefix q p ≡ true → path_cmp p q ≡ Less → ⊥
 prefix_order p q prefix less = elim (cases_lt (length q) (length p)) [
   | inl proper ↦ true≢false (ap is_lt (sym less ∙ paths_total.antisymm p q ∙ ap ordering_reverse (prefix_less q p prefix proper)))
@@ -137,7 +138,7 @@ head_low Less s low = refl
 head_low Equal s low = refl
 head_low Greater s low = low
 
--- what stands from a front to a path begins with the front
+-- what stands from a prefix to a path begins with the prefix
 pub convex : (p q r : List (List ℕ)) → is_gt (path_cmp p q) ≡ false → is_gt (path_cmp q r) ≡ false → is_prefix p r ≡ true → is_prefix p q ≡ true
 convex [] q r low high prefix = refl
 convex (n ∷ p) [] r low high prefix = absurd (true≢false low)

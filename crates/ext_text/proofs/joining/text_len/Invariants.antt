@@ -1,6 +1,6 @@
 use Rattle.std.proofs.Common.{◌≡◌, ◌+◌, ◌*◌, ◌≤◌, take, length}
 use Rattle.std.specs.List.{sum_by}
-use Rattle.ext_text.proofs.path.text_len.Given as goal
+use Rattle.ext_text.proofs.joining.text_len.Given as goal
 
 abbrev pub invariant-loop-name : goal.invariant-loop-name
 invariant-loop-name l = record {
