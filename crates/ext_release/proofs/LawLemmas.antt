@@ -1,8 +1,7 @@
 -- A file has a release or a first faulty line, and one of them.
 use Rattle.std.proofs.Common.{◌≡◌, ◌⊎◌, inl, inr, ℕ, zero, suc, ◌-◌, ◌<◌, Bool, true, false, cond, eqb, List, [], ◌∷◌, length, get_or, refl, sym, ap, ◌∙◌, arith}
 use Rattle.std.specs.Prelude.{Option, Some, None}
-use Rattle.std.specs.Cmp.Lexicographic.{nat_list_cmp_total}
-use Rattle.std.specs.FinMap.{FinMap, get, get-empty, get-insert, get-remove, nat_cmp-IsAntisymmetric, same_map, slice_cmp-IsAntisymmetric}
+use Rattle.std.specs.FinMap.{FinMap, get, get-empty, get-insert, get-remove, same_map}
 use Rattle.std.specs.FinMap as map
 use Rattle.std.specs.List.{AllByRecursion}
 use Rattle.std.specs.Option.{option_or}
@@ -13,7 +12,7 @@ use Rattle.std.proofs.lemmas.Cmp.{eq_by_cmp_equiv}
 use Rattle.std.proofs.lemmas.List.Elements.{All-from_recursion}
 use Rattle.std.proofs.lemmas.Map.Text.{is_eq-slice_cmp}
 use Rattle.ext_lines.specs.Lines.{lines_of}
-use Rattle.ext_text.specs.Name.{bytes_cmp}
+use Rattle.ext_lines.specs.ByteOrder.{bytes_cmp, bytes_exact, bytes_total}
 use Rattle.ext_release.specs.Laws.{NoFaultInRelease, OneFault, OneRelease, ReleaseOrFault}
 use Rattle.ext_release.specs.Line.{ReleaseLine, Faulty, Skipped, Sets, is_faulty, line_of}
 use Rattle.ext_release.specs.Release.{assigned, last_assigned, leaves, some_value}
@@ -30,7 +29,7 @@ all_followed m [] = m
 all_followed m (l ∷ ls) = all_followed (followed m (line_of l)) ls
 
 same_key : (q key : List ℕ) → eq_by_cmp bytes_cmp q key ≡ bytes_eq key q
-same_key q key = (eq_by_cmp_equiv nat_list_cmp_total).symm q key ∙ is_eq-slice_cmp key q
+same_key q key = (eq_by_cmp_equiv bytes_total).symm q key ∙ is_eq-slice_cmp key q
 
 unset : (here : Bool) (value : List ℕ) (old : Option (List ℕ)) → eqb (length value) 0 ≡ true → cond here None old ≡ leaves (cond here (Some value) None) old
 unset true value old empty = sym (ap (λ t. cond t None (Some value)) empty)
@@ -45,9 +44,9 @@ get-followed m Faulty q = refl
 get-followed m Skipped q = refl
 get-followed m (Sets key value) q =
     elim (cases_Bool (eqb (length value) 0)) [
-      | inl empty ↦ ap (λ t. get (cond t (map.remove m key) (map.insert m key value)) q) empty ∙ get-remove nat_list_cmp_total m key q
+      | inl empty ↦ ap (λ t. get (cond t (map.remove m key) (map.insert m key value)) q) empty ∙ get-remove bytes_total m key q
           ∙ ap (λ t. cond t None (get m q)) (same_key q key) ∙ unset (bytes_eq key q) value (get m q) empty
-      | inr some ↦ ap (λ t. get (cond t (map.remove m key) (map.insert m key value)) q) some ∙ get-insert nat_list_cmp_total m key value q
+      | inr some ↦ ap (λ t. get (cond t (map.remove m key) (map.insert m key value)) q) some ∙ get-insert bytes_total m key value q
           ∙ ap (λ t. cond t (Some value) (get m q)) (same_key q key) ∙ put (bytes_eq key q) value (get m q) some
     ]
 
@@ -136,4 +135,4 @@ one_fault bytes a b first second =
     ]
 
 pub one_release : OneRelease
-one_release bytes a b first second = same_map nat_list_cmp_total (slice_cmp-IsAntisymmetric nat_cmp-IsAntisymmetric) a b (λ key. first.values key ∙ sym (second.values key))
+one_release bytes a b first second = same_map bytes_total bytes_exact a b (λ key. first.values key ∙ sym (second.values key))

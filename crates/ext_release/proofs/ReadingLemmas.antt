@@ -5,7 +5,7 @@ use Rattle.std.specs.FinMap.{FinMap, get}
 use Rattle.std.specs.List.{AllByRecursion}
 use Rattle.std.specs.Option.{option_or}
 use Rattle.ext_lines.specs.Lines.{lines_of}
-use Rattle.ext_text.specs.Name.{bytes_cmp}
+use Rattle.ext_lines.specs.ByteOrder.{bytes_cmp}
 use Rattle.ext_release.specs.Line.{is_faulty, line_of}
 use Rattle.ext_release.specs.Reading.{FollowsAs, IsSoFar}
 use Rattle.ext_release.specs.Release.{IsRelease, assigned, last_assigned, leaves, some_value, value_after}

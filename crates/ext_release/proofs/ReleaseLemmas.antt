@@ -2,7 +2,7 @@
 use Rattle.std.proofs.Common.{◌≡◌, ℕ, List, [], ◌∷◌, cond, Bool, true, false, refl, sym, ap, ◌∙◌}
 use Rattle.std.specs.Prelude.{None, Option, Some, String}
 use Rattle.std.specs.BTreeMap.{BTreeMap, UpdatesBy, is_at}
-use Rattle.std.specs.Cmp.Lexicographic.{nat_list_cmp_total, slice_cmp}
+use Rattle.std.specs.Cmp.Lexicographic.{slice_cmp}
 use Rattle.std.specs.FinMap.{find, get, get-empty, get-from_entries}
 use Rattle.std.specs.Map.{lookup}
 use Rattle.std.specs.Option.{option_map}
@@ -10,7 +10,7 @@ use Rattle.std.specs.Ordering.{nat_cmp}
 use Rattle.std.specs.Str.{bytes_eq}
 use Rattle.std.specs.String.{string_bytes, string_cmp}
 use Rattle.std.proofs.lemmas.Map.Text.{btree_map_updates_text}
-use Rattle.ext_text.specs.Name.{bytes_cmp}
+use Rattle.ext_lines.specs.ByteOrder.{bytes_cmp, bytes_total}
 use Rattle.ext_release.specs.Release.{map_of, texts}
 
 mapped : {A B : Type 0} (f : A → B) (b : Bool) (x : A) (o : Option A) → option_map f (cond b (Some x) o) ≡ cond b (Some (f x)) (option_map f o)
@@ -22,7 +22,7 @@ find-texts key [] = refl
 find-texts key (e ∷ es) = mapped string_bytes (is_at (λ k. slice_cmp nat_cmp key (string_bytes k)) e.0) e.1 _ ∙ ap (cond _ (Some (string_bytes e.1))) (find-texts key es)
 
 pub get-texts : {Z : Type 0} (key : List ℕ) (es : List (String Z × String Z)) → get (map_of es) key ≡ option_map string_bytes (lookup (is_at (λ k. slice_cmp nat_cmp key (string_bytes k))) es)
-get-texts key es = get-from_entries nat_list_cmp_total (texts es) key ∙ sym (find-texts key es)
+get-texts key es = get-from_entries bytes_total (texts es) key ∙ sym (find-texts key es)
 
 mapped_choice : {A B : Type 0} (f : A → B) (b : Bool) (x y : Option A) → option_map f (cond b x y) ≡ cond b (option_map f x) (option_map f y)
 mapped_choice f true x y = refl

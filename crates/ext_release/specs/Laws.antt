@@ -1,7 +1,7 @@
 -- What a file has exactly one of: a release, or a first faulty line.
 use Rattle.std.specs.Prelude.{◌≡◌, ◌⊎◌, ℕ, List}
 use Rattle.std.specs.FinMap.{FinMap}
-use Rattle.ext_text.specs.Name.{bytes_cmp}
+use Rattle.ext_lines.specs.ByteOrder.{bytes_cmp}
 use Rattle.ext_release.specs.Release.{IsFirstFault, IsRelease}
 
 -- two maps that both are the file's release are equal

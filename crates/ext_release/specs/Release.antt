@@ -7,7 +7,7 @@ use Rattle.std.specs.Option.{option_or}
 use Rattle.std.specs.Str.{bytes_eq}
 use Rattle.std.specs.String.{string_bytes}
 use Rattle.ext_lines.specs.Lines.{lines_of}
-use Rattle.ext_text.specs.Name.{bytes_cmp}
+use Rattle.ext_lines.specs.ByteOrder.{bytes_cmp}
 use Rattle.ext_release.specs.declared.reading.ReleaseErr.{ReleaseErr}
 use Rattle.ext_release.specs.declared.reading.ReleaseErr.TheVariants.{OutOfMemory, BadRelease}
 use Rattle.ext_release.specs.Line.{ReleaseLine, Faulty, Skipped, Sets, is_faulty, line_of}

@@ -25,7 +25,7 @@ impl Model for Release {
     ghost use Rattle.std.specs.Prelude.{ℕ, List};
     ghost use Rattle.std.specs.Coded.{coded_list, coded_ℕ};
     ghost use Rattle.std.specs.FinMap as map;
-    ghost use Rattle.ext_text.specs.Name.{bytes_cmp};
+    ghost use Rattle.ext_lines.specs.ByteOrder.{bytes_cmp};
     ghost use Rattle.ext_release.specs.Release.{map_of};
 
     ghost Value = { map.FinMap bytes_cmp (List ℕ) };
