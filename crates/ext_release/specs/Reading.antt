@@ -7,7 +7,7 @@ use Rattle.ext_lines.specs.ByteOrder.{bytes_cmp}
 use Rattle.ext_release.specs.Line.{ReleaseLine, is_faulty, line_of}
 use Rattle.ext_release.specs.Release.{assigned, leaves, value_after}
 
--- what a line means was done, unless it was told to be faulty
+-- after a sound line each key has what the line leaves it; `false` tells that the line is faulty
 abbrev pub FollowsAs : ReleaseLine → FinMap bytes_cmp (List ℕ) → FinMap bytes_cmp (List ℕ) → Bool → Type 0
 FollowsAs line old new true = (is_faulty line ≡ false) × ((key : List ℕ) → get new key ≡ leaves (assigned line key) (get old key))
 FollowsAs line old new false = is_faulty line ≡ true

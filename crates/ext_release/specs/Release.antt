@@ -58,7 +58,7 @@ pub record IsFirstFault (bytes : List ℕ) (number : ℕ) : Type 0 where
   pub faulty : is_faulty (line_of (slice_index_or (lines_of bytes) (number - 1) [])) ≡ true
   pub first : (k : ℕ) → k < number - 1 → is_faulty (line_of (slice_index_or (lines_of bytes) k [])) ≡ false
 
--- what `read_release` answers
+-- what reading a file gives: its release, or its first faulty line; memory may run out for any file
 abbrev pub ReadsRelease : List ℕ → Result (FinMap bytes_cmp (List ℕ)) ReleaseErr → Type 0
 ReadsRelease bytes (Ok release) = IsRelease bytes release
 ReadsRelease bytes (Err OutOfMemory) = Unit {0}

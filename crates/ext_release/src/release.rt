@@ -80,7 +80,7 @@ impl Release {
         }
     }
 
-    // The memory that its texts are kept in.
+    // The allocator that its texts are made with.
     pub(crate) fn allocator(&self) -> Global {
         self.alloc
     }
