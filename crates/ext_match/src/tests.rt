@@ -1,6 +1,6 @@
 ghost use Rattle.ext_match.specs.Class.{IsExtension};
 
-use crate::{Verdict, judge};
+use crate::{Verdict, judge, one_verdict};
 use ext_release::read_release;
 use ext_text::{Arch, Class, Scope};
 use std::alloc::Global;
@@ -321,4 +321,5 @@ fn first_wrong(alloc: Global, class: Class, rows: &[Row]) -> Option<usize>
 fn the_first_part_that_fails_is_the_verdict(rt: HostRuntime) {
     assert_eq!(rt; first_wrong(rt.alloc(), Class::Sysext, &SYSEXT), None);
     assert_eq!(rt; first_wrong(rt.alloc(), Class::Confext, &CONFEXT), None);
+    one_verdict();
 }

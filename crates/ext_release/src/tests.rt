@@ -1,4 +1,7 @@
-use crate::{Release, ReleaseErr, read_release};
+use crate::{
+    Release, ReleaseErr, a_file_has_a_release_or_a_faulty_line, a_file_has_one_release,
+    quoted_texts_are_read_back, read_release,
+};
 use std::alloc::Global;
 
 // What holds of a file.
@@ -200,6 +203,8 @@ fn are_words(release: &Release, key: &str, expected: &[&str]) -> bool {
 #[test]
 fn values_are_read_by_the_rules_of_lines_and_quotes(rt: HostRuntime) {
     assert_eq!(rt; first_wrong(rt.alloc(), &VALUES), None);
+    quoted_texts_are_read_back();
+    a_file_has_one_release();
 }
 
 #[test]
@@ -210,6 +215,7 @@ fn a_distribution_reads_as_in_a_shell(rt: HostRuntime) {
 #[test]
 fn the_first_faulty_line_is_told(rt: HostRuntime) {
     assert_eq!(rt; first_wrong(rt.alloc(), &FAULTS), None);
+    a_file_has_a_release_or_a_faulty_line();
 }
 
 #[test]
