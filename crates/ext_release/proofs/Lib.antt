@@ -2,4 +2,4 @@ pub mod ValueLemmas
 pub mod QuotingLemmas
 pub mod ReleaseLemmas
 pub mod ReadingLemmas
-pub mod LawLemmas
+pub mod LawsLemmas

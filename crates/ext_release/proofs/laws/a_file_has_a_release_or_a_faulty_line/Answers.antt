@@ -1,4 +1,4 @@
-use Rattle.ext_release.proofs.LawLemmas.{no_fault_in_release, one_fault, release_or_fault}
+use Rattle.ext_release.proofs.LawsLemmas.{no_fault_in_release, one_fault, release_or_fault}
 use Rattle.ext_release.proofs.laws.a_file_has_a_release_or_a_faulty_line.Goals as goal
 
 pub returns-clause-either : goal.returns-clause-either
