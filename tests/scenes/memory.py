@@ -5,7 +5,7 @@ from scenes.running import LAYER, Failed, directories, expect, named, run, short
 
 
 def out_of_memory_writes_nothing(program):
-    """Under each limit on memory the answer comes whole, or it is out of memory; where a limit is too narrow even to start
+    """Under each limit on memory the reply comes whole, or it is out of memory; where a limit is too narrow even to start
     the program, nothing is asked of it. One limit at least shows each of the two."""
     source, found = directories(100_000), set()
     for limit in (2**at * 1_048_576 for at in range(12)):
