@@ -28,8 +28,13 @@ def named(*calls):
     return lambda program: ((call.__name__.replace("_", " "), lambda call=call: call(program)) for call in calls)
 
 
-def tree_text(*lines):
-    return "".join(f"{line}\n" for line in ("hostext-tree 1", *lines, "end")).encode()
+def tree_text(*lines, version=1):
+    return "".join(f"{line}\n" for line in (f"hostext-tree {version}", *lines, "end")).encode()
+
+
+def removing(*lines):
+    """The text of a tree that has a whiteout or an opaque directory."""
+    return tree_text(*lines, version=2)
 
 
 def directories(count):

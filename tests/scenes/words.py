@@ -1,8 +1,10 @@
 """What the words are, and the bytes of standard input: tables of what is run and of what must come of it."""
-from scenes.running import ABC, COMPARE, EMPTY, FULL, HOST, LAYER, MOST_ENTRIES, Failed, directories, expect, named, run, tree_text
+from scenes.running import ABC, COMPARE, EMPTY, FULL, HOST, LAYER, MOST_ENTRIES, Failed, directories, expect, named, removing, run, tree_text
 
 MOST_SOURCE = 16_777_216
 
+FULL_BUT_FIRST = FULL.decode().splitlines()[2:-1]
+TWO_FILES = tree_text("d 755 usr", f"f 644 0 {EMPTY} usr/a", f"f 644 0 {EMPTY} usr/b")
 FILE_IN_LIB = tree_text("d 700 usr", "d 755 usr/lib", f"f 644 3 {ABC} usr/lib/x")
 
 # Two texts, and the word of the first one's order against the second.
@@ -37,7 +39,26 @@ LAYERS = [
         tree_text("d 711 x", f"f 600 0 {EMPTY} x/t"),
     ),
     ("a link hides what is below it", tree_text("d 755 a", "d 755 a/b") + tree_text("l 4 /b c a"), tree_text("l 4 /b c a")),
+    ("a whiteout hides a file", TWO_FILES + removing("d 755 usr", "w usr/a"), tree_text("d 755 usr", f"f 644 0 {EMPTY} usr/b")),
+    (
+        "an opaque directory replaces one",
+        TWO_FILES + removing("o 700 usr", f"f 644 3 {ABC} usr/c"),
+        tree_text("d 700 usr", f"f 644 3 {ABC} usr/c"),
+    ),
+    (
+        "a directory over a whiteout over a directory",
+        TWO_FILES + removing("w usr") + tree_text("d 711 usr", f"f 600 0 {EMPTY} usr/t"),
+        tree_text("d 711 usr", f"f 600 0 {EMPTY} usr/t"),
+    ),
+    (
+        "a directory over an opaque one lets through what that one has",
+        TWO_FILES + removing("o 700 usr", f"f 644 3 {ABC} usr/c") + tree_text("d 711 usr", f"f 600 0 {EMPTY} usr/t"),
+        tree_text("d 711 usr", f"f 644 3 {ABC} usr/c", f"f 600 0 {EMPTY} usr/t"),
+    ),
+    ("a host's own whiteouts and opaque directories", removing("o 755 usr", "w usr/a"), tree_text("d 755 usr")),
+    ("a whiteout of nothing", HOST + removing("w usr.d"), HOST),
     ("as many entries as a tree may have", FULL, FULL),
+    ("a whiteout makes room", FULL + removing("w 000000") + tree_text("d 755 a"), tree_text(*FULL_BUT_FIRST, "d 755 a")),
 ]
 
 # What is shown, the source of `layer`, and the line of the refusal after `refused`.
@@ -50,7 +71,12 @@ REFUSALS = [
     ("a digest in capitals", tree_text(f"f 644 0 {EMPTY.upper()} a"), b"23 bad-tree 2 -"),
     ("a path that is no UTF-8", b"hostext-tree 1\nd 755 \xff\nend\n", b"23 bad-tree 2 -"),
     ("lines with carriage returns", b"hostext-tree 1\r\nend\r\n", b"23 bad-tree 1 -"),
-    ("lines are counted through the texts", HOST + b"hostext-tree 2\n", b"23 bad-tree 5 -"),
+    ("version 2 without a line o or w", b"hostext-tree 2\nd 755 usr\nend\n", b"23 bad-tree 3 -"),
+    ("a line w in version 1", tree_text("w a"), b"23 bad-tree 2 -"),
+    ("a line o in version 1", tree_text("o 755 a"), b"23 bad-tree 2 -"),
+    ("an entry below a whiteout", removing("w a", "d 755 a/b"), b"23 bad-tree 3 -"),
+    ("a header of version 3", b"hostext-tree 3\nend\n", b"23 bad-tree 1 -"),
+    ("lines are counted through the texts", HOST + b"hostext-tree\n", b"23 bad-tree 5 -"),
     ("a text of one entry too many", directories(MOST_ENTRIES + 1), b"23 bad-tree 262146 -"),
     ("a layered tree of one entry too many", FULL + tree_text("d 755 a"), b"7 limit entries"),
     ("a faulty text comes before a limit", FULL + tree_text("d 755 a") + b"\n", b"23 bad-tree 262150 -"),
