@@ -255,12 +255,17 @@ link_entry line l =
 file_entry : (line : List ℕ) → ((m : ℕ) × (m < 4096) × ((n : ℕ) × (n < 1073741825) × FileLine line m n)) → EntryOf line
 file_entry line f =
     let file : FileLine line f.0 f.2.0 = f.2.2 in
-    let at : LineAt (File f.0 (stamp f.2.0 file.0)) line = file.1.1 in
-    ((at.0, File f.0 (stamp f.2.0 file.0)), (record {
-      path = at.1.0;
-      non_empty = at.1.1.0;
-      writable = (at_most f.0 4095 f.1, record { size = at_most f.2.0 1073741824 f.2.1; digest = file.1.0 });
-    }, at.1.1.1))
+    let at : LineAt (File f.0 (stamp f.2.0 file.0)) line = file.1.1 in (
+      (at.0, File f.0 (stamp f.2.0 file.0)),
+      (
+        record {
+          path = at.1.0;
+          non_empty = at.1.1.0;
+          writable = (at_most f.0 4095 f.1, record { size = at_most f.2.0 1073741824 f.2.1; digest = file.1.0 });
+        },
+        at.1.1.1,
+      ),
+    )
 
 -- the entry of this line, or that no entry has it
 pub entry_of : (line : List ℕ) → Decided (EntryOf line)

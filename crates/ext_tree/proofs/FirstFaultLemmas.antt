@@ -100,12 +100,12 @@ faulty_line wanted bytes lines rest l more stuck split =
           elim (stuck.stop l more split) [
             | inl idle ↦ none_ends_idle trees [] is.each tt (length lines + 1) (subst EndsIdle (sym (ap (take (length lines + 1)) (append-nil (flat_map tree_lines trees) ∙ sym whole) ∙ take_more lines l (whole_lines more) (length lines + 1) (omega arith))) idle)
             | inr not_begun ↦ not_begun (record {
-                texts = map loosely trees;
-                more = whole_lines more;
-                as_many = subst wanted (sym (loosely_trees trees)) as_many;
-                each = loosely_each trees is.each;
-                text = append_assoc lines (l ∷ []) (whole_lines more) ∙ whole ∙ sym (loosely_lines trees);
-              })
+              texts = map loosely trees;
+              more = whole_lines more;
+              as_many = subst wanted (sym (loosely_trees trees)) as_many;
+              each = loosely_each trees is.each;
+              text = append_assoc lines (l ∷ []) (whole_lines more) ∙ whole ∙ sym (loosely_lines trees);
+            })
           ];
       stop = inl (record {
         counted = omega arith;

@@ -43,10 +43,14 @@ pub next_line : (two : Bool) (done es fs : Entries Stamp) (l : List ℕ) (a b : 
 next_line two done [] [] l a b he hf text version same = let head : l ≡ codes "end" = cc in inl head
 next_line two done [] (y ∷ fs) l a b he hf text version same =
     let head : l ≡ tree_line y = cc in
-    inr (y, record {
-      longer = subst (λ xs. HasText (xs ++ y ∷ [])) (sym (append-nil done)) (prefix_next done y fs text);
-      version = λ needs. version (one_needs done y fs needs);
-    }, head)
+    inr (
+      y,
+      record {
+        longer = subst (λ xs. HasText (xs ++ y ∷ [])) (sym (append-nil done)) (prefix_next done y fs text);
+        version = λ needs. version (one_needs done y fs needs);
+      },
+      head,
+    )
 next_line two done (x ∷ es) [] l a b he hf text version same = let head : tree_line x ≡ codes "end" = cc in absurd (line_not_end x head)
 next_line two done (x ∷ es) (y ∷ fs) l a b he hf text version same =
     let head : tree_line x ≡ tree_line y = cc in

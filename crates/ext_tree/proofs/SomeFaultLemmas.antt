@@ -114,13 +114,22 @@ body_or_stop two zero bytes first es rest short tree version text = absurd (omeg
 body_or_stop two (suc most) bytes first es rest short tree version text = elim (split_or_lacks 10 rest) [
   | inl lacks ↦ inr (first + length es, record { entries = es; rest = rest; tree = tree; version = version; text = text; counted = refl; stop = none_lacks (MayStand two es) rest lacks })
   | inr (line, more, split) ↦ elim (judged two es line tree) [
-    | inl (inl end) ↦ inl (es, (more, (first + (length es + 1), record {
-        tree = tree;
-        version = end.1;
-        text = line_more bytes (map tree_line es) rest line more text split
-            ∙ ap (λ l. lines_text (map tree_line es ++ l ∷ []) ++ more) end.0;
-        counted = refl;
-      })))
+    | inl (inl end) ↦ inl (
+      es,
+      (
+        more,
+        (
+          first + (length es + 1),
+          record {
+            tree = tree;
+            version = end.1;
+            text = line_more bytes (map tree_line es) rest line more text split
+                ∙ ap (λ l. lines_text (map tree_line es ++ l ∷ []) ++ more) end.0;
+            counted = refl;
+          },
+        ),
+      ),
+    )
     | inl (inr item) ↦
         body_or_stop two most bytes first (es ++ item.0 ∷ []) more (shorter line more split) item.1.longer
         (version_more two es (es ++ item.0 ∷ []) item.0 version item.1.version refl)

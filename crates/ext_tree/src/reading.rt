@@ -9,8 +9,8 @@ ghost use Rattle.ext_tree.specs.Reading.{Judges, BeginsBody, BodyFault, BeginsTe
 
 use crate::Trees;
 use crate::entry::Entry;
-use crate::following::may_follow;
 use crate::entry_line::entry_of_line;
+use crate::following::may_follow;
 use crate::stamp::Stamp;
 use crate::tree::{MOST_ENTRIES, Tree};
 use ext_lines::{OutOfMemory, split_at_byte};

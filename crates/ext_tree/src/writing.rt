@@ -13,6 +13,7 @@ use std::alloc::Global;
 
 // The first line of a text without lines `o` and `w`, and that of a text with some.
 const HEADER_1: &[u8] = b"hostext-tree 1\n";
+
 const HEADER_2: &[u8] = b"hostext-tree 2\n";
 
 // The last one.

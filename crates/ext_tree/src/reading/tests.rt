@@ -155,7 +155,10 @@ const SEQUENCES: [(&[u8], Result<u64, u64>); 20] = [
     (b"hostext-tree 1\nend\nhostext-tree 2\nw a\nend\n", Ok(2)),
     (b"hostext-tree 2\nend\nhostext-tree 2\nw a\nend\n", Err(2)),
     (b"hostext-tree 1\nend\nhostext-tree 2\nend\n", Err(4)),
-    (b"hostext-tree 2\nw a\nend\nhostext-tree 1\nw a\nend\n", Err(5)),
+    (
+        b"hostext-tree 2\nw a\nend\nhostext-tree 1\nw a\nend\n",
+        Err(5),
+    ),
     // A sequence has one text at least.
     (b"", Err(1)),
     (b"\n", Err(1)),
@@ -163,7 +166,10 @@ const SEQUENCES: [(&[u8], Result<u64, u64>); 20] = [
     (b"hostext-tree 1\r\nend\n", Err(1)),
     (b"hostext-tree 1\nend\n", Ok(1)),
     (b"hostext-tree 1\nend\nhostext-tree 1\nend\n", Ok(2)),
-    (b"hostext-tree 1\nend\nhostext-tree 1\nd 755 usr\nend\n", Ok(2)),
+    (
+        b"hostext-tree 1\nend\nhostext-tree 1\nd 755 usr\nend\n",
+        Ok(2),
+    ),
     // What stops early is faulty after its last whole line.
     (b"hostext-tree 1\n", Err(2)),
     (b"hostext-tree 1\nd 755 usr", Err(2)),
@@ -171,7 +177,10 @@ const SEQUENCES: [(&[u8], Result<u64, u64>); 20] = [
     (b"hostext-tree 1\nd 755 usr\nend", Err(3)),
     (b"hostext-tree 1\nend\nhostext", Err(3)),
     // The lines of a sequence are counted through.
-    (b"hostext-tree 1\nend\nhostext-tree 1\nd 755 usr\nd 755 bin\nend\n", Err(5)),
+    (
+        b"hostext-tree 1\nend\nhostext-tree 1\nd 755 usr\nd 755 bin\nend\n",
+        Err(5),
+    ),
     (b"hostext-tree 1\nend\nend\n", Err(3)),
     (b"hostext-tree 1\nend\n\n", Err(3)),
     (b"hostext-tree 1\nhostext-tree 1\nend\n", Err(2)),
@@ -197,18 +206,36 @@ const TEXTS: [(&[u8], Result<u64, u64>); 31] = [
     (b"hostext-tree 2\nw b\nw a\nend\n", Err(3)),
     (b"hostext-tree 2\nw a\nend\nx", Err(4)),
     (b"hostext-tree 1\nend\n", Ok(0)),
-    (b"hostext-tree 1\nd 755 usr\nd 755 usr/bin\nl 3 bin usr/sbin\nend\n", Ok(3)),
-    (b"hostext-tree 1\nf 644 0 e3b0c44298fc1c149afbf4c8996fb92427ae41e4649b934ca495991b7852b855 a\nend\n", Ok(1)),
-    (b"hostext-tree 1\nd 755 a\nd 755 a/b\nd 755 a/b/c\nd 755 a/d\nd 755 a.b\nd 755 b\nend\n", Ok(6)),
+    (
+        b"hostext-tree 1\nd 755 usr\nd 755 usr/bin\nl 3 bin usr/sbin\nend\n",
+        Ok(3),
+    ),
+    (
+        b"hostext-tree 1\nf 644 0 e3b0c44298fc1c149afbf4c8996fb92427ae41e4649b934ca495991b7852b855 a\nend\n",
+        Ok(1),
+    ),
+    (
+        b"hostext-tree 1\nd 755 a\nd 755 a/b\nd 755 a/b/c\nd 755 a/d\nd 755 a.b\nd 755 b\nend\n",
+        Ok(6),
+    ),
     // Out of order, and twice.
-    (b"hostext-tree 1\nf 644 0 e3b0c44298fc1c149afbf4c8996fb92427ae41e4649b934ca495991b7852b855 b\nf 644 0 e3b0c44298fc1c149afbf4c8996fb92427ae41e4649b934ca495991b7852b855 a\nend\n", Err(3)),
-    (b"hostext-tree 1\nd 755 a\nd 755 a.b\nd 755 a/b\nend\n", Err(4)),
+    (
+        b"hostext-tree 1\nf 644 0 e3b0c44298fc1c149afbf4c8996fb92427ae41e4649b934ca495991b7852b855 b\nf 644 0 e3b0c44298fc1c149afbf4c8996fb92427ae41e4649b934ca495991b7852b855 a\nend\n",
+        Err(3),
+    ),
+    (
+        b"hostext-tree 1\nd 755 a\nd 755 a.b\nd 755 a/b\nend\n",
+        Err(4),
+    ),
     (b"hostext-tree 1\nd 755 a\nd 755 a\nend\n", Err(3)),
     // A parent that is absent, a file or a link.
     (b"hostext-tree 1\nd 755 a/b\nend\n", Err(2)),
     (b"hostext-tree 1\nd 755 a\nd 755 b/c\nend\n", Err(3)),
     (b"hostext-tree 1\nd 755 a\nd 755 a/b/c\nend\n", Err(3)),
-    (b"hostext-tree 1\nf 644 0 e3b0c44298fc1c149afbf4c8996fb92427ae41e4649b934ca495991b7852b855 a\nd 755 a/b\nend\n", Err(3)),
+    (
+        b"hostext-tree 1\nf 644 0 e3b0c44298fc1c149afbf4c8996fb92427ae41e4649b934ca495991b7852b855 a\nd 755 a/b\nend\n",
+        Err(3),
+    ),
     (b"hostext-tree 1\nl 1 b a\nd 755 a/b\nend\n", Err(3)),
     // The root has no line, and a tree's text ends.
     (b"hostext-tree 1\nd 755 \nend\n", Err(2)),
@@ -254,10 +281,7 @@ fn is_wanted(entry: &Entry<Stamp>, want: &Want) -> bool {
 }
 
 // The first line of a table that is read as an entry's.
-fn read_line(
-    alloc: Global,
-    lines: &[&'static [u8]],
-) -> Result<Option<&'static [u8]>, OutOfMemory> {
+fn read_line(alloc: Global, lines: &[&'static [u8]]) -> Result<Option<&'static [u8]>, OutOfMemory> {
     for line in lines {
         if entry_of_line::<Stamp>(alloc, line)?.is_some() {
             return Ok(Some(*line));
@@ -294,10 +318,7 @@ fn trees_of(alloc: Global, text: &[u8]) -> Result<u64, u64> {
     }
 }
 
-fn wrong_text(
-    alloc: Global,
-    texts: &[(&'static [u8], Result<u64, u64>)],
-) -> Option<&'static [u8]> {
+fn wrong_text(alloc: Global, texts: &[(&'static [u8], Result<u64, u64>)]) -> Option<&'static [u8]> {
     for (text, wanted) in texts {
         if entries_of(alloc, text) != *wanted {
             return Some(*text);
