@@ -2,44 +2,55 @@ use super::*;
 use std::alloc::Global;
 use std::test::Fail;
 
-// What stands before and after a byte.
-type Parts = Option<(&'static [u8], &'static [u8])>;
-
 // A text of 38 bytes; more than the first 16 are looked at many at once.
 const LONG: &[u8] = b"aaaaaaaaaaaaaaab,c,aaaaaaaaaaaaaaaaaaa";
 
-const SPLITS: [(&[u8], u8, Parts); 9] = [
-    (b"", b' ', None),
-    (b"abc", b' ', None),
-    (b" ", b' ', Some((b"", b""))),
-    (b"a b c", b' ', Some((b"a", b"b c"))),
-    (b"a\xff", 0xff, Some((b"a", b""))),
+// A text, a byte, whether it is there, and what stands before and after the first one.
+const SPLITS: [(&[u8], u8, bool, &[u8], &[u8]); 9] = [
+    (b"", b' ', false, b"", b""),
+    (b"abc", b' ', false, b"", b""),
+    (b" ", b' ', true, b"", b""),
+    (b"a b c", b' ', true, b"a", b"b c"),
+    (b"a\xff", 0xff, true, b"a", b""),
     (
         LONG,
         b'b',
-        Some((b"aaaaaaaaaaaaaaa", b",c,aaaaaaaaaaaaaaaaaaa")),
+        true,
+        b"aaaaaaaaaaaaaaa",
+        b",c,aaaaaaaaaaaaaaaaaaa",
     ),
     (
         LONG,
         b',',
-        Some((b"aaaaaaaaaaaaaaab", b"c,aaaaaaaaaaaaaaaaaaa")),
+        true,
+        b"aaaaaaaaaaaaaaab",
+        b"c,aaaaaaaaaaaaaaaaaaa",
     ),
     (
         LONG,
         b'c',
-        Some((b"aaaaaaaaaaaaaaab,", b",aaaaaaaaaaaaaaaaaaa")),
+        true,
+        b"aaaaaaaaaaaaaaab,",
+        b",aaaaaaaaaaaaaaaaaaa",
     ),
-    (LONG, b'd', None),
+    (LONG, b'd', false, b"", b""),
 ];
 
-// A line, what follows its newline, and the line without a carriage return.
-const LINES: [(&[u8], &[u8], Option<&[u8]>, &[u8]); 6] = [
-    (b"", b"", None, b""),
-    (b"a", b"a", None, b"a"),
-    (b"a\n", b"a", Some(b""), b"a"),
-    (b"a\r\nb\n", b"a\r", Some(b"b\n"), b"a"),
-    (b"\r\r\n\n", b"\r\r", Some(b"\n"), b"\r"),
-    (b"\na", b"", Some(b"a"), b""),
+// A text of UTF-8, whether a `=` is there, and what stands before and after the first one.
+const ASSIGNMENTS: [(&str, bool, &str, &str); 3] = [
+    ("ID=a=b", true, "ID", "a=b"),
+    ("\u{e9}=", true, "\u{e9}", ""),
+    ("ID", false, "", ""),
+];
+
+// A text, its first line, whether a newline ends it, the text after that, and the line without a carriage return.
+const LINES: [(&[u8], &[u8], bool, &[u8], &[u8]); 6] = [
+    (b"", b"", false, b"", b""),
+    (b"a", b"a", false, b"", b"a"),
+    (b"a\n", b"a", true, b"", b"a"),
+    (b"a\r\nb\n", b"a\r", true, b"b\n", b"a"),
+    (b"\r\r\n\n", b"\r\r", true, b"\n", b"\r"),
+    (b"\na", b"", true, b"a", b""),
 ];
 
 // A text and the text without blanks at both ends.
@@ -51,14 +62,14 @@ const TRIMMED: [(&str, &str); 5] = [
     ("\u{a0}a\r", "\u{a0}a\r"),
 ];
 
-// A text, its first word and the text after it.
-const WORDS: [(&[u8], Parts); 6] = [
-    (b"", None),
-    (b" \t", None),
-    (b"a", Some((b"a", b""))),
-    (b" ab\tc d", Some((b"ab", b"c d"))),
-    (b"a ", Some((b"a", b""))),
-    (b"a\nb c", Some((b"a\nb", b"c"))),
+// A text, whether it has a word, the first one, and the text after it.
+const WORDS: [(&[u8], bool, &[u8], &[u8]); 6] = [
+    (b"", false, b"", b""),
+    (b" \t", false, b"", b""),
+    (b"a", true, b"a", b""),
+    (b" ab\tc d", true, b"ab", b"c d"),
+    (b"a ", true, b"a", b""),
+    (b"a\nb c", true, b"a\nb", b"c"),
 ];
 
 // A text, a word, and whether it is one of the text's.
@@ -146,18 +157,42 @@ const NO_HEX: [&[u8]; 6] = [
 
 // Whether each row of a table is right.
 
-fn are_split(rows: &[(&[u8], u8, Parts)]) -> bool {
-    for (text, byte, parts) in rows {
-        if split_at_byte(text, *byte) != *parts {
+fn is_pair(parts: Option<(&[u8], &[u8])>, is: bool, first: &[u8], second: &[u8]) -> bool {
+    match parts {
+        None => !is,
+        Some((before, after)) => is && before == first && after == second,
+    }
+}
+
+fn are_split(rows: &[(&[u8], u8, bool, &[u8], &[u8])]) -> bool {
+    for (text, byte, is, before, after) in rows {
+        if !is_pair(split_at_byte(text, *byte), *is, before, after) {
             return false;
         }
     }
     true
 }
 
-fn are_lines(rows: &[(&[u8], &[u8], Option<&[u8]>, &[u8])]) -> bool {
-    for (text, line, after, stripped) in rows {
-        if next_line(text) != (*line, *after) || strip_carriage_return(line) != *stripped {
+fn are_assignments(rows: &[(&str, bool, &str, &str)]) -> bool {
+    for (text, is, key, value) in rows {
+        let parts = split_str_at_byte(text, b'=').map(|parts| (
+            parts.0.as_bytes(),
+            parts.1.as_bytes(),
+        ));
+        if !is_pair(parts, *is, key.as_bytes(), value.as_bytes()) {
+            return false;
+        }
+    }
+    true
+}
+
+fn are_lines(rows: &[(&[u8], &[u8], bool, &[u8], &[u8])]) -> bool {
+    for (text, line, is, after, stripped) in rows {
+        let (first, rest) = next_line(text);
+        if rest.is_some() != *is
+            || !is_pair(Some((first, rest.unwrap_or(b""))), true, line, after)
+            || strip_carriage_return(line) != *stripped
+        {
             return false;
         }
     }
@@ -173,9 +208,9 @@ fn are_trimmed(rows: &[(&str, &str)]) -> bool {
     true
 }
 
-fn are_words(rows: &[(&[u8], Parts)]) -> bool {
-    for (text, parts) in rows {
-        if next_word(text) != *parts {
+fn are_words(rows: &[(&[u8], bool, &[u8], &[u8])]) -> bool {
+    for (text, is, word, after) in rows {
+        if !is_pair(next_word(text), *is, word, after) {
             return false;
         }
     }
@@ -239,20 +274,23 @@ fn are_no_hex(rows: &[&[u8]]) -> bool {
     true
 }
 
+fn split_tables_are_right() -> bool {
+    are_split(&SPLITS) && are_assignments(&ASSIGNMENTS) && are_lines(&LINES) && are_words(&WORDS)
+}
+
+fn text_tables_are_right() -> bool {
+    are_trimmed(&TRIMMED) && have_words(&HAS) && are_plain(&PLAIN)
+}
+
+fn number_tables_are_right() -> bool {
+    are_decimal(&DECIMAL) && are_octal(&OCTAL) && are_five(&FIVE) && are_no_hex(&NO_HEX)
+}
+
 #[test]
 fn each_table_reads_as_it_says(rt: HostRuntime) {
-    assert!(rt; are_split(&SPLITS));
-    assert!(rt; are_lines(&LINES));
-    assert!(rt; are_trimmed(&TRIMMED));
-    assert!(rt; are_words(&WORDS));
-    assert!(rt; have_words(&HAS));
-    assert!(rt; are_plain(&PLAIN));
-    assert!(rt; are_decimal(&DECIMAL));
-    assert!(rt; are_octal(&OCTAL));
-    assert!(rt; are_five(&FIVE));
-    assert!(rt; are_no_hex(&NO_HEX));
-    assert_eq!(rt; split_str_at_byte("ID=a=b", b'='), Some(("ID", "a=b")));
-    assert_eq!(rt; split_str_at_byte("ID", b'='), None);
+    assert!(rt; split_tables_are_right());
+    assert!(rt; text_tables_are_right());
+    assert!(rt; number_tables_are_right());
 }
 
 // The numbers of the tables, and the digits of a digest, printed one after another.
@@ -270,18 +308,22 @@ fn printed(alloc: Global) -> Result<Vec<u8>, OutOfMemory> {
     Ok(text)
 }
 
+const PRINTED: &[u8] = b"0 18446744073709551615 755 1777777777777777777777 9abcd";
+
+// Whether the bytes of these digits are printed so again.
+fn is_printed_again(digits: &[u8]) -> bool {
+    match read_hex_digits(digits) {
+        None => false,
+        Some(bytes) => {
+            bytes[0] == 0xba && bytes[31] == 0xad && hex_digits(&bytes).as_slice() == digits
+        }
+    }
+}
+
 #[test]
 fn numbers_and_digests_are_printed(rt: HostRuntime) -> Result<(), Fail> {
     let text = printed(rt.alloc())?;
-    assert_eq!(rt;
-        text.as_slice(),
-        b"0 18446744073709551615 755 1777777777777777777777 9abcd".as_slice()
-    );
-    let bytes = read_hex_digits(ABC).ok_or("32 bytes")?;
-    assert_eq!(rt; bytes[0], 0xba);
-    assert_eq!(rt; bytes[31], 0xad);
-    assert_eq!(rt; hex_digits(&bytes).as_slice(), ABC);
-    assert_eq!(rt; OutOfMemory, OutOfMemory);
+    assert!(rt; text.as_slice() == PRINTED && is_printed_again(ABC));
     laws::a_number_has_its_own_text();
     laws::hexadecimal_digits_have_one_value();
     laws::five_digits_are_those_of_three_bytes();

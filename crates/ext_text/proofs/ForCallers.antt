@@ -2,7 +2,7 @@
 
 -- a test as a proposition, and which ordering a test of orderings tells
 pub use Rattle.ext_text.proofs.OrderLemmas.{true_from_T, is_less, is_equal, is_greater}
--- what holds of each element of two lists holds of both in a row, of the first, and of the second
+-- what holds of each element of two lists holds of both, one after the other, and of each of them
 pub use Rattle.ext_text.proofs.ListLemmas.{all_append, all_prefix, all_back}
 -- two facts of each element, and a weaker one
 pub use Rattle.ext_text.proofs.ListLemmas.{all_both, all_weaker}

@@ -3,6 +3,7 @@ use crate::{
 };
 use std::alloc::Global;
 use std::cmp::Ordering;
+use std::hash::{DefaultHasher, Hash, Hasher};
 use std::test::Fail;
 
 const NAMES: [&[u8]; 6] = [b"a", b"...", b".a", b" ", b"a b", b"\xc3\xa9"];
@@ -302,9 +303,29 @@ fn are_lists(alloc: Global) -> Result<bool, NameErr> {
     Ok(was_empty && is_one && names.len() == 1 && !names.is_empty())
 }
 
+fn hash_of<T: Hash>(value: &T) -> u64 {
+    let mut state = DefaultHasher::new();
+    value.hash(&mut state);
+    state.finish()
+}
+
+// Equal names, paths and texts are hashed alike, and a path otherwise than its text.
+fn are_hashed_alike(alloc: Global) -> Result<bool, Fail> {
+    let name = Name::read(alloc, b"a")?;
+    let path = Path::read(alloc, b"etc/a")?;
+    let text = Text::from_bytes(alloc, b"etc/a")?;
+    Ok(
+        hash_of(&name) == hash_of(&name.copy()?)
+            && hash_of(&path) == hash_of(&path.copy()?)
+            && hash_of(&text) == hash_of(&text.copy()?)
+            && hash_of(&path) != hash_of(&text),
+    )
+}
+
 #[test]
 fn texts_lists_and_modes(rt: HostRuntime) -> Result<(), Fail> {
     assert!(rt; are_texts(rt.alloc())? && are_lists(rt.alloc())?);
+    assert!(rt; are_hashed_alike(rt.alloc())?);
     assert_eq!(rt; Mode::new(0o7777).map(Mode::bits), Some(0o7777));
     assert!(rt; Mode::new(0o10000).is_none() && OutOfMemory == OutOfMemory);
     Ok(())
