@@ -9,8 +9,8 @@ mod entry;
 mod entry_line;
 mod fields;
 mod following;
-pub mod laws;
 mod insertion_point;
+pub mod laws;
 mod reading;
 mod stamp;
 #[cfg(test)]
@@ -20,7 +20,10 @@ mod writing;
 
 pub use entry::{Entry, Held1};
 pub use entry_line::{LineContent, append_fields, append_line, entry_of_line, fields_of, path_of};
-pub use fields::{append_digest, append_mode, append_number, append_stamp, split_digest, split_mode, split_number, split_stamp};
+pub use fields::{
+    append_digest, append_mode, append_number, append_stamp, split_digest, split_mode,
+    split_number, split_stamp,
+};
 pub use following::may_follow;
 pub use reading::{TreeTextErr, read_tree, read_trees};
 pub use stamp::Stamp;

@@ -12,6 +12,21 @@ l 21 ../usr/lib/os-release etc/os-release
 end
 ";
 
+// A text of version 2, and its entries as they show.
+const HIDING: &[u8] = b"hostext-tree 2
+o 700 a
+d 755 a/b
+w c
+end
+";
+
+const SHOWN: &[u8] = b"hostext-tree 2
+d 700 a
+d 755 a/b
+w c
+end
+";
+
 // A path, whether an entry of SMALL stands there, and why none may be put there.
 const REFUSED: [(&[u8], bool, TreeErr); 6] = [
     (b"", false, TreeErr::Exists),
@@ -50,11 +65,7 @@ fn path(alloc: Global, text: &[u8]) -> Result<Path, Fail> {
 }
 
 // What comes of a directory that is put at a path.
-fn insert(
-    alloc: Global,
-    tree: &mut Tree<Stamp>,
-    text: &[u8],
-) -> Result<Result<(), TreeErr>, Fail> {
+fn insert(alloc: Global, tree: &mut Tree<Stamp>, text: &[u8]) -> Result<Result<(), TreeErr>, Fail> {
     let mode = Mode::new(0o755).ok_or("a mode")?;
     Ok(tree.insert(path(alloc, text)?, Entry::Dir(mode)))
 }
@@ -89,8 +100,20 @@ fn a_tree_is_written_as_it_was_read(rt: HostRuntime) -> Result<(), Fail> {
     assert_eq!(rt; written(alloc, tree.pairs())?.bytes(), SMALL);
     let (_path, file) = tree.at(1).ok_or("a file")?;
     assert!(rt; file.is_file() && !file.is_directory());
-    assert_eq!(rt; written(alloc, copied(alloc, tree)?.as_slice())?.bytes(), SMALL);
+    assert_eq!(rt;
+        written(alloc, copied(alloc, tree)?.as_slice())?.bytes(),
+        SMALL
+    );
     assert!(rt; is_text(alloc, &Tree::new(alloc), b"hostext-tree 1\nend\n")?);
+    let hiding = read_tree(alloc, HIDING)?;
+    assert!(rt; is_text(alloc, &hiding, HIDING)?);
+    assert_eq!(rt; written(alloc, hiding.pairs())?.bytes(), SHOWN);
+    let (_path, opaque) = hiding.at(0).ok_or("an opaque directory")?;
+    assert!(rt; opaque.is_opaque() && opaque.is_directory() && !opaque.is_hide());
+    assert_eq!(rt;
+        written(alloc, copied(alloc, hiding)?.as_slice())?.bytes(),
+        SHOWN
+    );
     laws::every_prefix_is_a_directory::<Stamp>();
     laws::one_tree_of_text();
     laws::one_text_of_tree();

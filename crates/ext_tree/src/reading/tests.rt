@@ -10,12 +10,18 @@ const EMPTY: &[u8] = b"e3b0c44298fc1c149afbf4c8996fb92427ae41e4649b934ca495991b7
 #[derive(Clone, Copy)]
 enum Want {
     Dir(u16),
+    Opaque(u16),
     File(u16, u64),
     Link(&'static [u8]),
+    Hide,
 }
 
 // Lines of entries, with their paths. The digest of each file is that of no bytes.
-const LINES: [(&[u8], &[u8], Want); 15] = [
+const LINES: [(&[u8], &[u8], Want); 19] = [
+    (b"o 755 usr", b"usr", Want::Opaque(0o755)),
+    (b"o 0 o 0 a", b"o 0 a", Want::Opaque(0)),
+    (b"w usr/a", b"usr/a", Want::Hide),
+    (b"w 755 a b", b"755 a b", Want::Hide),
     (b"d 755 usr", b"usr", Want::Dir(0o755)),
     (b"d 0 a", b"a", Want::Dir(0)),
     (b"d 7 a", b"a", Want::Dir(0o7)),
@@ -46,7 +52,14 @@ const LINES: [(&[u8], &[u8], Want); 15] = [
 ];
 
 // Lines of no entry.
-const OTHERS: [&[u8]; 40] = [
+const OTHERS: [&[u8]; 47] = [
+    b"o",
+    b"o 755",
+    b"o 8 a",
+    b"w",
+    b"w ",
+    b"w /a",
+    b"wa",
     b"",
     b"end",
     b"d",
@@ -90,7 +103,10 @@ const OTHERS: [&[u8]; 40] = [
 ];
 
 // Lines that may not stand after the lines of BEFORE, as line 4.
-const FAULTY: [&[u8]; 36] = [
+const FAULTY: [&[u8]; 39] = [
+    b"o 755 b",
+    b"w b",
+    b"hostext-tree 2",
     b"",
     b"hostext-tree 1",
     b" end",
@@ -134,7 +150,15 @@ const BEFORE: &[u8] = b"hostext-tree 1\nd 755 a\nl 1 b a/f\n";
 const AFTER: &[u8] = b"\nd 755 z\nend\n";
 
 // Texts, with the number of trees of their sequence or its first faulty line.
-const SEQUENCES: [(&[u8], Result<u64, u64>); 16] = [
+const SEQUENCES: [(&[u8], Result<u64, u64>); 20] = [
+    // Each text has its own version.
+    (b"hostext-tree 1\nend\nhostext-tree 2\nw a\nend\n", Ok(2)),
+    (b"hostext-tree 2\nend\nhostext-tree 2\nw a\nend\n", Err(2)),
+    (b"hostext-tree 1\nend\nhostext-tree 2\nend\n", Err(4)),
+    (
+        b"hostext-tree 2\nw a\nend\nhostext-tree 1\nw a\nend\n",
+        Err(5),
+    ),
     // A sequence has one text at least.
     (b"", Err(1)),
     (b"\n", Err(1)),
@@ -142,7 +166,10 @@ const SEQUENCES: [(&[u8], Result<u64, u64>); 16] = [
     (b"hostext-tree 1\r\nend\n", Err(1)),
     (b"hostext-tree 1\nend\n", Ok(1)),
     (b"hostext-tree 1\nend\nhostext-tree 1\nend\n", Ok(2)),
-    (b"hostext-tree 1\nend\nhostext-tree 1\nd 755 usr\nend\n", Ok(2)),
+    (
+        b"hostext-tree 1\nend\nhostext-tree 1\nd 755 usr\nend\n",
+        Ok(2),
+    ),
     // What stops early is faulty after its last whole line.
     (b"hostext-tree 1\n", Err(2)),
     (b"hostext-tree 1\nd 755 usr", Err(2)),
@@ -150,27 +177,65 @@ const SEQUENCES: [(&[u8], Result<u64, u64>); 16] = [
     (b"hostext-tree 1\nd 755 usr\nend", Err(3)),
     (b"hostext-tree 1\nend\nhostext", Err(3)),
     // The lines of a sequence are counted through.
-    (b"hostext-tree 1\nend\nhostext-tree 1\nd 755 usr\nd 755 bin\nend\n", Err(5)),
+    (
+        b"hostext-tree 1\nend\nhostext-tree 1\nd 755 usr\nd 755 bin\nend\n",
+        Err(5),
+    ),
     (b"hostext-tree 1\nend\nend\n", Err(3)),
     (b"hostext-tree 1\nend\n\n", Err(3)),
     (b"hostext-tree 1\nhostext-tree 1\nend\n", Err(2)),
 ];
 
 // Texts, with the number of entries of their tree or its first faulty line.
-const TEXTS: [(&[u8], Result<u64, u64>); 15] = [
+const TEXTS: [(&[u8], Result<u64, u64>); 31] = [
+    // Version 2 has a line `o` or `w`, and only version 2.
+    (b"hostext-tree 2\nw usr\nend\n", Ok(1)),
+    (b"hostext-tree 2\nd 755 a\nw b\nend\n", Ok(2)),
+    (b"hostext-tree 2\nd 755 a\no 700 b\nend\n", Ok(2)),
+    (b"hostext-tree 2\no 755 a\nl 1 b a/b\nend\n", Ok(2)),
+    (b"hostext-tree 2\nd 755 usr\nend\n", Err(3)),
+    (b"hostext-tree 2\nend\n", Err(2)),
+    (b"hostext-tree 2\nend", Err(2)),
+    (b"hostext-tree 2\nd 755 usr\n", Err(3)),
+    (b"hostext-tree 2\nd 755 usr\nx\nend\n", Err(3)),
+    (b"hostext-tree 1\nw a\nend\n", Err(2)),
+    (b"hostext-tree 1\no 755 a\nend\n", Err(2)),
+    (b"hostext-tree 3\nw a\nend\n", Err(1)),
+    (b"hostext-tree 2\nw a\nd 755 a/b\nend\n", Err(3)),
+    (b"hostext-tree 2\nw a\nw a\nend\n", Err(3)),
+    (b"hostext-tree 2\nw b\nw a\nend\n", Err(3)),
+    (b"hostext-tree 2\nw a\nend\nx", Err(4)),
     (b"hostext-tree 1\nend\n", Ok(0)),
-    (b"hostext-tree 1\nd 755 usr\nd 755 usr/bin\nl 3 bin usr/sbin\nend\n", Ok(3)),
-    (b"hostext-tree 1\nf 644 0 e3b0c44298fc1c149afbf4c8996fb92427ae41e4649b934ca495991b7852b855 a\nend\n", Ok(1)),
-    (b"hostext-tree 1\nd 755 a\nd 755 a/b\nd 755 a/b/c\nd 755 a/d\nd 755 a.b\nd 755 b\nend\n", Ok(6)),
+    (
+        b"hostext-tree 1\nd 755 usr\nd 755 usr/bin\nl 3 bin usr/sbin\nend\n",
+        Ok(3),
+    ),
+    (
+        b"hostext-tree 1\nf 644 0 e3b0c44298fc1c149afbf4c8996fb92427ae41e4649b934ca495991b7852b855 a\nend\n",
+        Ok(1),
+    ),
+    (
+        b"hostext-tree 1\nd 755 a\nd 755 a/b\nd 755 a/b/c\nd 755 a/d\nd 755 a.b\nd 755 b\nend\n",
+        Ok(6),
+    ),
     // Out of order, and twice.
-    (b"hostext-tree 1\nf 644 0 e3b0c44298fc1c149afbf4c8996fb92427ae41e4649b934ca495991b7852b855 b\nf 644 0 e3b0c44298fc1c149afbf4c8996fb92427ae41e4649b934ca495991b7852b855 a\nend\n", Err(3)),
-    (b"hostext-tree 1\nd 755 a\nd 755 a.b\nd 755 a/b\nend\n", Err(4)),
+    (
+        b"hostext-tree 1\nf 644 0 e3b0c44298fc1c149afbf4c8996fb92427ae41e4649b934ca495991b7852b855 b\nf 644 0 e3b0c44298fc1c149afbf4c8996fb92427ae41e4649b934ca495991b7852b855 a\nend\n",
+        Err(3),
+    ),
+    (
+        b"hostext-tree 1\nd 755 a\nd 755 a.b\nd 755 a/b\nend\n",
+        Err(4),
+    ),
     (b"hostext-tree 1\nd 755 a\nd 755 a\nend\n", Err(3)),
     // A parent that is absent, a file or a link.
     (b"hostext-tree 1\nd 755 a/b\nend\n", Err(2)),
     (b"hostext-tree 1\nd 755 a\nd 755 b/c\nend\n", Err(3)),
     (b"hostext-tree 1\nd 755 a\nd 755 a/b/c\nend\n", Err(3)),
-    (b"hostext-tree 1\nf 644 0 e3b0c44298fc1c149afbf4c8996fb92427ae41e4649b934ca495991b7852b855 a\nd 755 a/b\nend\n", Err(3)),
+    (
+        b"hostext-tree 1\nf 644 0 e3b0c44298fc1c149afbf4c8996fb92427ae41e4649b934ca495991b7852b855 a\nd 755 a/b\nend\n",
+        Err(3),
+    ),
     (b"hostext-tree 1\nl 1 b a\nd 755 a/b\nend\n", Err(3)),
     // The root has no line, and a tree's text ends.
     (b"hostext-tree 1\nd 755 \nend\n", Err(2)),
@@ -205,6 +270,8 @@ fn is_read_as(alloc: Global, line: &[u8], path: &[u8], want: &Want) -> Result<bo
 fn is_wanted(entry: &Entry<Stamp>, want: &Want) -> bool {
     match (entry, want) {
         (Entry::Dir(mode), Want::Dir(bits)) => mode.bits() == *bits,
+        (Entry::Opaque(mode), Want::Opaque(bits)) => mode.bits() == *bits,
+        (Entry::Hide, Want::Hide) => true,
         (Entry::File(mode, stamp), Want::File(bits, size)) => {
             mode.bits() == *bits && stamp.size == *size && stamp.digest.digits().as_slice() == EMPTY
         }
@@ -214,10 +281,7 @@ fn is_wanted(entry: &Entry<Stamp>, want: &Want) -> bool {
 }
 
 // The first line of a table that is read as an entry's.
-fn read_line(
-    alloc: Global,
-    lines: &[&'static [u8]],
-) -> Result<Option<&'static [u8]>, OutOfMemory> {
+fn read_line(alloc: Global, lines: &[&'static [u8]]) -> Result<Option<&'static [u8]>, OutOfMemory> {
     for line in lines {
         if entry_of_line::<Stamp>(alloc, line)?.is_some() {
             return Ok(Some(*line));
@@ -254,10 +318,7 @@ fn trees_of(alloc: Global, text: &[u8]) -> Result<u64, u64> {
     }
 }
 
-fn wrong_text(
-    alloc: Global,
-    texts: &[(&'static [u8], Result<u64, u64>)],
-) -> Option<&'static [u8]> {
+fn wrong_text(alloc: Global, texts: &[(&'static [u8], Result<u64, u64>)]) -> Option<&'static [u8]> {
     for (text, wanted) in texts {
         if entries_of(alloc, text) != *wanted {
             return Some(*text);
