@@ -1,6 +1,6 @@
 use Rattle.std.proofs.lemmas.Result.{IfOk-weaker}
 use Rattle.ext_layer.proofs.JoiningLemmas.{joins_both_at}
-use Rattle.ext_layer.proofs.layered.visible_items.Goals as goal
+use Rattle.ext_layer.proofs.layered.joined_items.Goals as goal
 
 pub returns : goal.returns
 returns g c =
