@@ -16,7 +16,7 @@ type Run = (
     &'static str,
 );
 
-const RUNS: [Run; 29] = [
+const RUNS: [Run; 34] = [
     // An entry of the topmost tree that nothing above it cuts off.
     (&["layer"], USR_UNDER_NOTHING, 0, (0, 0), USR),
     (&["layer"], DIRECTORIES_UNDER_A_FILE, 0, (0, 0), A_FILE),
@@ -35,6 +35,21 @@ const RUNS: [Run; 29] = [
         AFTER_THE_LINK,
     ),
     (&["layer"], A_DIRECTORY_UNDER_A_LINK, 0, (0, 0), A_LINK),
+    (&["layer"], UNDER_A_WHITEOUT, 0, (0, 0), WITHOUT_ONE_FILE),
+    (
+        &["layer"],
+        UNDER_AN_OPAQUE_DIRECTORY,
+        0,
+        (0, 0),
+        THE_OPAQUE_DIRECTORY,
+    ),
+    (
+        &["layer"],
+        A_WHITEOUT_BETWEEN,
+        0,
+        (0, 0),
+        AFTER_THE_WHITEOUT,
+    ),
     // Sources that are no sequence of tree texts, at their first faulty line.
     (&["layer"], "", 0, (1, 1), "refused 23 bad-tree 1 -\n"),
     (
@@ -57,6 +72,20 @@ const RUNS: [Run; 29] = [
         0,
         (1, 3),
         "refused 23 bad-tree 3 -\n",
+    ),
+    (
+        &["layer"],
+        "hostext-tree 2\nd 755 usr\nend\n",
+        0,
+        (1, 3),
+        "refused 23 bad-tree 3 -\n",
+    ),
+    (
+        &["layer"],
+        "hostext-tree 1\nw a\nend\n",
+        0,
+        (1, 2),
+        "refused 23 bad-tree 2 -\n",
     ),
     // Words that are no command, at their first fault.
     (&[], "", 1, (2, 1), ""),
@@ -168,6 +197,60 @@ end
 
 const A_LINK: &str = "hostext-tree 1
 l 1 b a
+end
+";
+
+const UNDER_A_WHITEOUT: &str = "hostext-tree 1
+d 755 usr
+f 644 0 e3b0c44298fc1c149afbf4c8996fb92427ae41e4649b934ca495991b7852b855 usr/a
+f 644 0 e3b0c44298fc1c149afbf4c8996fb92427ae41e4649b934ca495991b7852b855 usr/b
+end
+hostext-tree 2
+d 755 usr
+w usr/a
+end
+";
+
+const WITHOUT_ONE_FILE: &str = "hostext-tree 1
+d 755 usr
+f 644 0 e3b0c44298fc1c149afbf4c8996fb92427ae41e4649b934ca495991b7852b855 usr/b
+end
+";
+
+const UNDER_AN_OPAQUE_DIRECTORY: &str = "hostext-tree 1
+d 755 usr
+f 644 0 e3b0c44298fc1c149afbf4c8996fb92427ae41e4649b934ca495991b7852b855 usr/a
+f 644 0 e3b0c44298fc1c149afbf4c8996fb92427ae41e4649b934ca495991b7852b855 usr/b
+end
+hostext-tree 2
+o 700 usr
+f 644 3 ba7816bf8f01cfea414140de5dae2223b00361a396177a9cb410ff61f20015ad usr/c
+end
+";
+
+const THE_OPAQUE_DIRECTORY: &str = "hostext-tree 1
+d 700 usr
+f 644 3 ba7816bf8f01cfea414140de5dae2223b00361a396177a9cb410ff61f20015ad usr/c
+end
+";
+
+const A_WHITEOUT_BETWEEN: &str = "hostext-tree 1
+d 755 usr
+f 644 0 e3b0c44298fc1c149afbf4c8996fb92427ae41e4649b934ca495991b7852b855 usr/a
+f 644 0 e3b0c44298fc1c149afbf4c8996fb92427ae41e4649b934ca495991b7852b855 usr/b
+end
+hostext-tree 2
+w usr
+end
+hostext-tree 1
+d 711 usr
+f 600 0 e3b0c44298fc1c149afbf4c8996fb92427ae41e4649b934ca495991b7852b855 usr/t
+end
+";
+
+const AFTER_THE_WHITEOUT: &str = "hostext-tree 1
+d 711 usr
+f 600 0 e3b0c44298fc1c149afbf4c8996fb92427ae41e4649b934ca495991b7852b855 usr/t
 end
 ";
 
