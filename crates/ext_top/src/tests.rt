@@ -35,14 +35,7 @@ const RUNS: [Run; 34] = [
         AFTER_THE_LINK,
     ),
     (&["layer"], A_DIRECTORY_UNDER_A_LINK, 0, (0, 0), A_LINK),
-    // Whiteouts and opaque directories.
-    (
-        &["layer"],
-        A_FILE_UNDER_A_WHITEOUT,
-        0,
-        (0, 0),
-        THE_OTHER_FILE,
-    ),
+    (&["layer"], UNDER_A_WHITEOUT, 0, (0, 0), WITHOUT_ONE_FILE),
     (
         &["layer"],
         UNDER_AN_OPAQUE_DIRECTORY,
@@ -52,24 +45,10 @@ const RUNS: [Run; 34] = [
     ),
     (
         &["layer"],
-        A_WHITEOUT_BETWEEN_DIRECTORIES,
+        A_WHITEOUT_BETWEEN,
         0,
         (0, 0),
         AFTER_THE_WHITEOUT,
-    ),
-    (
-        &["layer"],
-        "hostext-tree 2\nd 755 usr\nend\n",
-        0,
-        (1, 3),
-        "refused 23 bad-tree 3 -\n",
-    ),
-    (
-        &["layer"],
-        "hostext-tree 1\nw a\nend\n",
-        0,
-        (1, 2),
-        "refused 23 bad-tree 2 -\n",
     ),
     // Sources that are no sequence of tree texts, at their first faulty line.
     (&["layer"], "", 0, (1, 1), "refused 23 bad-tree 1 -\n"),
@@ -93,6 +72,20 @@ const RUNS: [Run; 34] = [
         0,
         (1, 3),
         "refused 23 bad-tree 3 -\n",
+    ),
+    (
+        &["layer"],
+        "hostext-tree 2\nd 755 usr\nend\n",
+        0,
+        (1, 3),
+        "refused 23 bad-tree 3 -\n",
+    ),
+    (
+        &["layer"],
+        "hostext-tree 1\nw a\nend\n",
+        0,
+        (1, 2),
+        "refused 23 bad-tree 2 -\n",
     ),
     // Words that are no command, at their first fault.
     (&[], "", 1, (2, 1), ""),
@@ -207,7 +200,7 @@ l 1 b a
 end
 ";
 
-const A_FILE_UNDER_A_WHITEOUT: &str = "hostext-tree 1
+const UNDER_A_WHITEOUT: &str = "hostext-tree 1
 d 755 usr
 f 644 0 e3b0c44298fc1c149afbf4c8996fb92427ae41e4649b934ca495991b7852b855 usr/a
 f 644 0 e3b0c44298fc1c149afbf4c8996fb92427ae41e4649b934ca495991b7852b855 usr/b
@@ -218,7 +211,7 @@ w usr/a
 end
 ";
 
-const THE_OTHER_FILE: &str = "hostext-tree 1
+const WITHOUT_ONE_FILE: &str = "hostext-tree 1
 d 755 usr
 f 644 0 e3b0c44298fc1c149afbf4c8996fb92427ae41e4649b934ca495991b7852b855 usr/b
 end
@@ -241,7 +234,7 @@ f 644 3 ba7816bf8f01cfea414140de5dae2223b00361a396177a9cb410ff61f20015ad usr/c
 end
 ";
 
-const A_WHITEOUT_BETWEEN_DIRECTORIES: &str = "hostext-tree 1
+const A_WHITEOUT_BETWEEN: &str = "hostext-tree 1
 d 755 usr
 f 644 0 e3b0c44298fc1c149afbf4c8996fb92427ae41e4649b934ca495991b7852b855 usr/a
 f 644 0 e3b0c44298fc1c149afbf4c8996fb92427ae41e4649b934ca495991b7852b855 usr/b
