@@ -1,5 +1,5 @@
 -- What was added at the end of a text in two steps.
-use Rattle.std.proofs.Common.{◌≡◌, ℕ, List, [], ◌∷◌, ◌++◌, Result, Ok, Err, refl, sym, ap, ◌∙◌, subst, append_assoc}
+use Rattle.std.proofs.Common.{◌≡◌, ℕ, List, ◌++◌, Result, Ok, Err, sym, ap, ◌∙◌, subst, append_assoc}
 use Rattle.std.specs.Prelude.{OnErr, OnOk}
 use Rattle.ext_lines.specs.Prefix.{AppendsPrefix}
 use Rattle.ext_lines.proofs.ForCallers.{appends_after, appends_more, on_err}

@@ -8,9 +8,10 @@ use Rattle.std.specs.List.{flat_map}
 use Rattle.ext_tree.specs.declared.stamp.Stamp.{Stamp}
 use Rattle.ext_tree.specs.Tree.{Entries}
 use Rattle.ext_tree.specs.TreeText.{IsSequence, IsTreeText, tree_lines, tree_text}
-use Rattle.ext_tree.specs.FirstFault.{AtLeastOne, Begins, IsFaultyLine, IsEarlyEnd}
+use Rattle.ext_tree.specs.FirstFault.{AtLeastOne, Begins, EndsIdle, IsFaultyLine, IsEarlyEnd}
 use Rattle.ext_lines.specs.Lines.{whole_lines}
 use Rattle.ext_tree.specs.Laws.{NoFaultInText, NoFaultInSequence, PrefixesBegin, OneFirstFault}
+use Rattle.ext_tree.proofs.IdleLemmas.{none_ends_idle}
 use Rattle.ext_tree.proofs.SequenceLemmas.{loosely, loosely_each, loosely_lines, loosely_trees}
 use Rattle.ext_tree.proofs.FirstFaultLemmas.{sequence_lines}
 
@@ -26,14 +27,16 @@ no_fault_in_sequence bytes trees line is fault = fault.none trees is.non_empty i
 
 pub prefixes_begin : PrefixesBegin
 prefixes_begin bytes trees line sequence =
-    let lines : whole_lines bytes ≡ flat_map tree_lines trees = sequence_lines bytes trees sequence.each sequence.text in
-    record {
-      texts = map loosely trees;
-      more = drop line (whole_lines bytes);
-      as_many = subst AtLeastOne (sym (loosely_trees trees)) sequence.non_empty;
-      each = loosely_each trees sequence.each;
-      text = take-append-drop line (whole_lines bytes) ∙ lines ∙ sym (loosely_lines trees);
-    }
+    let lines : whole_lines bytes ≡ flat_map tree_lines trees = sequence_lines bytes trees sequence.each sequence.text in (
+      record {
+        texts = map loosely trees;
+        more = drop line (whole_lines bytes);
+        as_many = subst AtLeastOne (sym (loosely_trees trees)) sequence.non_empty;
+        each = loosely_each trees sequence.each;
+        text = take-append-drop line (whole_lines bytes) ∙ lines ∙ sym (loosely_lines trees);
+      },
+      λ idle. none_ends_idle trees [] sequence.each tt line (subst (λ xs. EndsIdle (take line xs)) (lines ∙ sym (append-nil (flat_map tree_lines trees))) idle),
+    )
 
 -- ---- at most one
 

@@ -8,8 +8,8 @@ use Rattle.ext_tree.specs.declared.entry.Entry.{Entry}
 use Rattle.ext_tree.specs.declared.entry.Entry.TheVariants.{Dir, Opaque, File, Link, Hide}
 use Rattle.ext_lines.specs.Lines.{lines_text}
 use Rattle.ext_tree.specs.declared.stamp.Stamp.{Stamp}
-use Rattle.ext_tree.specs.Tree.{Entries, as_shown, is_hide}
-use Rattle.ext_tree.specs.TreeText.{all_shown, header, need_version_2, needs_version_2, text_lines, tree_line, tree_text}
+use Rattle.ext_tree.specs.Tree.{Entries, all_shown, as_shown, is_hide}
+use Rattle.ext_tree.specs.TreeText.{header, need_version_2, needs_version_2, text_lines, tree_line, tree_text}
 
 -- an entry's line with its newline
 abbrev pub whole_line : List (List ℕ) × Entry Stamp → List ℕ

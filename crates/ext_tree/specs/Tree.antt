@@ -1,6 +1,7 @@
 -- Trees: finite maps from the paths of entries to entries. A tree is seen as the list of its entries in path order, and
 -- what it has at a path is a look-up in that list.
-use Rattle.std.specs.Prelude.{◌≡◌, ℕ, ◌≤◌, Bool, true, false, List, [], ◌∷◌, length, IsTrue, Option, Some, None, is_some}
+use Rattle.std.specs.Prelude.{◌≡◌, ℕ, ◌≤◌, Bool, true, false, List, [], ◌∷◌, length, IsTrue, Option, Some, None, is_some, map}
+use Rattle.std.specs.Borrow.{Bor}
 use Rattle.std.specs.FinMap.{find, is_sorted}
 use Rattle.ext_text.specs.Path.{IsPath, path_cmp, parent}
 use Rattle.ext_tree.specs.declared.entry.Entry.{Entry}
@@ -53,6 +54,10 @@ as_shown (Opaque mode) = Dir mode
 as_shown (File mode content) = File mode content
 as_shown (Link target) = Link target
 as_shown Hide = Hide
+
+-- borrowed entries as they show
+abbrev pub all_shown : {C : Type 0} → List (Bor (List (List ℕ) × Entry C)) → Entries C
+all_shown es = map (λ x. (x.now.0, as_shown x.now.1)) es
 
 -- a directory stands there
 abbrev pub is_directory_at : {C : Type 0} → Option (Entry C) → Bool

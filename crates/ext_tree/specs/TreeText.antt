@@ -11,11 +11,10 @@
 -- A file's line holds its stamp. The version is 2 where the tree has an opaque directory or a whiteout, lines `o` and `w`,
 -- and 1 where it has none. The grammar is by printing: a text is what some tree is printed as.
 use Rattle.std.specs.Prelude.{◌≡◌, ℕ, ◌<◌, Bool, true, ◌||◌, if◌then◌else◌, List, [], ◌∷◌, ◌++◌, length, map, codes}
-use Rattle.std.specs.Borrow.{Bor}
 use Rattle.std.specs.List.{AllByRecursion, flat_map, list_any}
 use Rattle.ext_lines.specs.Lines.{lines_text}
 use Rattle.ext_tree.specs.Fields.{IsStamp, stamp_fields}
-use Rattle.ext_tree.specs.Tree.{Entries, IsTreeWithin, as_shown, is_hide, is_opaque}
+use Rattle.ext_tree.specs.Tree.{Entries, IsTreeWithin, is_hide, is_opaque}
 use Rattle.ext_tree.specs.EntryLine.{HasLine, IsWritable, LineForm, entry_line}
 use Rattle.ext_tree.specs.declared.entry.Entry.{Entry}
 use Rattle.ext_tree.specs.declared.stamp.Stamp.{Stamp}
@@ -83,7 +82,3 @@ pub record IsLoose (t : Bool × Entries Stamp) : Type 0 where
 -- its lines
 abbrev pub loose_lines : Bool × Entries Stamp → List (List ℕ)
 loose_lines t = text_lines t.0 t.1
-
--- borrowed entries as they show
-abbrev pub all_shown : List (Bor (List (List ℕ) × Entry Stamp)) → Entries Stamp
-all_shown es = map (λ x. (x.now.0, as_shown x.now.1)) es

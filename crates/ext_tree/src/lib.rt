@@ -1,8 +1,9 @@
 //! Trees of entries, and their text.
 //!
-//! A [`Tree`] is a finite map from paths to entries in which each non-empty proper prefix of a path is a directory. A tree text
-//! is read into its tree and a tree is printed as its one text; bytes that are no text are refused at their first faulty line.
-//! The crates that layer, search and change trees stand on this one.
+//! A [`Tree`] is a finite map from paths to entries in which each non-empty proper prefix of a path is a directory. A tree
+//! text is read into its tree and a tree is printed as its one text; bytes that are no text are refused at their first
+//! faulty line. The lines of entries are read and printed for any content of a file ([`LineContent`]). The crates that
+//! layer, search and change trees stand on this one.
 #![tactic(auto)]
 
 mod entry;

@@ -93,8 +93,8 @@ pub fn read_tree(alloc: Global, bytes: &[u8]) -> Result<Tree<Stamp>, TreeTextErr
 /// The trees of a sequence of tree texts, of one at least, in their order.
 ///
 /// # Errors
-/// `BadTree` exactly where the bytes are no such sequence; the empty bytes are none. Its line is as for `read_tree`, and the
-/// lines are counted through all the texts. `OutOfMemory` may come at any time.
+/// `BadTree` exactly where the bytes are no such sequence; the empty bytes are none. Its line is as for `read_tree`, and
+/// the lines are counted through all the texts. `OutOfMemory` may come at any time.
 pub fn read_trees(alloc: Global, bytes: &[u8]) -> Result<Trees, TreeTextErr>
     ensures { ReadsSequence bytes.now result }
 {

@@ -1,7 +1,7 @@
 ghost use Rattle.std.specs.Prelude.{◌≡◌, [], ◌∷◌, ◌++◌, IfOk, OnOk};
 ghost use Rattle.std.specs.List.{list_any};
-ghost use Rattle.ext_tree.specs.Tree.{as_shown, is_hide};
-ghost use Rattle.ext_tree.specs.TreeText.{AreWritable, HasText, IsTreeText, all_shown, header, need_version_2, tree_line, tree_text};
+ghost use Rattle.ext_tree.specs.Tree.{all_shown, as_shown, is_hide};
+ghost use Rattle.ext_tree.specs.TreeText.{AreWritable, HasText, IsTreeText, header, need_version_2, tree_line, tree_text};
 
 use crate::entry::Entry;
 use crate::entry_line;
