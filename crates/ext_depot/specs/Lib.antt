@@ -1,0 +1,4 @@
+pub mod Depot
+pub mod ReadAt
+pub mod DepotView
+pub mod DepotCalls
