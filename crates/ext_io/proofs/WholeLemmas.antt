@@ -7,21 +7,23 @@ use Rattle.std.specs.Io.KnownBytes.{Appends, Consumes, Keeps}
 use Rattle.ext_text.specs.Causes.{Rose}
 use Rattle.ext_io.specs.declared.whole.ReadErr.{ReadErr}
 use Rattle.ext_io.specs.declared.whole.ReadErr.TheVariants.{OutOfMemory, Failed, TooLong}
-use Rattle.ext_io.specs.Stopped.{Stopped, PieceStopped}
+use Rattle.ext_io.specs.SourceState.{SourceState}
+use Rattle.ext_io.specs.SinkState.{SinkState}
+use Rattle.ext_io.specs.Whole.{Stopped, PieceStopped}
 
--- a front of so many bytes was written, and no fault was forgotten
-pub record HasWritten (old new : Option (List ℕ)) (before after : ℕ) (bytes : List ℕ) (at : ℕ) : Type 0 where
+-- a prefix of so many bytes was written, and no fault was forgotten
+pub record HasWritten (old new : SinkState) (bytes : List ℕ) (at : ℕ) : Type 0 where
   pub within : at ≤ length bytes
-  pub prefix : Appends old new (take at bytes)
-  pub count : before ≤ after
+  pub prefix : Appends old.written new.written (take at bytes)
+  pub count : old.faults ≤ new.faults
 
 -- these bytes were taken, at most one more than so many, and no fault was forgotten
-pub record HasTaken (old new : Option (List ℕ)) (before after : ℕ) (bytes : List ℕ) (most : ℕ) : Type 0 where
-  pub taken : Consumes old new bytes
-  pub short : length bytes ≤ most + 1
-  pub count : before ≤ after
+pub record HasTaken (old new : SourceState) (bytes : List ℕ) (most : ℕ) : Type 0 where
+  pub taken : Consumes old.left new.left bytes
+  pub at_most_one_more : length bytes ≤ most + 1
+  pub count : old.faults ≤ new.faults
 
--- a front, and then bytes behind it, are a longer front
+-- a prefix, and then bytes after it, are a longer prefix
 appends_on : (old mid new : Option (List ℕ)) (bytes : List ℕ) (at n : ℕ) → Appends old mid (take at bytes) → Appends mid new (take n (drop at bytes)) → Appends old new (take (at + n) bytes)
 appends_on None mid new bytes at n first then = tt
 appends_on (Some xs) None new bytes at n first then = absurd first
@@ -30,15 +32,15 @@ appends_on (Some xs) (Some ys) (Some zs) bytes at n first then =
     then ∙ ap (λ (l : List ℕ). l ++ take n (drop at bytes)) first ∙ append_assoc xs (take at bytes) (take n (drop at bytes))
     ∙ ap (λ (l : List ℕ). xs ++ l) (sym (take-add at n bytes))
 
--- a write of what is behind the front
-pub writes_on : (old mid new : Option (List ℕ)) (before amid after : ℕ) (bytes : List ℕ) (at n : ℕ) → HasWritten old mid before amid bytes at → n ≤ length (between at (length bytes) bytes) → Appends mid new (take n (between at (length bytes) bytes)) → amid ≤ after → HasWritten old new before after bytes (at + n)
-writes_on old mid new before amid after bytes at n has some then no_less =
+-- a write of what comes after the prefix
+pub writes_on : (old mid new : SinkState) (bytes : List ℕ) (at n : ℕ) → HasWritten old mid bytes at → n ≤ length (between at (length bytes) bytes) → Appends mid.written new.written (take n (between at (length bytes) bytes)) → mid.faults ≤ new.faults → HasWritten old new bytes (at + n)
+writes_on old mid new bytes at n has within then no_less =
     let rest : between at (length bytes) bytes ≡ drop at bytes = between_to_end bytes at (length bytes) (omega arith) in
-    let longer : n ≤ length (drop at bytes) = rw (← rest) some in
-    let next : Appends mid new (take n (drop at bytes)) = rw (← rest) then in
+    let longer : n ≤ length (drop at bytes) = rw (← rest) within in
+    let next : Appends mid.written new.written (take n (drop at bytes)) = rw (← rest) then in
     record {
       within = omega (arith, length-drop at bytes, has.within);
-      prefix = appends_on old mid new bytes at n has.prefix next;
+      prefix = appends_on old.written mid.written new.written bytes at n has.prefix next;
       count = omega (arith, has.count);
     }
 
@@ -63,9 +65,9 @@ rose_since before amid after no_less (inl more) = inl (omega arith)
 rose_since before amid after no_less (inr last) = inr last
 
 -- a read that stopped, after others that did not, stops the whole
-pub stops_on : (old mid new : Option (List ℕ)) (before amid after : ℕ) (bytes : List ℕ) (most room : ℕ) (e : ReadErr) → HasTaken old mid before amid bytes most → length bytes ≤ most → room + length bytes ≤ most + 1 → PieceStopped mid new amid after room e → Stopped old new before after most e
-stops_on old mid new before amid after bytes most room OutOfMemory has within fits stopped =
-    (bytes ++ stopped.0, takes_on old mid new bytes stopped.0 has.taken stopped.1, omega (arith, length-append bytes stopped.0))
-stops_on old mid new before amid after bytes most room Failed has within fits stopped =
-    ((bytes, keeps_on old mid new bytes has.taken stopped.0, within), rose_since before amid after has.count stopped.1)
-stops_on old mid new before amid after bytes most room TooLong has within fits stopped = absurd stopped
+pub stops_on : (old mid new : SourceState) (bytes : List ℕ) (most room : ℕ) (e : ReadErr) → HasTaken old mid bytes most → length bytes ≤ most → room + length bytes ≤ most + 1 → PieceStopped mid new room e → Stopped old new most e
+stops_on old mid new bytes most room OutOfMemory has within fits stopped =
+    (bytes ++ stopped.0, takes_on old.left mid.left new.left bytes stopped.0 has.taken stopped.1, omega (arith, length-append bytes stopped.0))
+stops_on old mid new bytes most room Failed has within fits stopped =
+    ((bytes, keeps_on old.left mid.left new.left bytes has.taken stopped.0, within), rose_since old.faults mid.faults new.faults has.count stopped.1)
+stops_on old mid new bytes most room TooLong has within fits stopped = absurd stopped

@@ -1,8 +1,8 @@
-pub mod AppendsPart
-pub mod Count
-pub mod Reading
-pub mod SinkView
-pub mod SourceView
+pub mod SourceState
+pub mod SinkState
+pub mod Device
+pub mod MemorySource
+pub mod MemorySink
 pub mod StdView
-pub mod Stopped
-pub mod Writing
+pub mod ProperPrefix
+pub mod Whole

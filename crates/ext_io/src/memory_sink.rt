@@ -1,11 +1,10 @@
 ghost use Rattle.std.specs.Prelude.{◌≡◌, ◌<◌, ◌≤◌, ◌++◌, [], length, take, IfOk, OnErr};
 ghost use Rattle.std.specs.Io.KnownBytes.{Appends, Keeps};
 ghost use Rattle.ext_text.specs.Causes.{HasCause};
-ghost use Rattle.ext_io.specs.Writing.{Writes};
+ghost use Rattle.ext_io.specs.MemorySink.{Writes};
 
-use crate::Calls;
+use crate::device::{Calls, is_listed, next_count};
 use crate::failed::Failed;
-use crate::memory_source::is_listed;
 use crate::sink::Sink;
 use ext_text::Text;
 use std::alloc::Global;
@@ -24,7 +23,7 @@ pub struct MemorySink {
 
 impl Model for MemorySink {
     ghost use Rattle.std.specs.Prelude.{◌<◌};
-    ghost use Rattle.ext_io.specs.SinkView.{SinkView};
+    ghost use Rattle.ext_io.specs.MemorySink.{SinkView};
 
     ghost Value = { SinkView };
 
@@ -71,7 +70,7 @@ impl MemorySink {
         self.written.bytes()
     }
 
-    /// How many calls failed because a growth was refused. Each of them is counted as a fault, too.
+    /// How many calls failed because an allocation failed. Each of them is counted as a fault, too.
     pub fn starved(&self) -> u64
         ensures { result ≡ self.now.starved }
     {
@@ -82,32 +81,31 @@ impl MemorySink {
 impl Sink for MemorySink {
     ghost use Rattle.std.specs.Prelude.{Some};
 
-    ghost written = { λ s. Some s.written };
+    ghost state = { λ s. record { written = Some s.written; faults = s.faults } };
 
-    ghost faults = { λ s. s.faults };
-
-    /// Beside what each sink promises: the call fails exactly where it is listed or a growth is refused, and takes as
-    /// many bytes as it may.
+    /// Beside what each sink promises: the call fails exactly where it is listed or an allocation fails, and takes
+    /// as many bytes as it may.
     fn write(&mut self, bytes: &[u8]) -> Result<usize, Failed>
         requires { 0 < length bytes.now }
-        ensures some { IfOk result (λ n. (0 < n) × (n ≤ length bytes.now)) }
+        ensures non_empty { IfOk result (λ n. 0 < n) }
+        ensures within { IfOk result (λ n. n ≤ length bytes.now) }
         ensures appended { IfOk result (λ n. self.new.written ≡ self.old.written ++ take n bytes.now) }
         ensures failed { OnErr result (self.new.written ≡ self.old.written) }
         ensures count { self.old.faults ≤ self.new.faults }
         ensures cause { HasCause result self.old.faults self.new.faults }
         ensures exact { Writes self.old self.new bytes.now result }
     {
-        self.calls = self.calls.saturating_add(1);
+        self.calls = next_count(self.calls);
         if is_listed(&self.fails, self.calls) {
-            self.faults = self.faults.saturating_add(1);
+            self.faults = next_count(self.faults);
             return Err(Failed);
         }
         let count = self.piece.min(bytes.len());
         match self.written.append(&bytes[..count]) {
             Ok(()) => Ok(count),
             Err(_refused) => {
-                self.starved = self.starved.saturating_add(1);
-                self.faults = self.faults.saturating_add(1);
+                self.starved = next_count(self.starved);
+                self.faults = next_count(self.faults);
                 Err(Failed)
             }
         }

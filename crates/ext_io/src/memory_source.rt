@@ -1,9 +1,9 @@
-ghost use Rattle.std.specs.Prelude.{◌≡◌, ◌<◌, ◌≤◌, ◌↔◌, ◌++◌, min, length, take, drop, [], Contains, IsTrue, IfOk, OnErr};
+ghost use Rattle.std.specs.Prelude.{◌≡◌, ◌<◌, ◌≤◌, ◌++◌, min, length, take, drop, [], IfOk, OnErr};
 ghost use Rattle.std.specs.Io.KnownBytes.{Consumes, IsAtEnd, Keeps};
 ghost use Rattle.ext_text.specs.Causes.{HasCause};
-ghost use Rattle.ext_io.specs.Reading.{Reads};
+ghost use Rattle.ext_io.specs.MemorySource.{Reads};
 
-use crate::Calls;
+use crate::device::{Calls, is_listed, next_count};
 use crate::failed::Failed;
 use crate::source::Source;
 use ext_text::Text;
@@ -22,7 +22,7 @@ pub struct MemorySource {
 
 impl Model for MemorySource {
     ghost use Rattle.std.specs.Prelude.{◌<◌, ◌≤◌, length, drop};
-    ghost use Rattle.ext_io.specs.SourceView.{SourceView};
+    ghost use Rattle.ext_io.specs.MemorySource.{SourceView};
 
     ghost Value = { SourceView };
 
@@ -58,9 +58,7 @@ impl MemorySource {
 impl Source for MemorySource {
     ghost use Rattle.std.specs.Prelude.{Some};
 
-    ghost left = { λ s. Some s.left };
-
-    ghost faults = { λ s. s.faults };
+    ghost state = { λ s. record { left = Some s.left; faults = s.faults } };
 
     /// Beside what each source promises: the call fails exactly where it is listed, and gives as many bytes as it may.
     fn read(&mut self, buf: &mut [u8]) -> Result<usize, Failed>
@@ -73,9 +71,9 @@ impl Source for MemorySource {
         ensures cause { HasCause result self.old.faults self.new.faults }
         ensures exact { Reads self.old self.new (length buf.old) result }
     {
-        self.calls = self.calls.saturating_add(1);
+        self.calls = next_count(self.calls);
         if is_listed(&self.fails, self.calls) {
-            self.faults = self.faults.saturating_add(1);
+            self.faults = next_count(self.faults);
             return Err(Failed);
         }
         let count = copy_prefix(&self.text.bytes()[self.at..], buf, self.piece);
@@ -84,14 +82,7 @@ impl Source for MemorySource {
     }
 }
 
-/// Whether a call of this number is in the list.
-pub(crate) fn is_listed(fails: &Calls, call: u64) -> bool
-    ensures { IsTrue result ↔ Contains fails.now call }
-{
-    fails.as_slice().contains(&call)
-}
-
-// Copies a front of the bytes into the buffer, at most so many, and gives how many.
+// Copies a prefix of the bytes into the buffer, at most so many, and gives how many.
 fn copy_prefix(bytes: &[u8], buf: &mut [u8], most: usize) -> usize
     ensures count { result ≡ min (min most (length buf.old)) (length bytes.now) }
     ensures within { result ≤ length buf.new }

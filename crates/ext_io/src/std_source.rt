@@ -1,16 +1,14 @@
 ghost use Rattle.std.specs.Prelude.{◌≡◌, ◌<◌, ◌≤◌, length, take, if◌then◌else◌, is_ok, IfOk, OnErr};
 ghost use Rattle.std.specs.Io.KnownBytes.{Consumes, IsAtEnd, Keeps};
 ghost use Rattle.ext_text.specs.Causes.{HasCause};
-ghost use Rattle.ext_io.specs.Count.{next_count};
+ghost use Rattle.ext_io.specs.Device.{next_count};
 
+use crate::device::next_count;
 use crate::failed::Failed;
+use crate::retries::read_again;
 use crate::source::Source;
-use std::io::{ErrorKind, Read};
+use std::io::Read;
 use std::marker::Model;
-
-/// How many calls of std's readers and writers are tried where each but the last was interrupted: the first, and 1,000
-/// again.
-pub(crate) const TRIES: u32 = 1001;
 
 /// A reader of std as a source. A call that is interrupted is tried again, at most 1,000 times in a row. The source tells
 /// nothing of its bytes, and counts the calls that failed.
@@ -40,9 +38,7 @@ impl<R: Read> StdSource<R> {
 impl<R: Read> Source for StdSource<R> {
     ghost use Rattle.std.specs.Prelude.{None};
 
-    ghost left = { λ _. None };
-
-    ghost faults = { λ s. s.faults };
+    ghost state = { λ s. record { left = None; faults = s.faults } };
 
     /// Beside what each source promises: it takes from the reader exactly what it gives, and counts each call that
     /// failed.
@@ -61,27 +57,9 @@ impl<R: Read> Source for StdSource<R> {
         match read_again(&mut self.inner, buf) {
             Ok(count) => Ok(count),
             Err(failed) => {
-                self.faults = self.faults.saturating_add(1);
+                self.faults = next_count(self.faults);
                 Err(failed)
             }
         }
     }
-}
-
-// One read of the reader, tried again where it was interrupted.
-fn read_again<R: Read>(reader: &mut R, buf: &mut [u8]) -> Result<usize, Failed>
-    ensures within { IfOk result (λ n. n ≤ length buf.new) }
-    ensures moved { IfOk result (λ n. Consumes
-        (R.remaining reader.old) (R.remaining reader.new) (take n buf.new)) }
-    ensures end { IfOk result (λ n. n ≡ 0 → 0 < length buf.old → IsAtEnd (R.remaining reader.new)) }
-    ensures failed { OnErr result (Keeps (R.remaining reader.old) (R.remaining reader.new)) }
-{
-    'tries: for _ in 0..TRIES {
-        match reader.read(buf) {
-            Ok(count) => return Ok(count),
-            Err(error) if error.kind() == ErrorKind::Interrupted => {}
-            Err(_error) => return Err(Failed),
-        }
-    }
-    Err(Failed)
 }

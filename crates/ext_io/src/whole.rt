@@ -1,14 +1,15 @@
-ghost use Rattle.std.specs.Prelude.{◌≡◌, ℕ, ◌+◌, ◌^◌, ◌<◌, ◌≤◌, ◌++◌, List, length, take, vec_len, OnOk, OnErr, IfOk, IfErr};
-ghost use Rattle.std.specs.Io.KnownBytes.{Appends, Consumes, IsAtEnd, Keeps};
+// The two loops over a stream: reading a source to its end, and writing all of a text.
+ghost use Rattle.std.specs.Prelude.{◌≡◌, ℕ, ◌+◌, ◌^◌, ◌<◌, ◌≤◌, ◌++◌, List, length, vec_len, OnOk, OnErr, IfOk, IfErr};
+ghost use Rattle.std.specs.Io.KnownBytes.{Appends, Consumes, IsAtEnd};
 ghost use Rattle.ext_text.specs.Causes.{HasCause};
-ghost use Rattle.ext_io.specs.Stopped.{Stopped, PieceStopped};
-ghost use Rattle.ext_io.specs.AppendsPart.{AppendsPart};
+ghost use Rattle.ext_io.specs.ProperPrefix.{AppendsProperPrefix};
+ghost use Rattle.ext_io.specs.Whole.{ReadsAll, Stopped, PieceStopped};
 
 use crate::failed::Failed;
 use crate::sink::Sink;
 use crate::source::Source;
-use ext_text::Text;
-use std::alloc::{AllocError, Global};
+use ext_text::{OutOfMemory, Text};
+use std::alloc::Global;
 use thiserror::Error;
 
 /// The most bytes that are asked for in one read.
@@ -17,7 +18,7 @@ const PIECE: usize = 65_536;
 /// Why a source was not read to its end.
 #[derive(Clone, Copy, Debug, PartialEq, Eq, Error)]
 pub enum ReadErr {
-    /// A growth was refused.
+    /// An allocation failed.
     #[error("out of memory")]
     OutOfMemory,
     /// The source failed.
@@ -28,13 +29,13 @@ pub enum ReadErr {
     TooLong,
 }
 
-impl From<AllocError> for ReadErr {
+impl From<OutOfMemory> for ReadErr {
     ghost use Rattle.std.specs.Prelude.{◌≡◌};
     ghost use Rattle.ext_io.specs.declared.whole.ReadErr.TheVariants as errors;
 
     ghost from_gives = { λ _ e. e ≡ errors.OutOfMemory };
 
-    fn from(_refused: AllocError) -> ReadErr {
+    fn from(_refused: OutOfMemory) -> ReadErr {
         ReadErr::OutOfMemory
     }
 }
@@ -54,17 +55,15 @@ impl From<Failed> for ReadErr {
 /// that there are too many.
 ///
 /// # Errors
-/// Want of memory, a source that failed, and a source of more than `most` bytes. The bytes that were read by then are
+/// Out of memory, a source that failed, and a source of more than `most` bytes. The bytes that were read by then are
 /// gone from the source: at most `most` where it failed, exactly one more where it is too long.
 pub fn read_to_end<S: Source>(alloc: Global, source: &mut S, most: usize) -> Result<Text, ReadErr>
     requires { most < 2 ^ 32 }
-    ensures ok { IfOk result (λ text. Consumes (S.left source.old) (S.left source.new) text
-        × IsAtEnd (S.left source.new) × (length text ≤ most)) }
-    ensures err { IfErr result (Stopped (S.left source.old) (S.left source.new)
-        (S.faults source.old) (S.faults source.new) most) }
-    ensures count { S.faults source.old ≤ S.faults source.new }
+    ensures ok { IfOk result (ReadsAll (S.state source.old) (S.state source.new) most) }
+    ensures err { IfErr result (Stopped (S.state source.old) (S.state source.new) most) }
+    ensures count { (S.state source.old).faults ≤ (S.state source.new).faults }
 {
-    let mut buffer = vec![in alloc; 0u8; PIECE.min(most + 1)]?;
+    let mut buffer = zeros(alloc, PIECE.min(most + 1))?;
     let mut bytes = Vec::new(alloc);
     'pieces: while bytes.len() <= most {
         let room = PIECE.min(most + 1 - bytes.len());
@@ -76,6 +75,13 @@ pub fn read_to_end<S: Source>(alloc: Global, source: &mut S, most: usize) -> Res
     Err(ReadErr::TooLong)
 }
 
+// A buffer of so many bytes.
+fn zeros(alloc: Global, count: usize) -> Result<Vec<u8>, OutOfMemory>
+    ensures { IfOk result (λ buffer. length buffer.items ≡ count) }
+{
+    Ok(vec![in alloc; 0u8; count]?)
+}
+
 // Reads once, adds what was read to the bytes, and gives how much that was.
 fn read_piece<S: Source>(
     source: &mut S,
@@ -84,26 +90,34 @@ fn read_piece<S: Source>(
 ) -> Result<usize, ReadErr>
     requires { 0 < length buffer.old }
     ensures ok { IfOk result (λ n. (piece : List ℕ) × (bytes.new.items ≡ bytes.old.items ++ piece)
-        × (length piece ≡ n) × (n ≤ length buffer.old) × Consumes (S.left source.old) (S.left source.new) piece) }
-    ensures end { IfOk result (λ n. n ≡ 0 → IsAtEnd (S.left source.new)) }
-    ensures err { IfErr result (PieceStopped (S.left source.old) (S.left source.new)
-        (S.faults source.old) (S.faults source.new) (length buffer.old)) }
-    ensures count { S.faults source.old ≤ S.faults source.new }
+        × (length piece ≡ n) × (n ≤ length buffer.old)
+        × Consumes (S.state source.old).left (S.state source.new).left piece) }
+    ensures end { IfOk result (λ n. n ≡ 0 → IsAtEnd (S.state source.new).left) }
+    ensures err { IfErr result (PieceStopped (S.state source.old) (S.state source.new) (length buffer.old)) }
+    ensures count { (S.state source.old).faults ≤ (S.state source.new).faults }
 {
     let count = source.read(buffer)?;
-    bytes.extend_from_slice(&buffer[..count])?;
+    append(bytes, &buffer[..count])?;
     Ok(count)
+}
+
+// Adds bytes at the end.
+fn append(bytes: &mut Vec<u8>, piece: &[u8]) -> Result<(), OutOfMemory>
+    ensures { OnOk result (bytes.new.items ≡ bytes.old.items ++ piece.now) }
+{
+    bytes.extend_from_slice(piece)?;
+    Ok(())
 }
 
 /// Writes all the bytes.
 ///
 /// # Errors
-/// The sink failed. Where it tells what was written, a front of the bytes was, and not all of them.
+/// The sink failed. Where it tells what was written, a proper prefix of the bytes was.
 pub fn write_all<K: Sink>(sink: &mut K, bytes: &[u8]) -> Result<(), Failed>
-    ensures ok { OnOk result (Appends (K.written sink.old) (K.written sink.new) bytes.now) }
-    ensures failed { OnErr result (AppendsPart (K.written sink.old) (K.written sink.new) bytes.now) }
-    ensures count { K.faults sink.old ≤ K.faults sink.new }
-    ensures cause { HasCause result (K.faults sink.old) (K.faults sink.new) }
+    ensures ok { OnOk result (Appends (K.state sink.old).written (K.state sink.new).written bytes.now) }
+    ensures failed { OnErr result (AppendsProperPrefix (K.state sink.old) (K.state sink.new) bytes.now) }
+    ensures count { (K.state sink.old).faults ≤ (K.state sink.new).faults }
+    ensures cause { HasCause result (K.state sink.old).faults (K.state sink.new).faults }
 {
     let mut at = 0;
     'pieces: while at < bytes.len() {

@@ -5,7 +5,7 @@ use Rattle.ext_io.proofs.whole.read_to_end.Given as goal
 -- what was taken stands in the bytes, and the buffer keeps its length
 abbrev pub invariant-pieces : goal.invariant-pieces
 invariant-pieces g l =
-    HasTaken (g.S.Source.left l.initial.source) (g.S.Source.left l.source) (g.S.Source.faults l.initial.source) (g.S.Source.faults l.source) l.bytes.items l.most
+    HasTaken (g.S.Source.state l.initial.source) (g.S.Source.state l.source) l.bytes.items l.most
     × (length l.buffer.items ≡ min 65536 (l.most + 1))
 
 abbrev pub decreases-pieces : goal.decreases-pieces

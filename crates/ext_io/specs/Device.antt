@@ -1,4 +1,5 @@
--- How a device counts: by ones, up to the last value of a 64 bit number, where a count stands still.
+-- How a device counts its calls and its faults: by ones, up to the last value of a 64 bit number, where a count stands
+-- still.
 use Rattle.std.specs.Prelude.{ℕ, ◌+◌, ◌-◌, ◌^◌, min}
 
 -- the count after one more

@@ -1,5 +1,5 @@
 use Rattle.std.specs.Io.KnownBytes.{Keeps}
-use Rattle.ext_io.proofs.std_sink.write_again.Given as goal
+use Rattle.ext_io.proofs.retries.write_again.Given as goal
 
 -- no interrupted call has written anything
 abbrev pub invariant-tries : goal.invariant-tries

@@ -1,7 +1,19 @@
--- One call of a source in memory, exactly: what it answers, and the whole source after it.
-use Rattle.std.specs.Prelude.{◌≡◌, ℕ, min, length, drop, Contains, Result, Ok, Err}
-use Rattle.ext_io.specs.Count.{next_count}
-use Rattle.ext_io.specs.SourceView.{SourceView}
+-- A source in memory, and one call of it, exactly: what it answers, and the whole source after it.
+use Rattle.std.specs.Prelude.{◌≡◌, ℕ, List, min, length, drop, Contains, Result, Ok, Err}
+use Rattle.ext_io.specs.Device.{next_count}
+
+-- what contracts see of a source in memory
+pub record SourceView : Type 0 where
+  -- the bytes that were not read yet
+  pub left : List ℕ
+  -- the most bytes that a call gives
+  pub piece : ℕ
+  -- the numbers of the calls that fail
+  pub fails : List ℕ
+  -- how often it was called
+  pub calls : ℕ
+  -- how often a call failed
+  pub faults : ℕ
 
 -- the source after a call that gave n bytes
 abbrev pub source_after : SourceView → ℕ → SourceView

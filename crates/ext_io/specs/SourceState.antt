@@ -1,0 +1,8 @@
+-- What a source means to contracts.
+use Rattle.std.specs.Prelude.{ℕ, List, Option}
+
+pub record SourceState : Type 0 where
+  -- the bytes that were not read yet, where the source tells them
+  pub left : Option (List ℕ)
+  -- how often a call failed
+  pub faults : ℕ
