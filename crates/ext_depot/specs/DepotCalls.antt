@@ -2,7 +2,7 @@
 use Rattle.std.specs.Prelude.{◌≡◌, ℕ, List, Option, Some, Contains, Result, Ok, Err, if◌then◌else◌}
 use Rattle.std.specs.Ordering.{eq_by_cmp}
 use Rattle.ext_text.specs.Path.{path_cmp}
-use Rattle.ext_io.specs.Count.{next_count}
+use Rattle.ext_io.specs.Device.{next_count}
 use Rattle.ext_depot.specs.DepotView.{DepotView, file_at}
 
 -- a call fails exactly where its number is listed; it is counted, and so is its fault

@@ -8,6 +8,8 @@
 mod depot;
 mod memory_depot;
 mod read_at;
+#[cfg(test)]
+mod tests;
 
 pub use depot::Depot;
 pub use memory_depot::MemoryDepot;

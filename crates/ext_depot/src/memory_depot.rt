@@ -5,7 +5,7 @@ ghost use Rattle.ext_depot.specs.DepotCalls.{Admits, Puts};
 
 use crate::depot::Depot;
 use crate::read_at::read_at;
-use ext_io::{Calls, Failed};
+use ext_io::{Calls, Failed, is_listed, next_count};
 use ext_text::{OutOfMemory, Path, Text};
 use std::alloc::Global;
 use std::collections::BTreeMap;
@@ -69,11 +69,11 @@ impl MemoryDepot {
         ensures kept { IsKept (depot_state self.old) (depot_state self.new) }
         ensures cause { HasCause result self.old.faults self.new.faults }
     {
-        self.calls = self.calls.saturating_add(1);
-        if !self.fails.as_slice().contains(&self.calls) {
+        self.calls = next_count(self.calls);
+        if !is_listed(&self.fails, self.calls) {
             return Ok(());
         }
-        self.faults = self.faults.saturating_add(1);
+        self.faults = next_count(self.faults);
         Err(Failed)
     }
 }

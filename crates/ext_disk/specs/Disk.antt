@@ -53,7 +53,7 @@ Places = List (List ℕ) → Place
 abbrev pub now : Places → Tree
 now d = λ p. (d p).node
 
--- nothing, and nothing to settle
+-- nothing stands there, and nothing is to be settled
 abbrev pub absent : Place
 absent = record { node = None; loose = false; soft = false; swung = None }
 
@@ -128,3 +128,10 @@ pub record DiskState : Type 0 where
 pub record IsDisk (d : Told) : Type 0 where
   pub tree : IsTree d.places
   pub present : d.past d.clock ≡ d.places
+
+-- both tell, and this holds of what they tell; or neither does. A disk never begins to tell, and never ceases to
+abbrev pub BothTold : (Told → Told → Type 0) → Option Told → Option Told → Type 0
+BothTold R None None = Unit {0}
+BothTold R None (Some e) = ⊥
+BothTold R (Some d) None = ⊥
+BothTold R (Some d) (Some e) = R d e

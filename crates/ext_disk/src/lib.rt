@@ -1,13 +1,14 @@
-// A library with one function.
+//! The disk: the folder in which the store stands, and what a stop may leave of it.
+//!
+//! A [`Disk`] tells contracts what stands at each path, which names and bytes are not settled yet, and what a stop at each
+//! moment of its past may have left. What is promised of stops anywhere above comes from here.
 #![tactic(auto)]
 
-ghost use Rattle.std.specs.Prelude.{◌≡◌};
-ghost use Rattle.ext_disk.specs.Echo.{echo_of};
+mod disk;
+mod kind;
+pub mod laws;
+mod list_err;
 
-// The `ensures` clause is the contract: what `echo` returns is `echo_of` of its argument, a definition
-// in `specs/Echo.antt`, which a caller's clause can cite too.
-pub fn echo(x: usize) -> usize
-    ensures { result ≡ echo_of x }
-{
-    x
-}
+pub use disk::Disk;
+pub use kind::Kind;
+pub use list_err::ListErr;

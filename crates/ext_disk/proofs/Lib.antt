@@ -1,0 +1,5 @@
+pub mod Paths
+pub mod Both
+pub mod Outcomes
+pub mod Sparing
+pub mod ForCallers
