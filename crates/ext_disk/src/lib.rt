@@ -4,11 +4,18 @@
 //! moment of its past may have left. What is promised of stops anywhere above comes from here.
 #![tactic(auto)]
 
+mod deed;
 mod disk;
+mod disk_call;
+mod history;
 mod kind;
 pub mod laws;
 mod list_err;
+mod meter;
+mod spot;
+mod spots;
 
 pub use disk::Disk;
+pub use disk_call::{DiskCall, DiskOp};
 pub use kind::Kind;
 pub use list_err::ListErr;
