@@ -5,5 +5,7 @@ pub mod Sparing
 mod SpotsLemmas
 mod NamesLemmas
 mod Growth
+mod ListingLemmas
 mod HistoryLemmas
+mod PastLemmas
 pub mod ForCallers

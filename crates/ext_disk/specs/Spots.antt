@@ -1,9 +1,10 @@
 -- A disk in memory: what its map says of each path.
-use Rattle.std.specs.Prelude.{◌≡◌, ℕ, true, List, [], ◌∷◌, ◌++◌, Option, Some, None}
+use Rattle.std.specs.Prelude.{◌≡◌, ℕ, true, List, [], ◌∷◌, ◌++◌, Option, Some, None, if◌then◌else◌}
 use Rattle.std.specs.Option.{option_map, is_some}
 use Rattle.std.specs.BTreeMap.{BTreeMap, get}
 use Rattle.ext_text.specs.Path.{path_cmp}
 use Rattle.ext_disk.specs.Disk.{Node, folder, file, Place, Places, Swing, absent, root_place, is_file, is_no_folder}
+use Rattle.ext_disk.specs.Calls.{child_name}
 use Rattle.ext_disk.specs.declared.spot.Content.{Content}
 use Rattle.ext_disk.specs.declared.spot.Content.TheVariants.{Absent, Folder, File}
 use Rattle.ext_disk.specs.declared.spot.Spot.{Spot}
@@ -45,3 +46,7 @@ pub record IsGrown (d : Places) : Type 0 where
   pub root : d [] ≡ root_place
   pub parents : (p : List (List ℕ)) (n : List ℕ) → is_some (d (p ++ n ∷ [])).node ≡ true → (d p).node ≡ Some folder
   pub swings : (p : List (List ℕ)) (w : Swing) → (d p).swung ≡ Some w → IsReached w (d p).node
+
+-- the name of a path in a folder, where something stands there
+abbrev pub spot_name : List (List ℕ) → List (List ℕ) → Spot → Option (List ℕ)
+spot_name dir path spot = if is_some (node_of spot.content) then child_name dir path else None
