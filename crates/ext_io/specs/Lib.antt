@@ -4,5 +4,4 @@ pub mod Device
 pub mod MemorySource
 pub mod MemorySink
 pub mod StdView
-pub mod ProperPrefix
 pub mod Whole

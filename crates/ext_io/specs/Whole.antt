@@ -1,8 +1,10 @@
--- Reading a source to its end: what was taken from it, and why it stopped before.
+-- Reading a source to its end, and writing all of a text: what was taken or written, also where it stopped before.
 use Rattle.std.specs.Prelude.{◌≡◌, ℕ, ◌+◌, ◌≤◌, List, length}
-use Rattle.std.specs.Io.KnownBytes.{Consumes, IsAtEnd, Keeps}
+use Rattle.std.specs.Io.KnownBytes.{Appends, Consumes, IsAtEnd, Keeps}
+use Rattle.ext_lines.specs.Prefix.{IsProperPrefix}
 use Rattle.ext_text.specs.Causes.{Rose}
 use Rattle.ext_io.specs.SourceState.{SourceState}
+use Rattle.ext_io.specs.SinkState.{SinkState}
 use Rattle.ext_io.specs.declared.whole.ReadErr.{ReadErr}
 use Rattle.ext_io.specs.declared.whole.ReadErr.TheVariants.{OutOfMemory, Failed, TooLong}
 
@@ -28,3 +30,7 @@ abbrev pub PieceStopped : SourceState → SourceState → ℕ → ReadErr → Ty
 PieceStopped old new room OutOfMemory = Took old new (λ bytes. length bytes ≤ room)
 PieceStopped old new room Failed = Keeps old.left new.left × Rose old.faults new.faults
 PieceStopped old new room TooLong = ⊥
+
+-- a proper prefix of the text was written
+abbrev pub AppendsProperPrefix : SinkState → SinkState → List ℕ → Type 0
+AppendsProperPrefix old new text = (prefix : List ℕ) × IsProperPrefix prefix text × Appends old.written new.written prefix

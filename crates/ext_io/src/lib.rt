@@ -21,7 +21,7 @@ mod std_source;
 mod tests;
 mod whole;
 
-pub use device::{Calls, is_listed, next_count};
+pub use device::{Calls, is_listed, next_count, read_at};
 pub use failed::Failed;
 pub use memory_sink::MemorySink;
 pub use memory_source::MemorySource;

@@ -1,9 +1,9 @@
-ghost use Rattle.std.specs.Prelude.{◌≡◌, ◌<◌, ◌≤◌, ◌++◌, min, length, take, drop, [], IfOk, OnErr};
+ghost use Rattle.std.specs.Prelude.{◌≡◌, ◌<◌, ◌≤◌, ◌++◌, length, take, [], IfOk, OnErr};
 ghost use Rattle.std.specs.Io.KnownBytes.{Consumes, IsAtEnd, Keeps};
 ghost use Rattle.ext_text.specs.Causes.{HasCause};
 ghost use Rattle.ext_io.specs.MemorySource.{Reads};
 
-use crate::device::{Calls, is_listed, next_count};
+use crate::device::{Calls, copy_prefix, is_listed, next_count};
 use crate::failed::Failed;
 use crate::source::Source;
 use ext_text::Text;
@@ -80,15 +80,4 @@ impl Source for MemorySource {
         self.at += count;
         Ok(count)
     }
-}
-
-// Copies a prefix of the bytes into the buffer, at most so many, and gives how many.
-fn copy_prefix(bytes: &[u8], buf: &mut [u8], most: usize) -> usize
-    ensures count { result ≡ min (min most (length buf.old)) (length bytes.now) }
-    ensures within { result ≤ length buf.new }
-    ensures moved { bytes.now ≡ take result buf.new ++ drop result bytes.now }
-{
-    let count = most.min(buf.len()).min(bytes.len());
-    buf[..count].copy_from_slice(&bytes[..count]);
-    count
 }

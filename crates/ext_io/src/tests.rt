@@ -3,7 +3,8 @@ ghost use Rattle.std.specs.Prelude.{◌≤◌, IfOk};
 use crate::{
     Calls, Failed, MemorySink, MemorySource, ReadErr, StdSink, StdSource, read_to_end, write_all,
 };
-use ext_text::Text;
+use ext_text::{OutOfMemory, Text};
+use std::alloc::Global;
 use std::io;
 use std::io::ErrorKind;
 use std::test::Fail;
@@ -11,68 +12,31 @@ use std::test::Fail;
 // Twenty bytes: three calls at seven bytes a call.
 const BYTES: &[u8] = b"the bytes of a test.";
 
-#[test]
-fn pieces_of_any_size_give_the_same_bytes(rt: HostRuntime) -> Result<(), Fail> {
-    let bytes = vec![in rt.alloc(); 7u8; 150_000]?;
-    for piece in [1, 7, 65_536] {
-        assert!(rt; piece > 0);
-        let text = Text::from_bytes(rt.alloc(), &bytes)?;
-        let mut source = MemorySource::new(text, piece, Calls::new(rt.alloc()));
-        let read = read_to_end(rt.alloc(), &mut source, 200_000)?;
-        assert!(rt; read.bytes() == bytes.as_slice(), "read at {piece}");
+// More bytes than two reads ask for.
+const MANY: [u8; 150_000] = [7; 150_000];
 
-        let mut sink = MemorySink::new(rt.alloc(), piece, Calls::new(rt.alloc()));
-        assert_eq!(rt; write_all(&mut sink, &bytes), Ok(()), "written by {piece}");
-        assert!(rt; sink.written() == bytes.as_slice(), "written by {piece}");
-        assert_eq!(rt; sink.starved(), 0);
-    }
-    Ok(())
-}
+// A source of these bytes, seven a call: the call that fails, the budget, the length or the error that comes, and how many
+// of the bytes a second reading finds.
+const READS: [(u64, u32, Result<usize, ReadErr>, usize); 9] = [
+    (0, 100, Ok(20), 0),
+    (1, 100, Err(ReadErr::Failed), 20),
+    (2, 100, Err(ReadErr::Failed), 13),
+    (3, 100, Err(ReadErr::Failed), 6),
+    (4, 100, Err(ReadErr::Failed), 0),
+    (0, 20, Ok(20), 0),
+    (0, 19, Err(ReadErr::TooLong), 0),
+    (0, 12, Err(ReadErr::TooLong), 7),
+    (0, 0, Err(ReadErr::TooLong), 19),
+];
 
-#[test]
-fn a_failing_call_loses_and_repeats_nothing(rt: HostRuntime) -> Result<(), Fail> {
-    for (call, taken) in [(1, 0), (2, 7), (3, 14), (4, 20)] {
-        let text = Text::from_bytes(rt.alloc(), BYTES)?;
-        let fails = Calls::from_vec(vec![in rt.alloc(); call]?);
-        let mut source = MemorySource::new(text, 7, fails);
-        let answer = read_to_end(rt.alloc(), &mut source, 100);
-        assert_eq!(rt; answer.err(), Some(ReadErr::Failed), "at call {call}");
-        let rest = read_to_end(rt.alloc(), &mut source, 100)?;
-        assert!(rt;
-            Some(rest.bytes()) == BYTES.get(taken..),
-            "left by call {call}"
-        );
-
-        let fails = Calls::from_vec(vec![in rt.alloc(); call]?);
-        let mut sink = MemorySink::new(rt.alloc(), 7, fails);
-        let answer = if taken < 20 { Err(Failed) } else { Ok(()) };
-        assert_eq!(rt; write_all(&mut sink, BYTES), answer, "at call {call}");
-        assert!(rt;
-            Some(sink.written()) == BYTES.get(..taken),
-            "written at call {call}"
-        );
-    }
-    Ok(())
-}
-
-#[test]
-fn one_byte_more_than_the_budget_is_too_long(rt: HostRuntime) -> Result<(), Fail> {
-    for (most, read, left) in [
-        (20, Ok(20), 0),
-        (19, Err(ReadErr::TooLong), 0),
-        (12, Err(ReadErr::TooLong), 7),
-        (0, Err(ReadErr::TooLong), 19),
-    ] {
-        let text = Text::from_bytes(rt.alloc(), BYTES)?;
-        let mut source = MemorySource::new(text, 7, Calls::new(rt.alloc()));
-        let answer = read_to_end(rt.alloc(), &mut source, most);
-        let len = answer.map(|text| text.bytes().len());
-        assert_eq!(rt; len, read, "at most {most}");
-        let rest = read_to_end(rt.alloc(), &mut source, 100)?;
-        assert_eq!(rt; rest.bytes().len(), left, "left by {most}");
-    }
-    Ok(())
-}
+// A sink that takes seven bytes a call: the call that fails, what comes, and how many of the bytes were written.
+const WRITES: [(u64, Result<(), Failed>, usize); 5] = [
+    (0, Ok(()), 20),
+    (1, Err(Failed), 0),
+    (2, Err(Failed), 7),
+    (3, Err(Failed), 14),
+    (4, Ok(()), 20),
+];
 
 // A device of std that is interrupted so many times at first. It gives so many bytes once, and takes as many at each write.
 #[derive(Clone, Copy)]
@@ -81,6 +45,15 @@ struct Device {
     count: usize,
     flushes: bool,
 }
+
+// Devices, how many bytes are read of each, and what comes of writing to it.
+const DEVICES: [(u32, usize, bool, Option<usize>, Result<(), Failed>); 5] = [
+    (0, 5, true, Some(5), Ok(())),
+    (1000, 5, true, Some(5), Ok(())),
+    (1001, 5, true, None, Err(Failed)),
+    (0, 0, true, Some(0), Err(Failed)),
+    (0, 5, false, Some(5), Err(Failed)),
+];
 
 impl Device {
     fn call(&mut self, room: usize) -> io::Result<usize>
@@ -116,25 +89,96 @@ impl io::Write for Device {
     }
 }
 
+// A list of one call.
+fn only(alloc: Global, call: u64) -> Result<Calls, OutOfMemory> {
+    let mut calls = Calls::new(alloc);
+    calls.push(call)?;
+    Ok(calls)
+}
+
+// Whether reading to the end gives what is wanted, and a second reading so many of the last bytes.
+fn reads(
+    alloc: Global,
+    fails: u64,
+    most: u32,
+    wanted: Result<usize, ReadErr>,
+    left: usize,
+) -> Result<bool, ReadErr> {
+    let text = Text::from_bytes(alloc, BYTES)?;
+    let mut source = MemorySource::new(text, 7, only(alloc, fails)?);
+    let read = read_to_end(alloc, &mut source, most as usize).map(|text| text.bytes().len());
+    let rest = read_to_end(alloc, &mut source, 100)?;
+    let rest = rest.bytes();
+    Ok(read == wanted && rest.len() == left && BYTES.ends_with(rest))
+}
+
+// Whether writing all the bytes gives what is wanted, and so many of the first ones were written.
+fn writes(
+    alloc: Global,
+    fails: u64,
+    wanted: Result<(), Failed>,
+    count: usize,
+) -> Result<bool, OutOfMemory> {
+    let mut sink = MemorySink::new(alloc, 7, only(alloc, fails)?);
+    let outcome = write_all(&mut sink, BYTES);
+    let written = sink.written();
+    Ok(outcome == wanted && written.len() == count && BYTES.starts_with(written))
+}
+
+// Whether many bytes are read to the end, at most so many a call.
+fn reads_many(alloc: Global, piece: usize) -> Result<bool, ReadErr> {
+    let text = Text::from_bytes(alloc, &MANY)?;
+    let mut source = MemorySource::new(text, piece.max(1), Calls::new(alloc));
+    let read = read_to_end(alloc, &mut source, 200_000)?;
+    Ok(read.bytes() == MANY.as_slice())
+}
+
+// Whether they are written, at most so many a call.
+fn writes_many(alloc: Global, piece: usize) -> bool {
+    let mut sink = MemorySink::new(alloc, piece.max(1), Calls::new(alloc));
+    let outcome = write_all(&mut sink, &MANY);
+    outcome == Ok(()) && sink.written() == MANY.as_slice() && sink.starved() == 0
+}
+
+#[test]
+fn a_failing_call_loses_and_repeats_nothing(rt: HostRuntime) -> Result<(), Fail> {
+    for (fails, most, wanted, left) in READS {
+        assert!(rt;
+            reads(rt.alloc(), fails, most, wanted, left)?,
+            "read {fails}"
+        );
+    }
+    for (fails, wanted, count) in WRITES {
+        assert!(rt; writes(rt.alloc(), fails, wanted, count)?, "write {fails}");
+    }
+    Ok(())
+}
+
+#[test]
+fn pieces_of_any_size_give_the_same_bytes(rt: HostRuntime) -> Result<(), Fail> {
+    for piece in [1, 7, 65_536] {
+        assert!(rt; reads_many(rt.alloc(), piece)?, "pieces of {piece}");
+        assert!(rt; writes_many(rt.alloc(), piece), "pieces of {piece}");
+    }
+    Ok(())
+}
+
 #[test]
 fn devices_of_std_are_tried_a_thousand_times_again(rt: HostRuntime) -> Result<(), Fail> {
-    for (interrupts, count, flushes, read, written) in [
-        (0, 5, true, Some(5), Ok(())),
-        (1000, 5, true, Some(5), Ok(())),
-        (1001, 5, true, None, Err(Failed)),
-        (0, 0, true, Some(0), Err(Failed)),
-        (0, 5, false, Some(5), Err(Failed)),
-    ] {
+    for (interrupts, count, flushes, wanted, written) in DEVICES {
         let device = Device {
             interrupts,
             count,
             flushes,
         };
-        let answer = read_to_end(rt.alloc(), &mut StdSource::new(device), 100);
-        let len = answer.ok().map(|text| text.bytes().len());
-        assert_eq!(rt; len, read, "by {interrupts}");
-        let answer = write_all(&mut StdSink::new(device), BYTES);
-        assert_eq!(rt; answer, written, "at {interrupts} and {count}");
+        let read = read_to_end(rt.alloc(), &mut StdSource::new(device), 100).ok();
+        assert_eq!(rt;
+            read.map(|text| text.bytes().len()),
+            wanted,
+            "after {interrupts}"
+        );
+        let outcome = write_all(&mut StdSink::new(device), BYTES);
+        assert_eq!(rt; outcome, written, "after {interrupts}, {count} a write");
     }
     let mut written = Vec::new(rt.alloc());
     assert_eq!(rt; write_all(&mut StdSink::new(&mut written), BYTES), Ok(()));

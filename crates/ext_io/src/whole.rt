@@ -2,8 +2,7 @@
 ghost use Rattle.std.specs.Prelude.{◌≡◌, ℕ, ◌+◌, ◌^◌, ◌<◌, ◌≤◌, ◌++◌, List, length, vec_len, OnOk, OnErr, IfOk, IfErr};
 ghost use Rattle.std.specs.Io.KnownBytes.{Appends, Consumes, IsAtEnd};
 ghost use Rattle.ext_text.specs.Causes.{HasCause};
-ghost use Rattle.ext_io.specs.ProperPrefix.{AppendsProperPrefix};
-ghost use Rattle.ext_io.specs.Whole.{ReadsAll, Stopped, PieceStopped};
+ghost use Rattle.ext_io.specs.Whole.{ReadsAll, Stopped, PieceStopped, AppendsProperPrefix};
 
 use crate::failed::Failed;
 use crate::sink::Sink;

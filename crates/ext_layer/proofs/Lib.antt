@@ -1,6 +1,8 @@
 pub mod Prefixes
-pub mod Verdicts
-pub mod Places
-pub mod Advance
-pub mod Showing
-pub mod Trees
+pub mod OverlayLemmas
+pub mod OverlaySteps
+pub mod OverlayAdvance
+pub mod JoiningLemmas
+pub mod LayeredLemmas
+pub mod LawsLemmas
+pub mod ForCallers

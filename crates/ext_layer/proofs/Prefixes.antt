@@ -1,4 +1,4 @@
--- Tests along the fronts of a path, and lists of entries that have none of its fronts.
+-- Tests along the prefixes of a path, and lists of entries that have none of its prefixes.
 use Rattle.std.proofs.Common.{◌≡◌, ℕ, Bool, true, false, cond, ◌||◌, T, List, [], ◌∷◌, Some, None, refl, sym, ap, ◌∙◌, subst}
 use Rattle.std.proofs.lemmas.Bool.{false≢true, and_parts, and_from, or_right, or_left}
 use Rattle.std.proofs.lemmas.Float.{T_from_true}
@@ -8,35 +8,35 @@ use Rattle.std.specs.FinMap.{find}
 use Rattle.std.specs.FinMap.Entries.{below_all}
 use Rattle.ext_text.specs.Name.{bytes_cmp}
 use Rattle.ext_text.specs.Path.{path_cmp, is_prefix}
-use Rattle.ext_text.proofs.Facts.{true_from_T, is_less}
-use Rattle.ext_text.proofs.PathPrefixes.{same_name, tied_name, same_path, prefix_order}
-use Rattle.ext_layer.specs.Verdicts.{some_prefix}
+use Rattle.ext_text.proofs.ForCallers.{true_from_T, is_less}
+use Rattle.ext_text.proofs.ForCallers.{same_name, tied_name, same_path, prefix_order}
+use Rattle.ext_layer.specs.Overlay.{some_prefix}
 
--- a list whose keys all come after a path has none of its fronts
-pub absent : {X : Type 0} (p q : List (List ℕ)) → is_prefix q p ≡ true → (es : List (List (List ℕ) × X)) → T (below_all path_cmp p es) → find path_cmp q es ≡ None
-absent p q f [] h = refl
-absent p q f (e ∷ es) h =
+-- a list whose keys all come after a path has none of its prefixes
+pub not_found : {X : Type 0} (p q : List (List ℕ)) → is_prefix q p ≡ true → (es : List (List (List ℕ) × X)) → T (below_all path_cmp p es) → find path_cmp q es ≡ None
+not_found p q f [] h = refl
+not_found p q f (e ∷ es) h =
     let x = and_parts (is_lt (path_cmp p e.0)) (below_all path_cmp p es) (true_from_T _ h) in
-    let rest = absent p q f es (T_from_true _ x.1) in
+    let rest = not_found p q f es (T_from_true _ x.1) in
     elim (eq_by_cmp path_cmp q e.0) as (λ b. eq_by_cmp path_cmp q e.0 ≡ b → cond b (Some e.1) (find path_cmp q es) ≡ None) [
       | true ↦ λ t. absurd (prefix_order p q f (subst (λ z. path_cmp p z ≡ Less) (sym (same_path q e.0 t)) (is_less _ x.0)))
       | false ↦ λ _. rest
     ] refl
 
--- tests that agree at each front agree
+-- tests that agree at each prefix agree
 pub some_prefix-same : (f g : List (List ℕ) → Bool) (p : List (List ℕ)) → ((q : List (List ℕ)) → is_prefix q p ≡ true → f q ≡ g q) → some_prefix f p ≡ some_prefix g p
 some_prefix-same f g [] is = is [] refl
 some_prefix-same f g (n ∷ p) is =
     let rest = some_prefix-same (λ q. f (n ∷ q)) (λ q. g (n ∷ q)) p (λ q h. is (n ∷ q) (and_from _ _ (tied_name n n refl) h)) in
     λ i. is [] refl i || rest i
 
--- a test that passes at no front
+-- a test that passes at no prefix
 pub some_prefix-none : (f : List (List ℕ) → Bool) (p : List (List ℕ)) → ((q : List (List ℕ)) → is_prefix q p ≡ true → f q ≡ false) → some_prefix f p ≡ false
 some_prefix-none f [] is = is [] refl
 some_prefix-none f (n ∷ p) is =
     ap (λ b. b || some_prefix (λ q. f (n ∷ q)) p) (is [] refl) ∙ some_prefix-none (λ q. f (n ∷ q)) p (λ q h. is (n ∷ q) (and_from _ _ (tied_name n n refl) h))
 
--- a test that passes at a front
+-- a test that passes at a prefix
 pub some_prefix-at : (f : List (List ℕ) → Bool) (q p : List (List ℕ)) → is_prefix q p ≡ true → f q ≡ true → some_prefix f p ≡ true
 some_prefix-at f [] [] h is = is
 some_prefix-at f [] (n ∷ p) h is = or_left _ _ is

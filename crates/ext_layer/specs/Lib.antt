@@ -1,3 +1,5 @@
 pub mod Layered
-pub mod Verdicts
-pub mod Items
+pub mod Laws
+pub mod Overlay
+pub mod Joining
+pub mod Item

@@ -4,7 +4,7 @@ use thiserror::Error;
 /// Why layers are not joined.
 #[derive(Clone, Copy, Debug, PartialEq, Eq, Error)]
 pub enum LayerErr {
-    /// A growth was refused.
+    /// An allocation failed.
     #[error("out of memory")]
     OutOfMemory,
     /// The layered tree has more than 262,144 entries.
@@ -18,7 +18,7 @@ impl From<OutOfMemory> for LayerErr {
 
     ghost from_gives = { λ _ e. e ≡ errors.OutOfMemory };
 
-    fn from(_refused: OutOfMemory) -> LayerErr {
+    fn from(_failed: OutOfMemory) -> LayerErr {
         LayerErr::OutOfMemory
     }
 }

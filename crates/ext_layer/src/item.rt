@@ -1,33 +1,29 @@
 // The items of marked lists, borrowed from the layers.
-ghost use Rattle.std.specs.Prelude.{◌≡◌, IfOk, not};
-ghost use Rattle.ext_tree.specs.Tree.{is_directory};
-ghost use Rattle.ext_layer.specs.Verdicts.{marked};
-ghost use Rattle.ext_layer.specs.Items.{all_seen};
+ghost use Rattle.std.specs.Prelude.{◌≡◌, IfOk, Some};
+ghost use Rattle.ext_layer.specs.Layered.{cuts_below};
+ghost use Rattle.ext_layer.specs.Overlay.{marked};
+ghost use Rattle.ext_layer.specs.Item.{all_seen};
 
 use ext_text::{OutOfMemory, Path};
 use ext_tree::Entry;
 use std::alloc::Global;
 
-// An entry that shows, with its path, and whether it cuts off what lower layers have below it.
+// An entry with its path, and whether it cuts off what lower layers have below it.
 #[derive_where(Clone, Copy)]
-pub struct Item<'a, C> {
-    pub pair: &'a (Path, Entry<C>),
-    pub cuts: bool,
+pub(crate) struct Item<'a, C> {
+    pub(crate) pair: &'a (Path, Entry<C>),
+    pub(crate) cuts: bool,
 }
 
-// Files and links cut; a directory alone does not.
-fn is_solid<C>(entry: &Entry<C>) -> bool
-    ensures { result ≡ not (is_directory entry.now) }
+// Whether an entry of a single layer lets nothing through below it: all do but directories.
+fn cuts_below<C>(entry: &Entry<C>) -> bool
+    ensures { result ≡ cuts_below (Some entry.now) }
 {
-    match entry {
-        Entry::Dir(_mode) => false,
-        Entry::File(_mode, _content) => true,
-        Entry::Link(_target) => true,
-    }
+    !entry.is_directory()
 }
 
 // The items of a single layer.
-pub fn items_of<'a, C>(
+pub(crate) fn items_of<'a, C>(
     alloc: Global,
     pairs: &'a [(Path, Entry<C>)],
 ) -> Result<Vec<Item<'a, C>>, OutOfMemory>
@@ -37,7 +33,7 @@ pub fn items_of<'a, C>(
     for pair in pairs {
         items.push(Item {
             pair,
-            cuts: is_solid(&pair.1),
+            cuts: cuts_below(&pair.1),
         })?;
     }
     Ok(items)

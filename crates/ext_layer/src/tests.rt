@@ -1,171 +1,95 @@
 use super::*;
-use ext_text::{Digest, Mode, Path, Text};
-use ext_tree::{Entry, Stamp, Tree};
+use ext_tree::{Stamp, Tree, read_trees, write_entries, write_tree};
 use std::alloc::Global;
-use std::process::Abort;
 use std::test::Fail;
 
 const ABC: &[u8] = b"ba7816bf8f01cfea414140de5dae2223b00361a396177a9cb410ff61f20015ad";
 
-// What stands at a path: a directory with its mode, a file with its size, or a link.
-#[derive(Clone, Copy)]
-enum Kind {
-    Dir(u16),
-    File(u64),
-    Link,
-}
-
-use Kind::{Dir, File, Link};
-
-// The entries of a tree, in an order in which each stands behind its parent.
-type Row = &'static [(&'static str, Kind)];
-
-fn entry(alloc: Global, kind: Kind) -> Result<Entry<Stamp>, Fail> {
-    let mode = Mode::new(0o644).ok_or("a mode")?;
-    match kind {
-        Dir(bits) => Ok(Entry::Dir(Mode::new(bits).ok_or("a mode")?)),
-        File(size) => {
-            let digest = Digest::read(ABC).ok_or("a digest")?;
-            Ok(Entry::File(mode, Stamp { size, digest }))
-        }
-        Link => Ok(Entry::Link(Text::from_bytes(alloc, b"../a")?)),
-    }
-}
-
-fn tree(alloc: Global, row: Row) -> Result<Tree<Stamp>, Fail> {
-    let mut tree = Tree::new(alloc);
-    for (path, kind) in row {
-        tree.insert(Path::read(alloc, path.as_bytes())?, entry(alloc, *kind)?)?;
-    }
-    Ok(tree)
-}
-
-fn same_entry(one: &Entry<Stamp>, other: &Entry<Stamp>) -> bool {
-    match (one, other) {
-        (Entry::Dir(mode), Entry::Dir(its_mode)) => mode.bits() == its_mode.bits(),
-        (Entry::File(mode, stamp), Entry::File(its_mode, its_stamp)) => {
-            mode.bits() == its_mode.bits() && stamp == its_stamp
-        }
-        (Entry::Link(target), Entry::Link(its_target)) => target == its_target,
-        _ => false,
-    }
-}
-
-fn same_entries(shown: &[&(Path, Entry<Stamp>)], expected: &[(Path, Entry<Stamp>)]) -> bool {
-    if shown.len() != expected.len() {
-        return false;
-    }
-    for (one, other) in shown.iter().zip(expected) {
-        if one.0 != other.0 || !same_entry(&one.1, &other.1) {
-            return false;
-        }
-    }
-    true
-}
-
-// Asserts what shows of the layers over the host, with as many empty layers before each and behind the last as given.
-fn assert_shows(
-    rt: &impl Abort,
-    alloc: Global,
-    empty: usize,
-    layers: &[Row],
-    host: Row,
-    expected: Row,
-) -> Result<(), Fail> {
-    let host = tree(alloc, host)?;
-    let expected = tree(alloc, expected)?;
-    let mut row = Layers::new(alloc);
-    for layer in layers {
-        for _ in 0..empty {
-            row.push(Tree::new(alloc))?;
-        }
-        row.push(tree(alloc, layer)?)?;
-    }
-    for _ in 0..empty {
-        row.push(Tree::new(alloc))?;
-    }
-    let pairs = shown(alloc, &row, &host)?;
-    assert!(rt;
-        same_entries(pairs.as_slice(), expected.pairs()),
-        "shown, {empty} empty"
-    );
-    let copied = layer(alloc, &row, &host)?;
-    let nothing = Layers::new(alloc);
-    let pairs = shown(alloc, &nothing, &copied)?;
-    assert!(rt;
-        same_entries(pairs.as_slice(), expected.pairs()),
-        "layered, {empty} empty"
-    );
-    Ok(())
-}
-
-// Rows of layers, the topmost first, with the host under them and what shows.
-const SCENES: &[(&[Row], Row, Row)] = &[
-    (&[], &[], &[]),
+// Trees, the topmost first and the host last, and what is visible of them: tree texts with `{` for the header, `}` for the
+// end, `|` for a newline and `@` for a digest.
+const SCENES: &[(&[u8], &[u8])] = &[
+    (b"{}", b"{}"),
     (
-        &[&[]],
-        &[("usr", Dir(0o755)), ("usr/a", File(0))],
-        &[("usr", Dir(0o755)), ("usr/a", File(0))],
+        b"{}{d 755 usr|f 644 0 @ usr/a|}",
+        b"{d 755 usr|f 644 0 @ usr/a|}",
     ),
     // a file in the place of a directory
     (
-        &[&[
-            ("usr", Dir(0o700)),
-            ("usr/lib", Dir(0o755)),
-            ("usr/lib/x", File(3)),
-        ]],
-        &[
-            ("usr", Dir(0o755)),
-            ("usr/lib", Dir(0o755)),
-            ("usr/lib/x", Dir(0o755)),
-            ("usr/lib/x/c", File(0)),
-        ],
-        &[
-            ("usr", Dir(0o700)),
-            ("usr/lib", Dir(0o755)),
-            ("usr/lib/x", File(3)),
-        ],
+        b"{d 700 usr|d 755 usr/lib|f 644 3 @ usr/lib/x|}\
+          {d 755 usr|d 755 usr/lib|d 755 usr/lib/x|f 644 0 @ usr/lib/x/c|}",
+        b"{d 700 usr|d 755 usr/lib|f 644 3 @ usr/lib/x|}",
     ),
     // a directory over a file that cuts off what lies below it
     (
-        &[&[("x", Dir(0o711)), ("x/t", File(0))], &[("x", File(3))]],
-        &[("x", Dir(0o755)), ("x/c", File(0))],
-        &[("x", Dir(0o711)), ("x/t", File(0))],
+        b"{d 711 x|f 644 0 @ x/t|}{f 644 3 @ x|}{d 755 x|f 644 0 @ x/c|}",
+        b"{d 711 x|f 644 0 @ x/t|}",
     ),
     // a link in the place of a directory
-    (
-        &[&[("a", Link)]],
-        &[("a", Dir(0o755)), ("a/b", File(1))],
-        &[("a", Link)],
-    ),
+    (b"{l 4 ../a a|}{d 755 a|f 644 1 @ a/b|}", b"{l 4 ../a a|}"),
     // a directory over a link, over a directory
     (
-        &[&[("a", Dir(0o711))], &[("a", Link), ("a-b", File(5))]],
-        &[("a", Dir(0o755)), ("a/b", File(1)), ("b", File(2))],
-        &[("a", Dir(0o711)), ("a-b", File(5)), ("b", File(2))],
+        b"{d 711 a|}{l 4 ../a a|f 644 5 @ a-b|}{d 755 a|f 644 1 @ a/b|f 644 2 @ b|}",
+        b"{d 711 a|f 644 5 @ a-b|f 644 2 @ b|}",
     ),
     // the topmost of three files, and what each of three directories has
     (
-        &[
-            &[("d", Dir(0o755)), ("d/one", File(1)), ("f", File(1))],
-            &[("d", Dir(0o711)), ("d/two", File(2)), ("f", File(2))],
-        ],
-        &[("d", Dir(0o700)), ("d/three", File(3)), ("f", File(3))],
-        &[
-            ("d", Dir(0o755)),
-            ("d/one", File(1)),
-            ("d/three", File(3)),
-            ("d/two", File(2)),
-            ("f", File(1)),
-        ],
+        b"{d 755 d|f 644 1 @ d/one|f 644 1 @ f|}\
+          {d 711 d|f 644 2 @ d/two|f 644 2 @ f|}\
+          {d 700 d|f 644 3 @ d/three|f 644 3 @ f|}",
+        b"{d 755 d|f 644 1 @ d/one|f 644 3 @ d/three|f 644 2 @ d/two|f 644 1 @ f|}",
     ),
 ];
 
+// The tree texts of a line of the table.
+fn texts(alloc: Global, short: &[u8]) -> Result<Vec<u8>, Fail> {
+    let mut texts = Vec::new(alloc);
+    for byte in short {
+        match byte {
+            b'{' => texts.extend_from_slice(b"hostext-tree 1\n".as_slice())?,
+            b'}' => texts.extend_from_slice(b"end\n".as_slice())?,
+            b'|' => texts.push(b'\n')?,
+            b'@' => texts.extend_from_slice(ABC)?,
+            _ => texts.push(*byte)?,
+        }
+    }
+    Ok(texts)
+}
+
+fn add_empty(alloc: Global, layers: &mut Layers<Stamp>, count: usize) -> Result<(), Fail> {
+    for _ in 0..count {
+        layers.push(Tree::new(alloc))?;
+    }
+    Ok(())
+}
+
+// Whether this is visible of trees, with so many empty layers before each and over the host.
+fn is_visible(alloc: Global, empty: usize, trees: &[u8], expected: &[u8]) -> Result<bool, Fail> {
+    let mut trees = read_trees(alloc, texts(alloc, trees)?.as_slice())?.into_vec();
+    let host = trees.pop().ok_or("a host")?;
+    let mut layers = Layers::new(alloc);
+    for tree in trees {
+        add_empty(alloc, &mut layers, empty)?;
+        layers.push(tree)?;
+    }
+    add_empty(alloc, &mut layers, empty)?;
+    let expected = texts(alloc, expected)?;
+    let visible = visible_entries(alloc, &layers, &host)?;
+    let copied = layer(alloc, &layers, &host)?;
+    Ok(
+        write_entries(alloc, visible.as_slice())?.bytes() == expected.as_slice()
+            && write_tree(alloc, &copied)?.bytes() == expected.as_slice(),
+    )
+}
+
 #[test]
-fn the_topmost_entry_that_nothing_cuts_off_shows(rt: HostRuntime) -> Result<(), Fail> {
+fn the_topmost_entry_that_nothing_cuts_off_is_visible(rt: HostRuntime) -> Result<(), Fail> {
+    laws::one_layered_tree::<Stamp>();
+    laws::entries_are_of_layers::<Stamp>();
+    laws::layered_has_text();
     for empty in 0..4 {
-        for (layers, host, expected) in SCENES {
-            assert_shows(&rt, rt.alloc(), empty, layers, host, expected)?;
+        for (trees, expected) in SCENES {
+            let is_visible = is_visible(rt.alloc(), empty, trees, expected)?;
+            assert!(rt; is_visible, "{empty} empty layers");
         }
     }
     Ok(())

@@ -1,6 +1,6 @@
-pub mod AsciiNames
-pub mod Cuts
-pub mod Facts
-pub mod Lists
-pub mod Parts
-pub mod PathPrefixes
+pub mod ListLemmas
+pub mod OrderLemmas
+pub mod NameLemmas
+pub mod PathLemmas
+pub mod PrefixLemmas
+pub mod ForCallers

@@ -15,7 +15,7 @@ arch_name S390x = codes "s390x"
 arch_name Ppc64Le = codes "ppc64-le"
 arch_name Loongarch64 = codes "loongarch64"
 
--- what reading a text answers: the architecture of this name, or that there is none
+-- what reading a text gives: the architecture of this name, or that there is none
 abbrev pub ReadsArch : List ℕ → Option Arch → Type 0
 ReadsArch text (Some arch) = text ≡ arch_name arch
 ReadsArch text None = (arch : Arch) → text ≢ arch_name arch

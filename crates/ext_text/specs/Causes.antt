@@ -1,4 +1,4 @@
--- When a fault may be answered. This project's own rule for every device: a device counts its faults, and an answer that
+-- When a fault may be reported. This project's own rule for every device: a device counts its faults, and an error that
 -- blames it comes only where that count rose in this very call.
 use Rattle.std.specs.Prelude.{◌≡◌, ℕ, ◌-◌, ◌^◌, ◌<◌, ◌⊎◌, Result, OnErr}
 

@@ -9,7 +9,7 @@ class_name Sysext = codes "sysext"
 class_name Confext = codes "confext"
 class_name Portable = codes "portable"
 
--- what reading a text answers: the class of this name, or that there is none
+-- what reading a text gives: the class of this name, or that there is none
 abbrev pub ReadsClass : List ℕ → Option Class → Type 0
 ReadsClass text (Some class) = text ≡ class_name class
 ReadsClass text None = (class : Class) → text ≢ class_name class

@@ -1,7 +1,8 @@
 pub mod Causes
-pub mod Cut
 pub mod Name
+pub mod Prefix
 pub mod Path
+pub mod Digest
 pub mod Order
 pub mod Arch
 pub mod Scope

@@ -4,9 +4,9 @@ use Rattle.std.proofs.Common.{subst, ap}
 use Rattle.std.proofs.lemmas.Bool.{eqb-true}
 use Rattle.std.specs.Hash as fed
 use Rattle.std.specs.Cmp.{IsTotalOrder, IsPartialOrder, Agrees}
-use Rattle.std.specs.Cmp.Lexicographic.{pointwise, slice_partial_cmp, lists_po, lists_agrees, lists_total, nat_list_cmp_total, texts_po}
-use Rattle.std.specs.FinMap.{IsAntisymmetric, slice_cmp-IsAntisymmetric, nat_cmp-IsAntisymmetric}
-use Rattle.ext_text.specs.Name.{bytes_cmp}
+use Rattle.std.specs.Cmp.Lexicographic.{pointwise, slice_partial_cmp, lists_po, lists_agrees, lists_total, texts_po}
+use Rattle.std.specs.FinMap.{IsAntisymmetric, slice_cmp-IsAntisymmetric}
+use Rattle.ext_lines.specs.ByteOrder.{bytes_cmp, bytes_total, bytes_exact}
 use Rattle.ext_text.specs.Path.{path_cmp}
 
 pub paths_po : IsPartialOrder (pointwise (pointwise nat_eq)) (λ xs ys. Some (path_cmp xs ys))
@@ -16,11 +16,11 @@ paths_po =
 
 -- path order is total
 pub paths_total : IsTotalOrder path_cmp
-paths_total = lists_total nat_list_cmp_total
+paths_total = lists_total bytes_total
 
 -- and only equal paths tie
 pub paths_exact : IsAntisymmetric path_cmp
-paths_exact = slice_cmp-IsAntisymmetric (slice_cmp-IsAntisymmetric nat_cmp-IsAntisymmetric)
+paths_exact = slice_cmp-IsAntisymmetric bytes_exact
 
 -- equal paths are hashed alike
 pub paths_alike : fed.Alike (pointwise (pointwise nat_eq)) (fed.slice (fed.slice fed.u8))

@@ -1,12 +1,12 @@
 -- Paths of entries: lists of names, from the root on. Their text is the names with `/` between each two.
-use Rattle.std.specs.Prelude.{◌≡◌, ℕ, ◌-◌, ◌<◌, ◌≤◌, Bool, true, false, not, ◌&&◌, ◌==◌, List, [], ◌∷◌, length, take, Result, Ok, Err}
+use Rattle.std.specs.Prelude.{◌≡◌, ℕ, ◌<◌, ◌≤◌, ◌==◌, List, [], ◌∷◌, length, Result, Ok, Err}
 use Rattle.std.specs.List.{AllByRecursion, join_with_byte, slice_split}
 use Rattle.std.specs.Cmp.Lexicographic.{slice_cmp}
-use Rattle.std.specs.Ordering.{eq_by_cmp}
 use Rattle.std.specs.declared.cmp.Ordering.{Ordering}
 use Rattle.ext_text.specs.Name.{IsName, bytes_cmp}
 use Rattle.ext_text.specs.declared.path.PathErr.{PathErr}
 use Rattle.ext_text.specs.declared.path.PathErr.TheVariants.{OutOfMemory, TooLong, TooDeep, BadName}
+pub use Rattle.ext_text.specs.Prefix.{parent, is_prefix, is_proper_prefix, are_related}
 
 -- the names with a `/` between each two; the root's text is empty
 abbrev pub path_text : List (List ℕ) → List ℕ
@@ -23,25 +23,11 @@ pub record IsPath (names : List (List ℕ)) : Type 0 where
   pub depth : length names ≤ 64
   pub size : length (path_text names) ≤ 4096
 
--- lists of names, names byte by byte, a front first
+-- lists of names, names by their bytes, a proper prefix first
 abbrev pub path_cmp : List (List ℕ) → List (List ℕ) → Ordering
 path_cmp = slice_cmp bytes_cmp
 
--- all names but the last; the root's parent is the root
-abbrev pub parent : List (List ℕ) → List (List ℕ)
-parent names = take (length names - 1) names
-
--- the second path is the first one or lies below it
-abbrev pub is_prefix : List (List ℕ) → List (List ℕ) → Bool
-is_prefix [] q = true
-is_prefix (n ∷ p) [] = false
-is_prefix (n ∷ p) (m ∷ q) = eq_by_cmp bytes_cmp n m && is_prefix p q
-
--- the second path lies below the first: a proper prefix is shorter than the whole
-abbrev pub is_proper_prefix : List (List ℕ) → List (List ℕ) → Bool
-is_proper_prefix p q = is_prefix p q && not (is_prefix q p)
-
--- what `Path::read` answers: the path of this text, or the first of the reasons against it
+-- what `Path::read` gives: the path of this text, or the first of the reasons against it
 abbrev pub ReadsPath : List ℕ → Result (List (List ℕ)) PathErr → Type 0
 ReadsPath bytes (Ok path) = IsPath path × (path ≡ path_parts bytes) × (path_text path ≡ bytes)
 ReadsPath bytes (Err OutOfMemory) = Unit {0}
@@ -56,7 +42,7 @@ IsPartsErr parts BadName = ¬ (AllByRecursion IsName parts)
 IsPartsErr parts TooLong = ⊥
 IsPartsErr parts TooDeep = ⊥
 
--- what `child` and `join` answer for the longer path: it is within the limits, or the first limit that it passes
+-- what `child` and `join` give for the longer path: it is within the limits, or the first limit that it passes
 abbrev pub Lengthens : List (List ℕ) → Result (List (List ℕ)) PathErr → Type 0
 Lengthens longer (Ok path) = IsPath path × (path ≡ longer)
 Lengthens longer (Err OutOfMemory) = Unit {0}

@@ -9,7 +9,7 @@ scope_name System = codes "system"
 scope_name Initrd = codes "initrd"
 scope_name Portable = codes "portable"
 
--- what reading a text answers: the scope of this name, or that there is none
+-- what reading a text gives: the scope of this name, or that there is none
 abbrev pub ReadsScope : List ℕ → Option Scope → Type 0
 ReadsScope text (Some scope) = text ≡ scope_name scope
 ReadsScope text None = (scope : Scope) → text ≢ scope_name scope

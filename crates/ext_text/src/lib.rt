@@ -8,14 +8,14 @@
 
 mod arch;
 mod class;
-mod cut;
 mod digest;
+mod joining;
 mod list;
-mod memory;
 mod mode;
 mod name;
 mod order;
 mod path;
+mod prefix;
 mod scope;
 #[cfg(test)]
 mod tests;
@@ -24,10 +24,9 @@ mod which;
 
 pub use arch::Arch;
 pub use class::Class;
-pub use cut::split_at_byte;
 pub use digest::Digest;
+pub use ext_lines::OutOfMemory;
 pub use list::ListOf;
-pub use memory::OutOfMemory;
 pub use mode::Mode;
 pub use name::{Name, NameErr};
 pub use path::{Path, PathErr};

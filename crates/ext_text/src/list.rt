@@ -1,7 +1,7 @@
 ghost use Rattle.std.specs.Prelude.{◌≡◌, [], ◌∷◌, ◌++◌, ◌↔◌, length, slice_get, IsTrue, OnOk, OnErr, IfOk};
 ghost use Rattle.std.specs.Option.{option_copied};
 
-use crate::memory::OutOfMemory;
+use ext_lines::OutOfMemory;
 use std::alloc::Global;
 use std::marker::Model;
 
@@ -67,11 +67,11 @@ impl<T> ListOf<T> {
         self.items.is_empty()
     }
 
-    /// The item at a place, counted from 0; `None` exactly past the last.
-    pub fn get(&self, place: usize) -> Option<&T>
-        ensures { option_copied result ≡ slice_get self.now place }
+    /// The item at an index, counted from 0; `None` exactly past the last.
+    pub fn get(&self, index: usize) -> Option<&T>
+        ensures { option_copied result ≡ slice_get self.now index }
     {
-        self.items.get(place)
+        self.items.get(index)
     }
 }
 
@@ -79,7 +79,7 @@ impl<T: Drop> ListOf<T> {
     /// Adds an item at the end.
     ///
     /// # Errors
-    /// Want of memory alone; the list is then as before.
+    /// `OutOfMemory` alone; the list is then as before.
     pub fn push(&mut self, item: T) -> Result<(), OutOfMemory>
         ensures ok { OnOk result (self.new ≡ self.old ++ item ∷ []) }
         ensures err { OnErr result (self.new ≡ self.old) }

@@ -2,9 +2,9 @@ ghost use Rattle.std.specs.Prelude.{◌≡◌, ◌↔◌, ◌&&◌, nat_lt, IsTr
 ghost use Rattle.std.specs.List.{AllPass};
 ghost use Rattle.ext_text.specs.Name.{IsName, ReadsName, is_name_byte};
 
-use crate::memory::OutOfMemory;
+use ext_lines::{OutOfMemory, grown, is_plain_byte};
 use smallvec::SmallVec;
-use std::alloc::{AllocError, Global};
+use std::alloc::Global;
 use std::marker::Model;
 use std::str;
 use thiserror::Error;
@@ -18,7 +18,7 @@ const INLINE_BYTES: usize = 16;
 /// Why bytes are no name.
 #[derive(Clone, Copy, Debug, PartialEq, Eq, Error)]
 pub enum NameErr {
-    /// A growth was refused.
+    /// An allocation failed.
     #[error("out of memory")]
     OutOfMemory,
     /// The bytes are no name.
@@ -26,13 +26,13 @@ pub enum NameErr {
     BadName,
 }
 
-impl From<AllocError> for NameErr {
+impl From<OutOfMemory> for NameErr {
     ghost use Rattle.std.specs.Prelude.{◌≡◌};
     ghost use Rattle.ext_text.specs.declared.name.NameErr.TheVariants as errors;
 
     ghost from_gives = { λ _ e. e ≡ errors.OutOfMemory };
 
-    fn from(_refused: AllocError) -> NameErr {
+    fn from(_failed: OutOfMemory) -> NameErr {
         NameErr::OutOfMemory
     }
 }
@@ -59,7 +59,7 @@ impl Model for Name {
 fn is_name_byte(byte: u8) -> bool
     ensures { result ≡ is_name_byte byte }
 {
-    byte >= b' ' && byte != 0x7F && byte != b'/'
+    is_plain_byte(byte) && byte != b'/'
 }
 
 // The rule of names.
@@ -108,7 +108,7 @@ impl Name {
             return Err(NameErr::BadName);
         }
         Ok(Name {
-            bytes: SmallVec::from_slice(alloc, bytes)?,
+            bytes: grown(SmallVec::from_slice(alloc, bytes))?,
         })
     }
 
@@ -123,7 +123,7 @@ impl Name {
     /// An equal name.
     ///
     /// # Errors
-    /// Want of memory alone.
+    /// `OutOfMemory` alone.
     pub fn copy(&self) -> Result<Name, OutOfMemory>
         ensures { IfOk result (λ copy. copy ≡ self.now) }
     {

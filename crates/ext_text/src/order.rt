@@ -5,7 +5,7 @@ ghost use Rattle.std.specs.Cmp.Lexicographic.{pointwise, lists_equiv, lists_tota
 ghost use Rattle.std.specs.Cmp.Rules.{hashing};
 ghost use Rattle.std.specs.Hash as fed;
 ghost use Rattle.std.proofs.Common.{rules, refl};
-ghost use Rattle.ext_text.specs.Name.{bytes_cmp};
+ghost use Rattle.ext_lines.specs.ByteOrder.{bytes_cmp};
 ghost use Rattle.ext_text.specs.Path.{path_cmp};
 ghost use Rattle.ext_text.specs.Order.{paths_alike, paths_po};
 

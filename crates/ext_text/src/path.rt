@@ -1,26 +1,25 @@
 ghost use Rattle.std.specs.Prelude.{◌≡◌, ◌+◌, ◌-◌, ◌<◌, ◌≤◌, [], ◌∷◌, ◌++◌, ◌^◌, length, take, ◌==◌, IsTrue, IfOk, IfErr, OnErr, OnOk, MatchOption, count_by};
-ghost use Rattle.ext_text.specs.Cut.{IsSplit, Lacks};
 ghost use Rattle.std.specs.List.{AllByRecursion, flat_map, slice_split, sum_by};
+ghost use Rattle.ext_lines.specs.Prefix.{AppendsPrefix};
 ghost use Rattle.ext_text.specs.Name.{IsName};
-ghost use Rattle.ext_text.specs.Path.{IsPath, IsPartsErr, ReadsPath, Lengthens, path_text, path_parts, parent, is_prefix};
+ghost use Rattle.ext_text.specs.Path.{IsPath, IsPartsErr, ReadsPath, path_text, path_parts};
 
-use crate::memory::OutOfMemory;
 use crate::name::{Name, NameErr};
-use std::alloc::{AllocError, AllocFailed, Global};
-use std::cmp::Ordering;
+use ext_lines::{OutOfMemory, grown, split_at_byte};
+use std::alloc::Global;
 use std::marker::Model;
 use thiserror::Error;
 
 /// The most bytes of a path's text.
-const MOST_BYTES: usize = 4096;
+pub(crate) const MOST_BYTES: usize = 4096;
 
 /// The most names of a path.
-const MOST_NAMES: usize = 64;
+pub(crate) const MOST_NAMES: usize = 64;
 
 /// Why a text, or a longer list of names, is no path.
 #[derive(Clone, Copy, Debug, PartialEq, Eq, Error)]
 pub enum PathErr {
-    /// A growth was refused.
+    /// An allocation failed.
     #[error("out of memory")]
     OutOfMemory,
     /// It has more than 4,096 bytes, the slashes between the names included.
@@ -34,40 +33,18 @@ pub enum PathErr {
     BadName,
 }
 
-impl From<AllocError> for PathErr {
-    ghost use Rattle.std.specs.Prelude.{◌≡◌};
-    ghost use Rattle.ext_text.specs.declared.path.PathErr.TheVariants as errors;
-
-    ghost from_gives = { λ _ e. e ≡ errors.OutOfMemory };
-
-    fn from(_refused: AllocError) -> PathErr {
-        PathErr::OutOfMemory
-    }
-}
-
-impl<T: Drop> From<AllocFailed<T>> for PathErr {
-    ghost use Rattle.std.specs.Prelude.{◌≡◌};
-    ghost use Rattle.ext_text.specs.declared.path.PathErr.TheVariants as errors;
-
-    ghost from_gives = { λ _ e. e ≡ errors.OutOfMemory };
-
-    fn from(_refused: AllocFailed<T>) -> PathErr {
-        PathErr::OutOfMemory
-    }
-}
-
 impl From<OutOfMemory> for PathErr {
     ghost use Rattle.std.specs.Prelude.{◌≡◌};
     ghost use Rattle.ext_text.specs.declared.path.PathErr.TheVariants as errors;
 
     ghost from_gives = { λ _ e. e ≡ errors.OutOfMemory };
 
-    fn from(_refused: OutOfMemory) -> PathErr {
+    fn from(_failed: OutOfMemory) -> PathErr {
         PathErr::OutOfMemory
     }
 }
 
-/// The place of an entry: at most 64 names, from the root on, whose text has at most 4,096 bytes. Contracts see it as
+/// The path of an entry: at most 64 names, from the root on, whose text has at most 4,096 bytes. Contracts see it as
 /// the list of its names, each as its bytes; the root is the empty list.
 #[derive(Debug, Drop)]
 pub struct Path {
@@ -86,7 +63,7 @@ impl Model for Path {
 }
 
 impl Path {
-    /// The path of this text: names with a `/` between each two and none in front. The empty text is the root.
+    /// The path of this text: names with a `/` between each two and none before the first. The empty text is the root.
     ///
     /// # Errors
     /// The first of these: `TooLong` exactly over 4,096 bytes; `TooDeep` exactly where a text that is not empty has more
@@ -106,7 +83,7 @@ impl Path {
         if parts > MOST_NAMES {
             return Err(PathErr::TooDeep);
         }
-        let mut names = Vec::with_capacity(alloc, parts)?;
+        let mut names = grown(Vec::with_capacity(alloc, parts))?;
         append_parts(&mut names, bytes)?;
         Ok(Path { names })
     }
@@ -119,54 +96,21 @@ impl Path {
         self.names.as_slice()
     }
 
-    /// All names but the last; none for the root.
-    pub fn parent(&self) -> &[Name]
-        ensures { result.now ≡ parent self.now }
+    /// The path of these names, which are within the limits.
+    pub fn from_names(names: Vec<Name>) -> Path
+        requires { IsPath names.items }
+        ensures { result ≡ names.items }
     {
-        match self.names.as_slice() {
-            [] => &[],
-            [prefix @ .., _last] => prefix,
-        }
-    }
-
-    /// Whether this path is the other one or lies below it.
-    pub fn starts_with(&self, other: &Path) -> bool
-        ensures { result ≡ is_prefix other.now self.now }
-    {
-        self.names.as_slice().starts_with(other.names.as_slice())
-    }
-
-    /// The path of the name below this one.
-    ///
-    /// # Errors
-    /// `TooLong` exactly where the longer path's text has more than 4,096 bytes, else `TooDeep` exactly where it has
-    /// more than 64 names; never `BadName`. `OutOfMemory` may come at any time.
-    pub fn child(&self, name: &Name) -> Result<Path, PathErr>
-        ensures { Lengthens (self.now ++ name.now ∷ []) result }
-    {
-        lengthened(*self.names.allocator(), self.names.as_slice(), name)
-    }
-
-    /// The other path below this one. At the root no `/` counts.
-    ///
-    /// # Errors
-    /// As for `child`.
-    pub fn join(&self, other: &Path) -> Result<Path, PathErr>
-        ensures { Lengthens (self.now ++ other.now) result }
-    {
-        joined(
-            *self.names.allocator(),
-            self.names.as_slice(),
-            other.names.as_slice(),
-        )
+        Path { names }
     }
 
     /// Adds the path's text at the end of another: the names with a `/` between each two.
     ///
     /// # Errors
-    /// Want of memory alone; a front of the path's text may then have been added.
+    /// `OutOfMemory` alone; some prefix of the path's text was then added.
     pub fn append_to(&self, text: &mut Vec<u8>) -> Result<(), OutOfMemory>
-        ensures { OnOk result (text.new.items ≡ text.old.items ++ path_text self.now) }
+        ensures ok { OnOk result (text.new.items ≡ text.old.items ++ path_text self.now) }
+        ensures err { OnErr result (AppendsPrefix text.old.items text.new.items (path_text self.now)) }
     {
         match self.names.as_slice() {
             [] => Ok(()),
@@ -177,14 +121,37 @@ impl Path {
     /// An equal path.
     ///
     /// # Errors
-    /// Want of memory alone.
+    /// `OutOfMemory` alone.
     pub fn copy(&self) -> Result<Path, OutOfMemory>
         ensures { IfOk result (λ copy. copy ≡ self.now) }
     {
-        let mut names = Vec::with_capacity(*self.names.allocator(), self.names.len())?;
-        append_copies(&mut names, self.names.as_slice())?;
-        Ok(Path { names })
+        copied(self.allocator(), self.names())
     }
+
+    // Where the path's names have their memory.
+    pub(crate) fn allocator(&self) -> Global {
+        *self.names.allocator()
+    }
+}
+
+// The path of copies of these names.
+pub(crate) fn copied(alloc: Global, names: &[Name]) -> Result<Path, OutOfMemory>
+    requires { IsPath names.now }
+    ensures { IfOk result (λ copy. copy ≡ names.now) }
+{
+    let mut copies = Vec::with_capacity(alloc, names.len())?;
+    append_copies(&mut copies, names)?;
+    Ok(Path::from_names(copies))
+}
+
+// Adds copies of names.
+pub(crate) fn append_copies(copies: &mut Vec<Name>, names: &[Name]) -> Result<(), OutOfMemory>
+    ensures { OnOk result (copies.new.items ≡ copies.old.items ++ names.now) }
+{
+    for name in names {
+        copies.push(name.copy()?)?;
+    }
+    Ok(())
 }
 
 // How many parts a text has between its slashes. Sixteen bits hold the count, of which a processor adds many at once.
@@ -206,28 +173,12 @@ fn append_parts(names: &mut Vec<Name>, bytes: &[u8]) -> Result<(), PathErr>
 {
     let mut rest = bytes;
     'parts: loop {
-        match cut_part(rest) {
+        match split_at_byte(rest, b'/') {
             Some((part, after)) => {
                 push_name(names, part)?;
                 rest = after;
             }
             None => return push_name(names, rest),
-        }
-    }
-}
-
-// The part before the first slash, and the text behind it. Most parts are short, so each byte is looked at in turn.
-fn cut_part(bytes: &[u8]) -> Option<(&[u8], &[u8])>
-    ensures { MatchOption result (Lacks 47 bytes.now) (λ cut. IsSplit 47 bytes.now cut.0.now cut.1.now) }
-{
-    match bytes.iter().position(|byte| *byte == b'/') {
-        None => None,
-        Some(place) => {
-            let (part, rest) = bytes.split_at(place);
-            match rest {
-                [] => None,
-                [_slash, after @ ..] => Some((part, after)),
-            }
         }
     }
 }
@@ -238,85 +189,38 @@ fn push_name(names: &mut Vec<Name>, bytes: &[u8]) -> Result<(), PathErr>
     ensures err { IfErr result (IsPartsErr (bytes.now ∷ [])) }
 {
     match Name::read(*names.allocator(), bytes) {
-        Ok(name) => Ok(names.push(name)?),
+        Ok(name) => Ok(grown(names.push(name))?),
         Err(NameErr::OutOfMemory) => Err(PathErr::OutOfMemory),
         Err(NameErr::BadName) => Err(PathErr::BadName),
     }
 }
 
-// Adds a name, and each other name behind a slash.
+// Adds a name, and each other name after a slash.
 fn append_first(text: &mut Vec<u8>, first: &Name, below: &[Name]) -> Result<(), OutOfMemory>
-    ensures { OnOk result (text.new.items ≡ text.old.items ++ path_text (first.now ∷ below.now)) }
+    ensures ok { OnOk result (text.new.items ≡ text.old.items ++ path_text (first.now ∷ below.now)) }
+    ensures err { OnErr result (AppendsPrefix text.old.items text.new.items (path_text (first.now ∷ below.now))) }
 {
     text.extend_from_slice(first.bytes())?;
     append_below(text, below)
 }
 
-// Adds each name behind a slash.
+// Adds each name after a slash.
 fn append_below(text: &mut Vec<u8>, names: &[Name]) -> Result<(), OutOfMemory>
-    ensures { OnOk result (text.new.items ≡ text.old.items ++ flat_map (λ n. 47 ∷ n) names.now) }
+    ensures ok { OnOk result (text.new.items ≡ text.old.items ++ flat_map (λ n. 47 ∷ n) names.now) }
+    ensures err { OnErr result (AppendsPrefix text.old.items text.new.items (flat_map (λ n. 47 ∷ n) names.now)) }
 {
     for name in names {
-        text.push(b'/')?;
-        text.extend_from_slice(name.bytes())?;
+        append_part(text, name)?;
     }
     Ok(())
 }
 
-// Adds copies of names.
-fn append_copies(copies: &mut Vec<Name>, names: &[Name]) -> Result<(), OutOfMemory>
-    ensures { OnOk result (copies.new.items ≡ copies.old.items ++ names.now) }
+// Adds a slash and a name.
+fn append_part(text: &mut Vec<u8>, name: &Name) -> Result<(), OutOfMemory>
+    ensures ok { OnOk result (text.new.items ≡ text.old.items ++ 47 ∷ name.now) }
+    ensures err { OnErr result (AppendsPrefix text.old.items text.new.items (47 ∷ name.now)) }
 {
-    for name in names {
-        copies.push(name.copy()?)?;
-    }
+    text.push(b'/')?;
+    text.extend_from_slice(name.bytes())?;
     Ok(())
-}
-
-// The bytes of the names' text, which are counted with a slash after each name.
-fn text_len(names: &[Name]) -> usize
-    requires few { length names.now ≤ 64 }
-    requires names { AllByRecursion IsName names.now }
-    ensures { result ≡ sum_by (λ n. length n + 1) names.now }
-{
-    let mut bytes = 0;
-    for name in names {
-        bytes += name.bytes().len() + 1;
-    }
-    bytes
-}
-
-// The path of the names and one more.
-fn lengthened(alloc: Global, prefix: &[Name], name: &Name) -> Result<Path, PathErr>
-    requires { IsPath prefix.now }
-    ensures { Lengthens (prefix.now ++ name.now ∷ []) result }
-{
-    if text_len(prefix) + name.bytes().len() > MOST_BYTES {
-        return Err(PathErr::TooLong);
-    }
-    if prefix.len() >= MOST_NAMES {
-        return Err(PathErr::TooDeep);
-    }
-    let mut names = Vec::with_capacity(alloc, prefix.len() + 1)?;
-    append_copies(&mut names, prefix)?;
-    names.push(name.copy()?)?;
-    Ok(Path { names })
-}
-
-// The path of both lists of names in a row.
-fn joined(alloc: Global, prefix: &[Name], after: &[Name]) -> Result<Path, PathErr>
-    requires prefix { IsPath prefix.now }
-    requires after { IsPath after.now }
-    ensures { Lengthens (prefix.now ++ after.now) result }
-{
-    if text_len(prefix) + text_len(after) > MOST_BYTES + 1 {
-        return Err(PathErr::TooLong);
-    }
-    if prefix.len() + after.len() > MOST_NAMES {
-        return Err(PathErr::TooDeep);
-    }
-    let mut names = Vec::with_capacity(alloc, prefix.len() + after.len())?;
-    append_copies(&mut names, prefix)?;
-    append_copies(&mut names, after)?;
-    Ok(Path { names })
 }

@@ -1,2 +1,3 @@
-pub mod Usage
-pub mod Completeness
+pub mod WordsLemmas
+pub mod RunningLemmas
+pub mod ReplyLemmas

@@ -1,8 +1,11 @@
-pub mod Words
+pub mod Refusal
+pub mod Status
+pub mod Outcome
+pub mod Layer
+pub mod Compare
 pub mod Keyword
+pub mod Words
 pub mod Reading
-pub mod Refusals
-pub mod Statuses
-pub mod Layering
-pub mod Comparing
-pub mod Run
+pub mod Step
+pub mod Running
+pub mod Laws

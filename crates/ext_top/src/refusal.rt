@@ -1,8 +1,8 @@
 ghost use Rattle.std.specs.Prelude.{◌≡◌, ◌++◌, codes, decimal, IfOk, OnOk};
-ghost use Rattle.ext_top.specs.Refusals.{refusal_line, refusal_number, refusal_details, place_word, which_word};
+ghost use Rattle.ext_top.specs.Refusal.{refusal_line, refusal_number, refusal_details, place_word, which_word};
 
+use ext_lines::append_decimal;
 use ext_text::{OutOfMemory, Path, Text, Which};
-use itoa::Buffer;
 use std::alloc::Global;
 
 /// Why a command was refused.
@@ -50,12 +50,12 @@ fn which_word(which: Which) -> &'static str
 /// The line of a refusal, with its newline: `refused`, the number, the word and the details, parted by spaces.
 ///
 /// # Errors
-/// Want of memory alone.
+/// Out of memory alone.
 pub fn refusal_text(alloc: Global, refusal: &Refusal) -> Result<Text, OutOfMemory>
     ensures { IfOk result (λ text. text ≡ refusal_line refusal.now) }
 {
     let mut line = Vec::from_slice(alloc, b"refused ")?;
-    append_number(&mut line, u64::from(number(refusal)))?;
+    append_decimal(&mut line, u64::from(number(refusal)))?;
     line.push(b' ')?;
     append_details(&mut line, refusal)?;
     line.push(b'\n')?;
@@ -86,18 +86,9 @@ fn append_bad_tree(line: &mut Vec<u8>, at: u64, path: &Option<Path>) -> Result<(
     ensures { OnOk result (line.new.items ≡ line.old.items ++ codes "bad-tree " ++ decimal at ++ codes " " ++ place_word path.now) }
 {
     line.extend_from_slice(b"bad-tree ")?;
-    append_number(line, at)?;
+    append_decimal(line, at)?;
     line.push(b' ')?;
     append_place(line, path)
-}
-
-// The digits of a number.
-fn append_number(line: &mut Vec<u8>, number: u64) -> Result<(), OutOfMemory>
-    ensures { OnOk result (line.new.items ≡ line.old.items ++ decimal number) }
-{
-    let mut digits = Buffer::new();
-    line.extend_from_slice(digits.format(number).as_bytes())?;
-    Ok(())
 }
 
 // The path of a tree text, or `-`.

@@ -1,9 +1,14 @@
-ghost use Rattle.std.specs.Prelude.{◌≡◌, ◌≤◌};
+ghost use Rattle.std.specs.Prelude.{◌≤◌};
+ghost use Rattle.ext_top.specs.Words.{Layer};
+ghost use Rattle.ext_top.specs.Compare.{compare_line};
 ghost use Rattle.ext_top.specs.Reading.{command_of};
-ghost use Rattle.ext_top.specs.Run.{AnswersSource, Completes, Runs, ComparesTexts, RunsCommand, RunsLayer, streams};
+ghost use Rattle.ext_top.specs.Running.{Completes, CountsOn, Ends, Runs, WritesOutcome, WritesReply, streams};
+ghost use Rattle.ext_top.specs.declared.status.Status.TheVariants.{Done};
 
-use crate::comparing::compare_line;
-use crate::layering::layer_reply;
+use crate::compare::compare_line;
+use crate::layer::layer_source;
+use crate::outcome::Outcome;
+use crate::refusal::refusal_text;
 use crate::status::Status;
 use crate::words::{Command, read_words};
 use ext_io::{ReadErr, Sink, Source, read_to_end, write_all};
@@ -15,9 +20,9 @@ const MOST_SOURCE: usize = 16_777_216;
 
 /// Runs the command that the words are, over a source and a sink.
 ///
-/// `layer`: the source is a row of tree texts, the host first, and the text of the layered tree is written, each later
-/// tree above the earlier ones. The source is read to its end first, and for 16,777,217 bytes at the most. A source that
-/// is no row of tree texts, or whose layered tree has more than 262,144 entries, is refused, and the refusal's line is
+/// `layer`: the source is a sequence of tree texts, the host first, and the text of the layered tree is written, each
+/// later tree above the earlier ones. The source is read to its end first, and for 16,777,217 bytes at the most. A source
+/// that is no such sequence, or whose layered tree has more than 262,144 entries, is refused, and the refusal's line is
 /// written. Where no count rose and the source is within its limit, it ends with `Done`, `Refused` or `OutOfMemory`.
 ///
 /// `compare TEXT TEXT`: `less`, `equal` or `greater` is written, and a newline, as the first text is against the second
@@ -26,13 +31,11 @@ const MOST_SOURCE: usize = 16_777_216;
 /// Each status comes exactly where `Runs` says so.
 pub fn run<S: Source, K: Sink>(alloc: Global, words: &Words, source: &mut S, sink: &mut K) -> Status
     ensures runs { Runs words.now
-        (streams (S.left source.old) (S.faults source.old) (K.written sink.old) (K.faults sink.old))
-        (streams (S.left source.new) (S.faults source.new) (K.written sink.new) (K.faults sink.new)) result }
+        (streams (S.state source.old) (K.state sink.old)) (streams (S.state source.new) (K.state sink.new)) result }
     ensures complete { Completes words.now
-        (streams (S.left source.old) (S.faults source.old) (K.written sink.old) (K.faults sink.old))
-        (streams (S.left source.new) (S.faults source.new) (K.written sink.new) (K.faults sink.new)) result }
-    ensures read_count { S.faults source.old ≤ S.faults source.new }
-    ensures write_count { K.faults sink.old ≤ K.faults sink.new }
+        (streams (S.state source.old) (K.state sink.old)) (streams (S.state source.new) (K.state sink.new)) result }
+    ensures counts { CountsOn
+        (streams (S.state source.old) (K.state sink.old)) (streams (S.state source.new) (K.state sink.new)) }
 {
     run_words(alloc, words, source, sink)
 }
@@ -45,10 +48,9 @@ fn run_words<S: Source, K: Sink>(
     sink: &mut K,
 ) -> Status
     ensures runs { Runs words.now
-        (streams (S.left source.old) (S.faults source.old) (K.written sink.old) (K.faults sink.old))
-        (streams (S.left source.new) (S.faults source.new) (K.written sink.new) (K.faults sink.new)) result }
-    ensures read_count { S.faults source.old ≤ S.faults source.new }
-    ensures write_count { K.faults sink.old ≤ K.faults sink.new }
+        (streams (S.state source.old) (K.state sink.old)) (streams (S.state source.new) (K.state sink.new)) result }
+    ensures counts { CountsOn
+        (streams (S.state source.old) (K.state sink.old)) (streams (S.state source.new) (K.state sink.new)) }
 {
     match read_words(words) {
         Ok(command) => run_command(alloc, command, source, sink),
@@ -63,11 +65,10 @@ fn run_command<S: Source, K: Sink>(
     source: &mut S,
     sink: &mut K,
 ) -> Status
-    ensures runs { RunsCommand (command_of command.entry)
-        (streams (S.left source.old) (S.faults source.old) (K.written sink.old) (K.faults sink.old))
-        (streams (S.left source.new) (S.faults source.new) (K.written sink.new) (K.faults sink.new)) result }
-    ensures read_count { S.faults source.old ≤ S.faults source.new }
-    ensures write_count { K.faults sink.old ≤ K.faults sink.new }
+    ensures ends { Ends (command_of command.entry)
+        (streams (S.state source.old) (K.state sink.old)) (streams (S.state source.new) (K.state sink.new)) result }
+    ensures counts { CountsOn
+        (streams (S.state source.old) (K.state sink.old)) (streams (S.state source.new) (K.state sink.new)) }
 {
     match command {
         Command::Layer => run_layer(alloc, source, sink),
@@ -75,43 +76,54 @@ fn run_command<S: Source, K: Sink>(
     }
 }
 
-// The run of `layer`.
+// The run of `layer`, which reads its source first.
 fn run_layer<S: Source, K: Sink>(alloc: Global, source: &mut S, sink: &mut K) -> Status
-    ensures runs { RunsLayer
-        (streams (S.left source.old) (S.faults source.old) (K.written sink.old) (K.faults sink.old))
-        (streams (S.left source.new) (S.faults source.new) (K.written sink.new) (K.faults sink.new)) result }
-    ensures read_count { S.faults source.old ≤ S.faults source.new }
-    ensures write_count { K.faults sink.old ≤ K.faults sink.new }
+    ensures ends { Ends Layer
+        (streams (S.state source.old) (K.state sink.old)) (streams (S.state source.new) (K.state sink.new)) result }
+    ensures counts { CountsOn
+        (streams (S.state source.old) (K.state sink.old)) (streams (S.state source.new) (K.state sink.new)) }
 {
     match read_to_end(alloc, source, MOST_SOURCE) {
-        Ok(text) => answer(alloc, text, sink),
+        Ok(text) => match layer_source(alloc, text) {
+            Ok(outcome) => write_outcome(alloc, outcome, sink),
+            Err(OutOfMemory) => Status::OutOfMemory,
+        },
         Err(ReadErr::OutOfMemory) => Status::OutOfMemory,
         Err(ReadErr::Failed) => Status::ReadFault,
         Err(ReadErr::TooLong) => Status::TooLong,
     }
 }
 
-// Writes what is answered for the bytes of the source.
-fn answer<K: Sink>(alloc: Global, source: Text, sink: &mut K) -> Status
-    ensures answers { AnswersSource source (K.written sink.old) (K.written sink.new) (K.faults sink.old) (K.faults sink.new) result }
-    ensures write_count { K.faults sink.old ≤ K.faults sink.new }
+// The run of `compare`, which sees no source and takes no memory.
+fn run_compare<K: Sink>(a: &Text, b: &Text, sink: &mut K) -> Status
+    ensures writes { WritesReply Done (compare_line a.now b.now) (K.state sink.old) (K.state sink.new) result }
+    ensures count { (K.state sink.old).faults ≤ (K.state sink.new).faults }
 {
-    match layer_reply(alloc, source) {
-        Err(OutOfMemory) => Status::OutOfMemory,
-        Ok(reply) => match write_all(sink, reply.text.bytes()) {
-            Ok(()) => reply.status,
-            Err(_) => Status::WriteFault,
+    let line = compare_line(a.bytes(), b.bytes());
+    write_reply(Status::Done, line.as_bytes(), sink)
+}
+
+// Writes what a command came to.
+fn write_outcome<K: Sink>(alloc: Global, outcome: Outcome, sink: &mut K) -> Status
+    ensures writes { WritesOutcome outcome (K.state sink.old) (K.state sink.new) result }
+    ensures count { (K.state sink.old).faults ≤ (K.state sink.new).faults }
+{
+    match outcome {
+        Outcome::Gives(text) => write_reply(Status::Done, text.bytes(), sink),
+        Outcome::Refuses(refusal) => match refusal_text(alloc, &refusal) {
+            Ok(line) => write_reply(Status::Refused(refusal), line.bytes(), sink),
+            Err(OutOfMemory) => Status::OutOfMemory,
         },
     }
 }
 
-// The run of `compare`, which sees no source.
-fn run_compare<K: Sink>(a: &Text, b: &Text, sink: &mut K) -> Status
-    ensures compares { ComparesTexts a.now b.now (K.written sink.old) (K.written sink.new) (K.faults sink.old) (K.faults sink.new) result }
-    ensures write_count { K.faults sink.old ≤ K.faults sink.new }
+// Writes a reply. The status is the one that is handed in, where the whole reply was written.
+fn write_reply<K: Sink>(status: Status, text: &[u8], sink: &mut K) -> Status
+    ensures writes { WritesReply status text.now (K.state sink.old) (K.state sink.new) result }
+    ensures count { (K.state sink.old).faults ≤ (K.state sink.new).faults }
 {
-    match write_all(sink, compare_line(a.bytes(), b.bytes()).as_bytes()) {
-        Ok(()) => Status::Done,
-        Err(_) => Status::WriteFault,
+    match write_all(sink, text) {
+        Ok(()) => status,
+        Err(_failed) => Status::WriteFault,
     }
 }

@@ -1,5 +1,5 @@
 ghost use Rattle.std.specs.Prelude.{◌≡◌};
-ghost use Rattle.ext_top.specs.Statuses.{status_number};
+ghost use Rattle.ext_top.specs.Status.{status_number};
 
 use crate::refusal::Refusal;
 
@@ -18,9 +18,9 @@ pub enum Status {
     },
     /// The source failed; nothing was written.
     ReadFault,
-    /// The sink failed; a proper front of the answer was written.
+    /// The sink failed; a proper prefix of the reply was written.
     WriteFault,
-    /// A growth was refused; nothing was written.
+    /// Out of memory; nothing was written.
     OutOfMemory,
     /// The source has more than 16,777,216 bytes, and one byte more was taken; nothing was written.
     TooLong,

@@ -1,9 +1,11 @@
 pub mod Tree
-pub mod Laws
 pub mod Refusals
-pub mod Place
+pub mod InsertionPoint
+pub mod Following
+pub mod Fields
+pub mod EntryLine
 pub mod TreeText
-pub mod Printing
+pub mod StampLaws
 pub mod FirstFault
 pub mod Reading
-pub mod TextLaws
+pub mod Laws

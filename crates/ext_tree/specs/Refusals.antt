@@ -3,7 +3,7 @@ use Rattle.std.specs.Prelude.{◌≡◌, ℕ, nat_le, Bool, true, false, not, �
 use Rattle.ext_text.specs.Path.{parent}
 use Rattle.ext_tree.specs.Tree.{Entries, lookup, is_directory_or_root, most_entries}
 use Rattle.ext_tree.specs.declared.tree.TreeErr.{TreeErr}
-use Rattle.ext_tree.specs.declared.tree.TreeErr.TheVariants.{OutOfMemory, Exists, NotDirectory, Limit}
+use Rattle.ext_tree.specs.declared.tree.TreeErr.TheVariants.{OutOfMemory, Exists, NotDirectory, Limit, Path}
 
 abbrev pub is_root : List (List ℕ) → Bool
 is_root [] = true
@@ -17,10 +17,11 @@ insert_refusal es p =
     else if nat_le most_entries (length es) then Some Limit
     else None
 
--- the answer is the refusal, where there is one; only want of memory may come where there is none
+-- the result is the refusal, where there is one; where there is none, only an allocation may fail
 abbrev pub Refuses : {T : Type 0} → Result T TreeErr → Option TreeErr → Type 0
 Refuses (Ok done) refusal = refusal ≡ None
 Refuses (Err OutOfMemory) refusal = refusal ≡ None
 Refuses (Err Exists) refusal = refusal ≡ Some Exists
 Refuses (Err NotDirectory) refusal = refusal ≡ Some NotDirectory
 Refuses (Err Limit) refusal = refusal ≡ Some Limit
+Refuses (Err Path) refusal = refusal ≡ Some Path

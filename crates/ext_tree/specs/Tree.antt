@@ -14,10 +14,17 @@ Entries C = List (List (List ℕ) × Entry C)
 abbrev pub lookup : {C : Type 0} → Entries C → List (List ℕ) → Option (Entry C)
 lookup es p = find path_cmp p es
 
+-- what other entries may stand in
 abbrev pub is_directory : {C : Type 0} → Entry C → Bool
 is_directory (Dir mode) = true
 is_directory (File mode content) = false
 is_directory (Link target) = false
+
+-- what has bytes
+abbrev pub is_file : {C : Type 0} → Entry C → Bool
+is_file (Dir mode) = false
+is_file (File mode content) = true
+is_file (Link target) = false
 
 -- a directory stands there
 abbrev pub is_directory_at : {C : Type 0} → Option (Entry C) → Bool
@@ -30,7 +37,7 @@ is_directory_or_root es [] = true
 is_directory_or_root es (n ∷ p) = is_directory_at (lookup es (n ∷ p))
 
 -- Each path once and in path order, none of them the root, each within the limits of a path, and each directly in a
--- directory or in the root. So every proper front of a path that is not the root has a directory.
+-- directory or in the root. So at every non-empty proper prefix of a path there is a directory.
 pub record IsTree {C : Type 0} (es : Entries C) : Type 0 where
   pub sorted : IsTrue (is_sorted path_cmp es)
   pub root : lookup es [] ≡ None

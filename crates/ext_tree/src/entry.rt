@@ -1,6 +1,8 @@
 ghost use Rattle.std.specs.Prelude.{◌≡◌, IfOk};
+ghost use Rattle.ext_tree.specs.Tree.{is_directory, is_file};
 
-use ext_text::{Mode, OutOfMemory, Text};
+use ext_lines::OutOfMemory;
+use ext_text::{Mode, Text};
 use std::alloc::Global;
 
 /// What stands at a path.
@@ -19,7 +21,7 @@ pub trait Held1: Sized {
     /// An equal value.
     ///
     /// # Errors
-    /// Want of memory alone.
+    /// Out of memory alone.
     fn copy(&self, alloc: Global) -> Result<Self, OutOfMemory>
         ensures { IfOk result (λ copy. copy ≡ self.now) };
 }
@@ -28,7 +30,7 @@ impl<C: Held1> Entry<C> {
     /// An equal entry.
     ///
     /// # Errors
-    /// Want of memory alone.
+    /// Out of memory alone.
     pub fn copy(&self, alloc: Global) -> Result<Entry<C>, OutOfMemory>
         ensures { IfOk result (λ copy. copy ≡ self.now) }
     {
@@ -37,5 +39,21 @@ impl<C: Held1> Entry<C> {
             Entry::File(mode, content) => Ok(Entry::File(*mode, content.copy(alloc)?)),
             Entry::Link(target) => Ok(Entry::Link(target.copy()?)),
         }
+    }
+}
+
+impl<C> Entry<C> {
+    /// Whether entries may stand in it.
+    pub fn is_directory(&self) -> bool
+        ensures { result ≡ is_directory self.now }
+    {
+        matches!(self, Entry::Dir(_))
+    }
+
+    /// Whether it has bytes.
+    pub fn is_file(&self) -> bool
+        ensures { result ≡ is_file self.now }
+    {
+        matches!(self, Entry::File(_, _))
     }
 }

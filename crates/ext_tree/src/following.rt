@@ -1,17 +1,17 @@
-// Which path may stand behind the entries of a tree, by a look at the last of them alone.
+// Which path may follow the entries of a tree, by a look at the last of them alone.
 ghost use Rattle.std.specs.Prelude.{◌≡◌, [], ◌∷◌, ◌++◌, ◌↔◌, IsTrue, MatchOption, slice_get};
 ghost use Rattle.std.specs.Option.{option_copied};
 ghost use Rattle.std.specs.Ordering.{is_lt};
 ghost use Rattle.ext_text.specs.Name.{bytes_cmp};
 ghost use Rattle.ext_text.specs.Path.{is_prefix};
 ghost use Rattle.ext_tree.specs.Tree.{IsTree, is_directory};
-ghost use Rattle.ext_tree.specs.Reading.{stands_after};
+ghost use Rattle.ext_tree.specs.Following.{stands_after};
 ghost use Rattle.ext_tree.specs.declared.entry.Entry.{Entry};
 
 use crate::entry::Entry;
 use ext_text::{Name, Path};
 
-// Whether the entries with one more at this path are a tree. What stands at the path does not count.
+/// Whether the entries with one more at this path are a tree, whatever stands there.
 pub fn may_follow<C>(entries: &[(Path, Entry<C>)], path: &Path) -> bool
     requires { IsTree entries.now }
     ensures { (e : Entry C) → (IsTrue result ↔ IsTree (entries.now ++ (path.now, e) ∷ [])) }
@@ -23,8 +23,8 @@ pub fn may_follow<C>(entries: &[(Path, Entry<C>)], path: &Path) -> bool
     }
 }
 
-// Whether the path may stand behind the last entry. The names of its folder are compared once, with the last path's:
-// behind them the last path has a smaller name, or nothing, and is then the folder itself.
+// Whether the path may follow the last entry. The names of its parent are compared once, with the last path's: after them
+// the last path has a smaller name, or nothing, and is then the parent itself.
 fn stands_after<C>(last: &(Path, Entry<C>), path: &Path) -> bool
     ensures { result ≡ stands_after last.now path.now }
 {
@@ -38,21 +38,21 @@ fn stands_after<C>(last: &(Path, Entry<C>), path: &Path) -> bool
     }
 }
 
-// Whether a name comes after the last entry, which has this name in the same folder or is the folder.
+// Whether a name comes after the last entry, which has this name in the same directory or is the directory.
 fn comes_after<C>(last_name: Option<&Name>, entry: &Entry<C>, name: &Name) -> bool
     ensures { MatchOption (option_copied last_name.entry) (result ≡ is_directory entry.now) (λ last. result ≡ is_lt (bytes_cmp last name.now)) }
 {
     match last_name {
-        None => is_directory(entry),
+        None => entry.is_directory(),
         Some(last) => last.cmp(name).is_lt(),
     }
 }
 
-// The name at a place.
-fn name_at(names: &[Name], place: usize) -> Option<&Name>
-    ensures { option_copied result ≡ slice_get names.now place }
+// The name with this index.
+fn name_at(names: &[Name], index: usize) -> Option<&Name>
+    ensures { option_copied result ≡ slice_get names.now index }
 {
-    names.get(place)
+    names.get(index)
 }
 
 // Whether the second list of names begins with the first.
@@ -60,11 +60,4 @@ fn is_prefix(prefix: &[Name], names: &[Name]) -> bool
     ensures { result ≡ is_prefix prefix.now names.now }
 {
     names.starts_with(prefix)
-}
-
-// Whether it is a directory.
-fn is_directory<C>(entry: &Entry<C>) -> bool
-    ensures { result ≡ is_directory entry.now }
-{
-    matches!(entry, Entry::Dir(_))
 }

@@ -1,16 +1,16 @@
 //! Trees of entries, and their text.
 //!
-//! A [`Tree`] is a finite map from paths to entries in which every proper front of a path is a directory. A tree text
-//! is read into its tree and a tree is printed as its one text; what is no text is refused at its first faulty line.
+//! A [`Tree`] is a finite map from paths to entries in which each non-empty proper prefix of a path is a directory. A tree text
+//! is read into its tree and a tree is printed as its one text; bytes that are no text are refused at their first faulty line.
 //! The crates that layer, search and change trees stand on this one.
 #![tactic(auto)]
 
 mod entry;
+mod entry_line;
 mod fields;
 mod following;
 pub mod laws;
-mod lines;
-mod places;
+mod insertion_point;
 mod reading;
 mod stamp;
 #[cfg(test)]
@@ -19,10 +19,13 @@ mod tree;
 mod writing;
 
 pub use entry::{Entry, Held1};
+pub use entry_line::{LineContent, append_fields, append_line, entry_of_line, fields_of, path_of};
+pub use fields::{append_digest, append_mode, append_number, append_stamp, split_digest, split_mode, split_number, split_stamp};
+pub use following::may_follow;
 pub use reading::{TreeTextErr, read_tree, read_trees};
 pub use stamp::Stamp;
 pub use tree::{MOST_ENTRIES, Tree, TreeErr};
-pub use writing::{write_entries, write_entries_over, write_tree};
+pub use writing::{write_entries, write_entries_into, write_tree};
 
 /// A list of trees whose files are known by their stamps.
 pub type Trees = ext_text::ListOf<Tree<Stamp>>;

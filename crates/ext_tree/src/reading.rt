@@ -1,20 +1,21 @@
 // Reads tree texts line by line. What was read so far is known to be the start of a text, so each line is judged by the
 // entries before it alone, and the first line that may not stand there is the first faulty one.
-ghost use Rattle.std.specs.Prelude.{◌≡◌, ◌+◌, ◌<◌, ◌≤◌, ◌^◌, ◌↔◌, [], ◌∷◌, ◌++◌, length, MatchResult, IfOk, IsTrue};
+ghost use Rattle.std.specs.Prelude.{◌≡◌, ◌+◌, ◌<◌, ◌≤◌, ◌^◌, ◌↔◌, [], ◌∷◌, ◌++◌, length, MatchResult, IfOk, IsTrue, OnOk};
 ghost use Rattle.ext_tree.specs.declared.entry.Entry.{Entry};
 ghost use Rattle.ext_tree.specs.declared.stamp.Stamp.{Stamp};
-ghost use Rattle.ext_tree.specs.FirstFault.{ReadsTree, ReadsRow};
-ghost use Rattle.ext_tree.specs.TreeText.{HasLine, HasText};
+ghost use Rattle.ext_tree.specs.FirstFault.{ReadsTree, ReadsSequence};
+ghost use Rattle.ext_tree.specs.TreeText.{HasTreeLine, HasText};
 ghost use Rattle.ext_tree.specs.Reading.{Judges, BeginsBody, BodyFault, BeginsText, TextFault};
 
 use crate::Trees;
 use crate::entry::Entry;
 use crate::following::may_follow;
-use crate::lines::entry_of_line;
+use crate::entry_line::entry_of_line;
 use crate::stamp::Stamp;
 use crate::tree::{MOST_ENTRIES, Tree};
-use ext_text::{ListOf, OutOfMemory, Path, split_at_byte};
-use std::alloc::{AllocFailed, Global};
+use ext_lines::{OutOfMemory, split_at_byte};
+use ext_text::{ListOf, Path};
+use std::alloc::Global;
 use thiserror::Error;
 
 /// The first line of a tree text.
@@ -26,10 +27,10 @@ const END: &[u8] = b"end";
 /// Why bytes are not read as trees.
 #[derive(Clone, Copy, Debug, PartialEq, Eq, Error)]
 pub enum TreeTextErr {
-    /// A growth was refused.
+    /// An allocation failed.
     #[error("out of memory")]
     OutOfMemory,
-    /// The bytes are no tree text, or no row of them; the line is the first faulty one, counted from 1.
+    /// The bytes are no tree text, or no sequence of them; the line is the first faulty one, counted from 1.
     #[error("faulty tree text at line {line}")]
     BadTree {
         /// The first faulty line.
@@ -43,23 +44,12 @@ impl From<OutOfMemory> for TreeTextErr {
 
     ghost from_gives = { λ _ e. e ≡ errors.OutOfMemory };
 
-    fn from(_refused: OutOfMemory) -> TreeTextErr {
+    fn from(_failed: OutOfMemory) -> TreeTextErr {
         TreeTextErr::OutOfMemory
     }
 }
 
-impl<T: Drop> From<AllocFailed<T>> for TreeTextErr {
-    ghost use Rattle.std.specs.Prelude.{◌≡◌};
-    ghost use Rattle.ext_tree.specs.declared.reading.TreeTextErr.TheVariants as errors;
-
-    ghost from_gives = { λ _ e. e ≡ errors.OutOfMemory };
-
-    fn from(_refused: AllocFailed<T>) -> TreeTextErr {
-        TreeTextErr::OutOfMemory
-    }
-}
-
-// What a line is behind the lines of entries.
+// What a line is after the lines of entries.
 #[derive(Drop)]
 enum Line {
     // The last line of their text.
@@ -74,17 +64,17 @@ enum Line {
 #[derive(Drop)]
 struct Body<'a> {
     entries: Vec<(Path, Entry<Stamp>)>,
-    // The bytes behind the text.
+    // The bytes after the text.
     rest: &'a [u8],
-    // The number of the line behind the text.
+    // The number of the line after the text.
     line: u64,
 }
 
-/// The tree of a tree text, behind which nothing may stand.
+/// The tree of a tree text, which nothing may follow.
 ///
 /// # Errors
 /// `BadTree` exactly where the bytes are no tree text. Its line, counted from 1, is the first with which no tree text
-/// begins; where the bytes stop early, it is the line behind their last newline, also where that line has begun.
+/// begins; where the bytes stop early, it is the line after their last newline, also where that line has begun.
 /// `OutOfMemory` may come at any time.
 pub fn read_tree(alloc: Global, bytes: &[u8]) -> Result<Tree<Stamp>, TreeTextErr>
     ensures { ReadsTree bytes.now result }
@@ -97,20 +87,20 @@ pub fn read_tree(alloc: Global, bytes: &[u8]) -> Result<Tree<Stamp>, TreeTextErr
     }
 }
 
-/// The trees of one or more tree texts in a row, in their order.
+/// The trees of a sequence of tree texts, of one at least, in their order.
 ///
 /// # Errors
-/// `BadTree` exactly where the bytes are no such row; the empty bytes are none. Its line is as for `read_tree`, and the
+/// `BadTree` exactly where the bytes are no such sequence; the empty bytes are none. Its line is as for `read_tree`, and the
 /// lines are counted through all the texts. `OutOfMemory` may come at any time.
 pub fn read_trees(alloc: Global, bytes: &[u8]) -> Result<Trees, TreeTextErr>
-    ensures { ReadsRow bytes.now result }
+    ensures { ReadsSequence bytes.now result }
 {
     let mut trees = Vec::new(alloc);
     let mut rest = bytes;
     let mut line = 1;
     'texts: loop {
         let text = read_text(alloc, rest, line)?;
-        trees.push(Tree::from_pairs(text.entries))?;
+        push(&mut trees, Tree::from_pairs(text.entries))?;
         if text.rest.is_empty() {
             return Ok(ListOf::from_vec(trees));
         }
@@ -150,7 +140,7 @@ fn read_body(alloc: Global, bytes: &[u8], first: u64) -> Result<Body, TreeTextEr
             Some((text, after)) => match judge(alloc, entries.as_slice(), text)? {
                 Line::Fault => return Err(TreeTextErr::BadTree { line }),
                 Line::End => {
-                    // A row may hold very many small trees.
+                    // A sequence may hold very many small trees.
                     entries.shrink_to_fit();
                     return Ok(Body {
                         entries,
@@ -159,7 +149,7 @@ fn read_body(alloc: Global, bytes: &[u8], first: u64) -> Result<Body, TreeTextEr
                     });
                 }
                 Line::Item(path, entry) => {
-                    entries.push((path, entry))?;
+                    push(&mut entries, (path, entry))?;
                     rest = after;
                     line += 1;
                 }
@@ -168,7 +158,7 @@ fn read_body(alloc: Global, bytes: &[u8], first: u64) -> Result<Body, TreeTextEr
     }
 }
 
-// What the line is behind the lines of the entries.
+// What the line is after the lines of the entries.
 fn judge(alloc: Global, entries: &[(Path, Entry<Stamp>)], line: &[u8]) -> Result<Line, OutOfMemory>
     requires { HasText entries.now }
     ensures { IfOk result (Judges entries.now line.now) }
@@ -191,9 +181,17 @@ fn judge(alloc: Global, entries: &[(Path, Entry<Stamp>)], line: &[u8]) -> Result
 // Whether the entries with one more at this path still have a text.
 fn may_add(entries: &[(Path, Entry<Stamp>)], path: &Path) -> bool
     requires { HasText entries.now }
-    ensures { (e : Entry Stamp) → HasLine (path.now, e) → (IsTrue result ↔ HasText (entries.now ++ (path.now, e) ∷ [])) }
+    ensures { (e : Entry Stamp) → HasTreeLine (path.now, e) → (IsTrue result ↔ HasText (entries.now ++ (path.now, e) ∷ [])) }
 {
     entries.len() < MOST_ENTRIES && may_follow(entries, path)
+}
+
+// Adds an item at the end.
+fn push<T: Drop>(items: &mut Vec<T>, item: T) -> Result<(), OutOfMemory>
+    ensures { OnOk result (items.new.items ≡ items.old.items ++ item ∷ []) }
+{
+    items.push(item)?;
+    Ok(())
 }
 
 #[cfg(test)]

@@ -1,15 +1,17 @@
 ghost use Rattle.std.specs.Prelude.{◌≡◌, ◌≤◌, nat_le, [], length, slice_get, OnOk, OnErr};
 ghost use Rattle.std.specs.Option.{option_copied, option_map};
 ghost use Rattle.std.specs.FinMap.{put};
+ghost use Rattle.std.specs.List.{insert};
 ghost use Rattle.ext_text.specs.Path.{path_cmp};
 ghost use Rattle.ext_tree.specs.Tree.{IsTree, IsTreeWithin, lookup, most_entries};
-ghost use Rattle.ext_tree.specs.Place.{place};
+ghost use Rattle.ext_tree.specs.InsertionPoint.{insertion_point};
 ghost use Rattle.ext_tree.specs.Refusals.{Refuses, insert_refusal};
 
 use crate::entry::Entry;
-use crate::places::{entry_at, entry_of, is_directory_or_root, place_of};
+use crate::insertion_point::{entry_at, entry_of, is_directory_or_root, insertion_point_of};
+use ext_lines::OutOfMemory;
 use ext_text::Path;
-use std::alloc::{AllocFailed, Global};
+use std::alloc::Global;
 use std::marker::Model;
 use thiserror::Error;
 
@@ -19,33 +21,36 @@ pub const MOST_ENTRIES: usize = 262_144;
 /// Why a tree refuses a change.
 #[derive(Clone, Copy, Debug, PartialEq, Eq, Error)]
 pub enum TreeErr {
-    /// A growth was refused.
+    /// An allocation failed.
     #[error("out of memory")]
     OutOfMemory,
     /// An entry stands there, or the path is the root.
     #[error("an entry stands there")]
     Exists,
-    /// A proper front of the path is absent or no directory.
-    #[error("a front of the path is no directory")]
+    /// A non-empty proper prefix of the path is absent or no directory.
+    #[error("a prefix of the path is no directory")]
     NotDirectory,
     /// The tree has 262,144 entries.
     #[error("more than 262,144 entries")]
     Limit,
+    /// A path grows past its limits.
+    #[error("a path grows past its limits")]
+    Path,
 }
 
-impl<T: Drop> From<AllocFailed<T>> for TreeErr {
+impl From<OutOfMemory> for TreeErr {
     ghost use Rattle.std.specs.Prelude.{◌≡◌};
     ghost use Rattle.ext_tree.specs.declared.tree.TreeErr.TheVariants as errors;
 
     ghost from_gives = { λ _ e. e ≡ errors.OutOfMemory };
 
-    fn from(_refused: AllocFailed<T>) -> TreeErr {
+    fn from(_failed: OutOfMemory) -> TreeErr {
         TreeErr::OutOfMemory
     }
 }
 
-/// A finite map from paths to entries in which every proper front of a path is a directory; it has at most 262,144
-/// entries. Contracts see it as the list of its entries in path order.
+/// A finite map from paths to entries in which there is a directory at every non-empty proper prefix of a path; it has at
+/// most 262,144 entries. Contracts see it as the list of its entries in path order.
 #[derive(Debug, Drop)]
 pub struct Tree<C> {
     entries: Vec<(Path, Entry<C>)>,
@@ -110,11 +115,11 @@ impl<C> Tree<C> {
         self.entries.len() as u64
     }
 
-    /// The entry at a place in path order, counted from 0, with its path; `None` exactly past the last.
-    pub fn at(&self, place: u64) -> Option<(&Path, &Entry<C>)>
-        ensures { option_map (λ x. (x.0.now, x.1.now)) result ≡ slice_get self.now place }
+    /// The entry with this index in path order, counted from 0, with its path; `None` exactly past the last.
+    pub fn at(&self, index: u64) -> Option<(&Path, &Entry<C>)>
+        ensures { option_map (λ x. (x.0.now, x.1.now)) result ≡ slice_get self.now index }
     {
-        let (path, entry) = self.entries.get(place as usize)?;
+        let (path, entry) = self.entries.get(index as usize)?;
         Some((path, entry))
     }
 }
@@ -124,18 +129,18 @@ impl<C: Drop> Tree<C> {
     ///
     /// # Errors
     /// The first of these: `Exists` exactly where an entry stands there or the path is the root; `NotDirectory` exactly
-    /// where a proper front of the path is absent or no directory; `Limit` exactly at 262,144 entries. `OutOfMemory`
-    /// comes only where none of them does. After any of them the tree is as before.
+    /// where a non-empty proper prefix of the path is absent or no directory; `Limit` exactly at 262,144 entries.
+    /// `OutOfMemory` comes only where none of them does, and `Path` never. After any of them the tree is as before.
     pub fn insert(&mut self, path: Path, entry: Entry<C>) -> Result<(), TreeErr>
         ensures ok { OnOk result (self.new ≡ put path_cmp path entry self.old) }
         ensures refused { Refuses result (insert_refusal self.old path) }
         ensures err { OnErr result (self.new ≡ self.old) }
     {
         let entries = self.entries.as_slice();
-        let place = place_of(entries, path.names());
-        match refusal_at(entries, &path, place) {
+        let index = insertion_point_of(entries, path.names());
+        match refusal_at(entries, &path, index) {
             Some(refusal) => Err(refusal),
-            None => Ok(self.entries.insert(place, (path, entry))?),
+            None => Ok(insert_at(&mut self.entries, index, (path, entry))?),
         }
     }
 }
@@ -147,10 +152,10 @@ fn is_full(entries: usize) -> bool
     entries >= MOST_ENTRIES
 }
 
-// Why no entry may be put at the path, whose place among the entries is known.
+// Why no entry may be put at the path, whose insertion point is known.
 fn refusal_at<C>(entries: &[(Path, Entry<C>)], path: &Path, index: usize) -> Option<TreeErr>
     requires tree { IsTree entries.now }
-    requires place { index ≡ place path_cmp path.now entries.now }
+    requires index { index ≡ insertion_point path_cmp path.now entries.now }
     ensures { result ≡ insert_refusal entries.now path.now }
 {
     if path.names().is_empty() || entry_at(entries, path.names(), index).is_some() {
@@ -162,4 +167,18 @@ fn refusal_at<C>(entries: &[(Path, Entry<C>)], path: &Path, index: usize) -> Opt
     } else {
         None
     }
+}
+
+// Puts an entry at an index.
+fn insert_at<C: Drop>(
+    entries: &mut Vec<(Path, Entry<C>)>,
+    index: usize,
+    entry: (Path, Entry<C>),
+) -> Result<(), OutOfMemory>
+    requires { index ≤ length entries.old.items }
+    ensures ok { OnOk result (entries.new.items ≡ insert entries.old.items index entry) }
+    ensures err { OnErr result (entries.new.items ≡ entries.old.items) }
+{
+    entries.insert(index, entry)?;
+    Ok(())
 }

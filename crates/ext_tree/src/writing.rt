@@ -1,14 +1,12 @@
-ghost use Rattle.std.specs.Prelude.{◌≡◌, [], ◌∷◌, ◌++◌, false, map, decimal, IfOk, OnOk};
-ghost use Rattle.std.specs.Fmt.{digits};
-ghost use Rattle.hex.specs.Hex.{encode_lower};
-ghost use Rattle.ext_tree.specs.Printing.{fields_before};
-ghost use Rattle.ext_tree.specs.TreeText.{entry_line, tree_text};
+ghost use Rattle.std.specs.Prelude.{◌≡◌, [], ◌∷◌, ◌++◌, map, IfOk, OnOk};
+ghost use Rattle.ext_tree.specs.TreeText.{AreWritable, HasText, IsTreeText, tree_line, tree_text};
 
 use crate::entry::Entry;
+use crate::entry_line;
 use crate::stamp::Stamp;
 use crate::tree::Tree;
-use ext_text::{Digest, OutOfMemory, Path, Text};
-use itoa::Buffer;
+use ext_lines::OutOfMemory;
+use ext_text::{Path, Text};
 use std::alloc::Global;
 
 // The first line of a text.
@@ -19,10 +17,14 @@ const END: &[u8] = b"end\n";
 
 /// The text of a tree.
 ///
+/// Where each link's target and each file's size is in the range of the format, it is the tree's text: reading it gives
+/// the tree back. Elsewhere it is printed by the same rules, and no reader takes it.
+///
 /// # Errors
-/// Want of memory alone.
+/// Out of memory alone.
 pub fn write_tree(alloc: Global, tree: &Tree<Stamp>) -> Result<Text, OutOfMemory>
-    ensures { IfOk result (λ text. text ≡ tree_text tree.now) }
+    ensures printed { IfOk result (λ text. text ≡ tree_text tree.now) }
+    ensures text { AreWritable tree.now → IfOk result (λ text. IsTreeText text tree.now) }
 {
     let mut text = Vec::from_slice(alloc, HEADER)?;
     for (path, entry) in tree.pairs() {
@@ -32,27 +34,29 @@ pub fn write_tree(alloc: Global, tree: &Tree<Stamp>) -> Result<Text, OutOfMemory
     Ok(Text::from_vec(text))
 }
 
-/// The text of a tree's entries that are borrowed, in their order.
+/// The text of borrowed entries, in their order. Where they are those of a tree that has a text, it is that text.
 ///
 /// # Errors
-/// Want of memory alone.
+/// Out of memory alone.
 pub fn write_entries(alloc: Global, entries: &[&(Path, Entry<Stamp>)]) -> Result<Text, OutOfMemory>
-    ensures { IfOk result (λ text. text ≡ tree_text (map (λ x. x.now) entries.now)) }
+    ensures printed { IfOk result (λ text. text ≡ tree_text (map (λ x. x.now) entries.now)) }
+    ensures text { HasText (map (λ x. x.now) entries.now) → IfOk result (λ text. IsTreeText text (map (λ x. x.now) entries.now)) }
 {
-    write_entries_over(Text::new(alloc), entries)
+    write_entries_into(Text::new(alloc), entries)
 }
 
-/// The same, written into the memory of an older text, whose bytes go.
+/// The text of borrowed entries, as `write_entries` gives it, in the memory of a buffer, whose bytes go.
 ///
 /// # Errors
-/// Want of memory alone.
-pub fn write_entries_over(
-    older: Text,
+/// Out of memory alone.
+pub fn write_entries_into(
+    buffer: Text,
     entries: &[&(Path, Entry<Stamp>)],
 ) -> Result<Text, OutOfMemory>
-    ensures { IfOk result (λ text. text ≡ tree_text (map (λ x. x.now) entries.now)) }
+    ensures printed { IfOk result (λ text. text ≡ tree_text (map (λ x. x.now) entries.now)) }
+    ensures text { HasText (map (λ x. x.now) entries.now) → IfOk result (λ text. IsTreeText text (map (λ x. x.now) entries.now)) }
 {
-    let mut text = older.into_vec();
+    let mut text = buffer.into_vec();
     text.clear();
     text.extend_from_slice(HEADER)?;
     for entry in entries {
@@ -64,66 +68,9 @@ pub fn write_entries_over(
 
 // Adds an entry's line with its newline.
 fn append_line(text: &mut Vec<u8>, path: &Path, entry: &Entry<Stamp>) -> Result<(), OutOfMemory>
-    ensures { OnOk result (text.new.items ≡ text.old.items ++ (entry_line (path.now, entry.now) ++ 10 ∷ [])) }
+    ensures { OnOk result (text.new.items ≡ text.old.items ++ (tree_line (path.now, entry.now) ++ 10 ∷ [])) }
 {
-    append_fields(text, entry)?;
-    path.append_to(text)?;
+    entry_line::append_line(text, path, entry)?;
     text.push(b'\n')?;
-    Ok(())
-}
-
-// Adds the fields before the path, a space behind each.
-fn append_fields(text: &mut Vec<u8>, entry: &Entry<Stamp>) -> Result<(), OutOfMemory>
-    ensures { OnOk result (text.new.items ≡ text.old.items ++ fields_before entry.now) }
-{
-    match entry {
-        Entry::Dir(mode) => {
-            text.extend_from_slice(b"d ")?;
-            append_octal(text, mode.bits())?;
-        }
-        Entry::File(mode, stamp) => {
-            text.extend_from_slice(b"f ")?;
-            append_octal(text, mode.bits())?;
-            text.push(b' ')?;
-            append_decimal(text, stamp.size)?;
-            text.push(b' ')?;
-            append_hex(text, &stamp.digest)?;
-        }
-        Entry::Link(target) => {
-            text.extend_from_slice(b"l ")?;
-            append_decimal(text, target.bytes().len() as u64)?;
-            text.push(b' ')?;
-            text.extend_from_slice(target.bytes())?;
-        }
-    }
-    text.push(b' ')?;
-    Ok(())
-}
-
-// Adds the octal digits of a number.
-fn append_octal(text: &mut Vec<u8>, number: u16) -> Result<(), OutOfMemory>
-    ensures { OnOk result (text.new.items ≡ text.old.items ++ digits 8 false number) }
-{
-    if number >= 8 {
-        append_octal(text, number / 8)?;
-    }
-    text.push(b'0' + (number % 8) as u8)?;
-    Ok(())
-}
-
-// Adds the decimal digits of a number.
-fn append_decimal(text: &mut Vec<u8>, number: u64) -> Result<(), OutOfMemory>
-    ensures { OnOk result (text.new.items ≡ text.old.items ++ decimal number) }
-{
-    let mut buffer = Buffer::new();
-    text.extend_from_slice(buffer.format(number).as_bytes())?;
-    Ok(())
-}
-
-// Adds the hexadecimal digits of a digest, its letters lower case.
-fn append_hex(text: &mut Vec<u8>, digest: &Digest) -> Result<(), OutOfMemory>
-    ensures { OnOk result (text.new.items ≡ text.old.items ++ encode_lower digest.now.0) }
-{
-    text.extend_from_slice(&digest.digits())?;
     Ok(())
 }

@@ -1,3 +1,3 @@
-pub mod Digits
-pub mod Laws
-pub mod Runs
+pub mod NumberLemmas
+pub mod LawsLemmas
+pub mod TokenLemmas

@@ -1,3 +1,2 @@
 pub mod Version
-pub mod Scan
-pub mod Read
+pub mod Token

@@ -1,6 +1,6 @@
 -- Versions and their order. The order is this project's own, made after the Version Format Specification of the UAPI
 -- group (UAPI.10); where the two differ, the rules below hold.
-use Rattle.std.specs.Prelude.{◌≡◌, ℕ, ◌<◌, ◌≤◌, Bool, true, cond, ◌||◌, ◌==◌, List, [], ◌∷◌, length}
+use Rattle.std.specs.Prelude.{◌≡◌, ℕ, ◌<◌, ◌≤◌, Bool, true, if◌then◌else◌, ◌||◌, ◌==◌, List, [], ◌∷◌, length}
 use Rattle.std.specs.List.{AllPass, list_any}
 use Rattle.std.specs.Char.{is_ascii_digit, is_ascii_alphabetic, is_ascii_alphanumeric}
 use Rattle.std.specs.Str.Parse.{digits_value}
@@ -32,11 +32,19 @@ with_letter b ts = Letters (b ∷ []) ∷ ts
 
 -- what any other byte is: `~`, `-`, `^` and `.` are tokens
 abbrev pub mark : ℕ → Token
-mark b = cond (b == 126) Tilde (cond (b == 45) Dash (cond (b == 94) Caret (cond (b == 46) Dot Skip)))
+mark b =
+    if b == 126 then Tilde
+    else if b == 45 then Dash
+    else if b == 94 then Caret
+    else if b == 46 then Dot
+    else Skip
 
 -- the byte before what follows it
 abbrev pub onto : ℕ → List Token → List Token
-onto b ts = cond (is_ascii_digit b) (with_digit b ts) (cond (is_ascii_alphabetic b) (with_letter b ts) (mark b ∷ ts))
+onto b ts =
+    if is_ascii_digit b then with_digit b ts
+    else if is_ascii_alphabetic b then with_letter b ts
+    else mark b ∷ ts
 
 -- all that a text is made of, and the end
 abbrev pub pieces : List ℕ → List Token
@@ -74,15 +82,15 @@ abbrev pub letters : Token → List ℕ
 letters (Letters ls) = ls
 letters t = []
 
--- by rank, then numbers by their values and letters byte by byte, a front first
+-- by rank, then numbers by their values and letters byte by byte, a prefix first
 abbrev pub token_cmp : Token → Token → Ordering
 token_cmp t u = ordering_then (nat_cmp (rank t) (rank u)) (ordering_then (nat_cmp (value t) (value u)) (slice_cmp nat_cmp (letters t) (letters u)))
 
--- by the first place where the tokens differ; both lists end with an End, so neither runs out first
+-- by the first tokens that differ; both lists end with an End, so neither runs out first
 abbrev pub version_cmp : List ℕ → List ℕ → Ordering
 version_cmp a b = slice_cmp token_cmp (tokens a) (tokens b)
 
--- the same, and equal versions by their bytes
+-- the order of versions, and of equal ones that of their bytes
 abbrev pub order_of : List ℕ → List ℕ → Ordering
 order_of a b = ordering_then (version_cmp a b) (slice_cmp nat_cmp a b)
 
@@ -92,7 +100,7 @@ is_version_byte b = is_ascii_alphanumeric b || (b == 46) || (b == 95) || (b == 4
 
 -- 1 to 128 such bytes, one of them a letter or a digit
 pub record IsVersion (text : List ℕ) : Type 0 where
-  pub some : 0 < length text
-  pub short : length text ≤ 128
-  pub plain : AllPass is_version_byte text
-  pub named : list_any is_ascii_alphanumeric text ≡ true
+  pub non_empty : 0 < length text
+  pub at_most_128 : length text ≤ 128
+  pub allowed : AllPass is_version_byte text
+  pub letter_or_digit : list_any is_ascii_alphanumeric text ≡ true

@@ -1,7 +1,4 @@
-ghost use Rattle.std.specs.Prelude.{◌≡◌, ℕ, List};
-ghost use Rattle.std.specs.Cmp.{IsTotalOrder};
-ghost use Rattle.std.specs.declared.cmp.Ordering.{Ordering};
-ghost use Rattle.std.specs.declared.cmp.Ordering.TheVariants.{Equal};
+ghost use Rattle.std.specs.Prelude.{◌≡◌};
 ghost use Rattle.ext_vers.specs.Version.{order_of, version_cmp};
 
 use crate::token::{next_token, token_cmp};
@@ -16,7 +13,7 @@ use std::cmp::Ordering;
 /// | 2 | `-` |
 /// | 3 | `^` |
 /// | 4 | `.` |
-/// | 5 | a run of ASCII letters; two of them byte by byte, a front first |
+/// | 5 | a run of ASCII letters; two of them byte by byte, a prefix first |
 /// | 6 | a run of ASCII digits; two of them by value, leading zeros ignored, of any length |
 ///
 /// Every other byte only separates two runs. Texts may be equal that differ in their bytes, as `1` and `01`.
@@ -43,15 +40,3 @@ pub fn order(a: &[u8], b: &[u8]) -> Ordering
 {
     compare(a, b).then_with(|| a.cmp(b))
 }
-
-/// [`compare`] orders: reversed arguments give the reversed answer, what is below is below what is above, and equals
-/// compare alike with every third.
-pub fn compare_is_a_total_preorder()
-    ensures { IsTotalOrder version_cmp }
-{}
-
-/// [`order`] orders, and only a text itself equals it.
-pub fn order_is_a_total_order()
-    ensures total { IsTotalOrder order_of }
-    ensures exact { (a b : List ℕ) → order_of a b ≡ Ordering.Equal → a ≡ b }
-{}

@@ -1,14 +1,16 @@
 //! The order of versions: the dotted numbers, words and marks by which releases call themselves.
 //!
-//! Every text has its place in the order; [`is_version`] says which texts are versions. Nothing here takes memory.
+//! Every text is ordered; [`is_version`] says which texts are versions. Nothing here takes memory. The
+//! command that compares two texts, and whatever chooses the newest of several versions, stands on this.
 #![tactic(auto)]
 
 mod comparing;
+pub mod laws;
 mod number;
-mod rule;
 #[cfg(test)]
 mod tests;
 mod token;
+mod version;
 
-pub use comparing::{compare, compare_is_a_total_preorder, order, order_is_a_total_order};
-pub use rule::is_version;
+pub use comparing::{compare, order};
+pub use version::is_version;

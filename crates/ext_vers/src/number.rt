@@ -5,7 +5,7 @@ ghost use Rattle.std.specs.List.{AllPass};
 ghost use Rattle.std.specs.Cmp.Lexicographic.{slice_cmp};
 ghost use Rattle.std.specs.Ordering.{nat_cmp, ordering_then};
 ghost use Rattle.std.specs.Str.Parse.{digits_value};
-ghost use Rattle.ext_vers.specs.Scan.{after};
+ghost use Rattle.ext_vers.specs.Token.{after};
 
 use std::cmp::Ordering;
 

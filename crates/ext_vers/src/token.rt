@@ -1,14 +1,13 @@
 // The tokens of a text, read one after another.
 ghost use Rattle.std.specs.Prelude.{◌≡◌, ◌≤◌, length};
 ghost use Rattle.std.specs.Char.{is_ascii_digit, is_ascii_alphabetic};
-ghost use Rattle.ext_vers.specs.Scan.{HasDigits, IsNext, after, prefix, is_end, is_separator};
-ghost use Rattle.ext_vers.specs.Read.{token_of};
+ghost use Rattle.ext_vers.specs.Token.{HasDigits, IsNext, after, is_end, is_separator, longest_prefix, token_of};
 ghost use Rattle.ext_vers.specs.Version.{rank, token_cmp, tokens};
 
 use crate::number::number_cmp;
 use std::cmp::Ordering;
 
-// What a text is read as; a run is lent from the text.
+// What a text is read as; a run is borrowed from the text.
 #[derive(Clone, Copy)]
 pub(crate) enum Token<'a> {
     Tilde,
@@ -92,34 +91,34 @@ fn after_separators(text: &[u8]) -> &[u8]
 }
 
 // How many digits the text begins with.
-#[tactic(auto, using(crate::proofs::Runs::prefix_ends))]
+#[tactic(auto, using(crate::proofs::TokenLemmas::prefix_ends))]
 fn digits_len(text: &[u8]) -> usize
-    ensures prefix { result ≡ length (prefix is_ascii_digit text.now) }
+    ensures prefix { result ≡ length (longest_prefix is_ascii_digit text.now) }
     ensures within { result ≤ length text.now }
 {
-    for (place, byte) in text.iter().enumerate() {
+    for (index, byte) in text.iter().enumerate() {
         if !is_digit(*byte) {
-            return place;
+            return index;
         }
     }
     text.len()
 }
 
 // How many letters the text begins with.
-#[tactic(auto, using(crate::proofs::Runs::prefix_ends))]
+#[tactic(auto, using(crate::proofs::TokenLemmas::prefix_ends))]
 fn letters_len(text: &[u8]) -> usize
-    ensures prefix { result ≡ length (prefix is_ascii_alphabetic text.now) }
+    ensures prefix { result ≡ length (longest_prefix is_ascii_alphabetic text.now) }
     ensures within { result ≤ length text.now }
 {
-    for (place, byte) in text.iter().enumerate() {
+    for (index, byte) in text.iter().enumerate() {
         if !is_letter(*byte) {
-            return place;
+            return index;
         }
     }
     text.len()
 }
 
-// The first token of a text, and the text behind it.
+// The first token of a text, and the rest of the text.
 pub(crate) fn next_token(text: &[u8]) -> (Token<'_>, &[u8])
     ensures { IsNext text.now (token_of result.0) result.1.now }
 {

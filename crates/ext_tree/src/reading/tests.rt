@@ -6,7 +6,7 @@ fn faulty_at(line: u64) -> Result<usize, TreeTextErr> {
     Err(TreeTextErr::BadTree { line })
 }
 
-// How many trees a row has.
+// How many trees a sequence has.
 fn trees_of(alloc: Global, text: &str) -> Result<usize, TreeTextErr> {
     Ok(read_trees(alloc, text.as_bytes())?.len())
 }
@@ -19,7 +19,7 @@ fn entries_of(alloc: Global, text: &str) -> Result<usize, TreeTextErr> {
 #[test]
 fn a_row_is_read_or_refused_at_its_first_faulty_line(rt: HostRuntime) {
     for (text, wanted) in [
-        // A row has one text at least.
+        // A sequence has one text at least.
         ("", faulty_at(1)),
         ("\n", faulty_at(1)),
         ("hostext-tree 1", faulty_at(1)),
@@ -36,7 +36,7 @@ fn a_row_is_read_or_refused_at_its_first_faulty_line(rt: HostRuntime) {
         ("hostext-tree 1\nd 755 usr\n", faulty_at(3)),
         ("hostext-tree 1\nd 755 usr\nend", faulty_at(3)),
         ("hostext-tree 1\nend\nhostext", faulty_at(3)),
-        // The lines of a row are counted through.
+        // The lines of a sequence are counted through.
         (
             "hostext-tree 1\nend\nhostext-tree 1\nd 755 usr\nd 755 bin\nend\n",
             faulty_at(5),

@@ -1,5 +1,5 @@
 use Rattle.std.proofs.Common.{refl}
-use Rattle.ext_text.proofs.AsciiNames.{ascii_name}
+use Rattle.ext_text.proofs.NameLemmas.{ascii_name}
 use Rattle.ext_text.proofs.name.is_name_text.Goals as goal
 
 pub returns-then-is_ascii_name_text : goal.returns-then-is_ascii_name_text

@@ -1,5 +1,5 @@
 use Rattle.std.proofs.Common.{◌∙◌}
-use Rattle.ext_top.proofs.Usage.{unknown_keyword}
+use Rattle.ext_top.proofs.WordsLemmas.{unknown_keyword}
 use Rattle.ext_top.proofs.words.read_from.Goals as goal
 
 pub returns-in-None : goal.returns-in-None

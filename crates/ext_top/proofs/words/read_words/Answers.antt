@@ -1,5 +1,5 @@
 use Rattle.std.proofs.Common.{length, arith, ap}
-use Rattle.ext_top.proofs.Usage.{missing_keyword}
+use Rattle.ext_top.proofs.WordsLemmas.{missing_keyword}
 use Rattle.ext_top.proofs.words.read_words.Goals as goal
 
 pub returns-in-empty : goal.returns-in-empty

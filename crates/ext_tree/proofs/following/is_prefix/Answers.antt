@@ -1,5 +1,5 @@
 use Rattle.std.proofs.Common.{◌∙◌}
-use Rattle.ext_text.proofs.PathPrefixes.{is_prefix-starts_with}
+use Rattle.ext_text.proofs.ForCallers.{is_prefix-starts_with}
 use Rattle.ext_tree.proofs.following.is_prefix.Goals as goal
 
 pub returns : goal.returns

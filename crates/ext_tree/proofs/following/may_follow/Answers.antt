@@ -1,4 +1,4 @@
-use Rattle.ext_tree.proofs.LastEntry.{may_first, may_next}
+use Rattle.ext_tree.proofs.FollowingLemmas.{may_first, may_next}
 use Rattle.ext_tree.proofs.following.may_follow.Goals as goal
 use Rattle.std.proofs.Common.{arith}
 

@@ -1,4 +1,4 @@
-use Rattle.ext_tree.proofs.Prefixes.{entries_have_prefixes, directories_have_prefixes}
+use Rattle.ext_tree.proofs.PrefixLemmas.{entries_have_prefixes, directories_have_prefixes}
 use Rattle.ext_tree.proofs.laws.every_prefix_is_a_directory.Goals as goal
 
 pub returns-clause-entries : goal.returns-clause-entries

@@ -1,4 +1,4 @@
-use Rattle.ext_tree.proofs.LawsOfTexts.{text_law}
+use Rattle.ext_tree.proofs.LawsLemmas.{text_law}
 use Rattle.ext_tree.proofs.laws.one_text_of_tree.Goals as goal
 
 pub returns : goal.returns

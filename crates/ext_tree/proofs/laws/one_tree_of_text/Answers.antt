@@ -1,4 +1,4 @@
-use Rattle.ext_tree.proofs.LawsOfTexts.{tree_law}
+use Rattle.ext_tree.proofs.LawsLemmas.{tree_law}
 use Rattle.ext_tree.proofs.laws.one_tree_of_text.Goals as goal
 
 pub returns : goal.returns

@@ -1,5 +1,5 @@
 use Rattle.std.proofs.Common.{rules}
-use Rattle.ext_tree.proofs.TextPrefixes.{no_entry, not_added}
+use Rattle.ext_tree.proofs.TreeTextLemmas.{no_entry, not_added}
 use Rattle.ext_tree.proofs.reading.judge.Goals as goal
 
 pub returns-in-None : goal.returns-in-None

@@ -1,4 +1,4 @@
-use Rattle.ext_tree.proofs.TextPrefixes.{adds}
+use Rattle.ext_tree.proofs.TreeTextLemmas.{adds}
 use Rattle.ext_tree.proofs.reading.may_add.Goals as goal
 
 pub returns-then-entries-lt-MOST_ENTRIES : goal.returns-then-entries-lt-MOST_ENTRIES

@@ -1,6 +1,6 @@
 use Rattle.std.proofs.Common.{[], ◌∷◌, length, arith, length-append, ap}
 use Rattle.ext_tree.specs.Reading.{MayStand}
-use Rattle.ext_tree.proofs.BodyLines.{cut_short, entry_more, none_cut, judged_item, judged_fault}
+use Rattle.ext_tree.proofs.ReadingLemmas.{split_short, entry_more, none_split, judged_item, judged_fault}
 use Rattle.ext_tree.proofs.reading.read_body.Goals as goal
 
 pub returns-in-Fault : goal.returns-in-Fault
@@ -10,19 +10,19 @@ returns-in-Fault c = record {
   tree = c.lines.invariant.tree;
   text = c.lines.invariant.text;
   counted = c.lines.invariant.counted;
-  stop = none_cut (MayStand c.lines.entries.items) c.lines.rest.now c.in-Some.text.now c.in-Some.after.now c.in-Some.ensures
+  stop = none_split (MayStand c.lines.entries.items) c.lines.rest.now c.in-Some.text.now c.in-Some.after.now c.in-Some.ensures
       (judged_fault c.as_slice.result.now c.lines.entries.items c.in-Some.text.now c.in_ok-judge-in-Some.field-0 c.as_slice.ensures.value c.in_ok-judge-in-Some.ensures c.in-Fault.is);
 }
 
 pub lines-preserved : goal.lines-preserved
 lines-preserved c =
-    let grown = c.in_ok-push-in-Item.ensures.items in
-    let found = judged_item c.as_slice.result.now c.lines.entries.items c.push.new.self.items c.in-Some.text.now c.in_ok-judge-in-Some.field-0 c.in-Item.path c.in-Item.entry
+    let grown = c.in_ok-push-in-Item.ensures in
+    let found = judged_item c.as_slice.result.now c.lines.entries.items c.push.new.items.items c.in-Some.text.now c.in_ok-judge-in-Some.field-0 c.in-Item.path c.in-Item.entry
     c.as_slice.ensures.value c.in_ok-judge-in-Some.ensures c.in-Item.is grown in
     record {
       tree = found.0;
-      text = entry_more c.args.bytes.now c.lines.entries.items c.push.new.self.items (c.in-Item.path, c.in-Item.entry) c.lines.rest.now c.in-Some.text.now c.in-Some.after.now
+      text = entry_more c.args.bytes.now c.lines.entries.items c.push.new.items.items (c.in-Item.path, c.in-Item.entry) c.lines.rest.now c.in-Some.text.now c.in-Some.after.now
           c.lines.invariant.text c.in-Some.ensures found.1 grown;
       counted = omega (arith, ap length grown, length-append c.lines.entries.items ((c.in-Item.path, c.in-Item.entry) ∷ []));
-      room = omega (arith, cut_short c.lines.rest.now c.in-Some.text.now c.in-Some.after.now c.in-Some.ensures);
+      room = omega (arith, split_short c.lines.rest.now c.in-Some.text.now c.in-Some.after.now c.in-Some.ensures);
     }

@@ -1,5 +1,5 @@
 use Rattle.std.proofs.Common.{rules}
-use Rattle.ext_tree.proofs.BodyLines.{text_read, no_header, no_line}
+use Rattle.ext_tree.proofs.ReadingLemmas.{text_read, no_header, no_line}
 use Rattle.ext_tree.proofs.reading.read_text.Goals as goal
 
 pub returns-in-None : goal.returns-in-None

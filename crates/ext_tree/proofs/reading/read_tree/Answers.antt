@@ -1,5 +1,5 @@
 use Rattle.std.proofs.lemmas.Result.{err_from_is_err_and}
-use Rattle.ext_tree.proofs.FaultyRows.{tree_err, tree_more, not_empty}
+use Rattle.ext_tree.proofs.StopLemmas.{tree_err, tree_more, not_empty}
 use Rattle.ext_tree.proofs.reading.read_tree.Goals as goal
 
 pub returns-in_err-text : goal.returns-in_err-text

@@ -1,8 +1,8 @@
 use Rattle.std.proofs.Common.{◌∙◌, ◌≡◌, eqb, length, rules}
 use Rattle.std.specs.Cmp.Lexicographic.{slice_cmp}
 use Rattle.std.specs.Ordering.{nat_cmp, ordering_then}
-use Rattle.ext_vers.specs.Scan.{after}
-use Rattle.ext_vers.proofs.Digits.{numbers}
+use Rattle.ext_vers.specs.Token.{after}
+use Rattle.ext_vers.proofs.NumberLemmas.{numbers}
 use Rattle.ext_vers.proofs.number.number_cmp.Goals as goal
 
 pub returns : goal.returns

@@ -1,8 +1,8 @@
 use Rattle.std.proofs.Common.{◌≡◌, ◌==◌, length}
-use Rattle.ext_vers.specs.Scan.{after}
+use Rattle.ext_vers.specs.Token.{after}
 use Rattle.ext_vers.proofs.number.without_zeros.Given as goal
 
--- what is left has the same digits behind its zeros
+-- what is left has the same digits after its zeros
 abbrev pub invariant-loop-rest : goal.invariant-loop-rest
 invariant-loop-rest l = after (λ b. b == 48) l.rest ≡ after (λ b. b == 48) l.fn.digits
 

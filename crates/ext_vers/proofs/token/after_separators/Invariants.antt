@@ -1,8 +1,8 @@
 use Rattle.std.proofs.Common.{◌≡◌, length}
-use Rattle.ext_vers.specs.Scan.{after, is_separator}
+use Rattle.ext_vers.specs.Token.{after, is_separator}
 use Rattle.ext_vers.proofs.token.after_separators.Given as goal
 
--- what is left has the same bytes behind its separators
+-- what is left has the same bytes after its separators
 abbrev pub invariant-loop-rest : goal.invariant-loop-rest
 invariant-loop-rest l = after is_separator l.rest ≡ after is_separator l.text
 

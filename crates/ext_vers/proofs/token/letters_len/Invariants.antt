@@ -3,5 +3,5 @@ use Rattle.std.specs.Char.{is_ascii_alphabetic}
 use Rattle.ext_vers.proofs.token.letters_len.Given as goal
 
 -- each byte so far passes
-abbrev pub invariant-loop-place : goal.invariant-loop-place
-invariant-loop-place l = (k : ℕ) → k < l.place → is_ascii_alphabetic (get_or l.text k 0) ≡ true
+abbrev pub invariant-loop-index : goal.invariant-loop-index
+invariant-loop-index l = (k : ℕ) → k < l.index → is_ascii_alphabetic (get_or l.text k 0) ≡ true

@@ -1,6 +1,6 @@
 use Rattle.std.proofs.Common.{◌∙◌, sym, refl, arith}
 use Rattle.ext_vers.specs.Version.{Tilde, Dash, Caret, Dot}
-use Rattle.ext_vers.proofs.Runs.{end_next, mark_next, number_next, letters_next}
+use Rattle.ext_vers.proofs.TokenLemmas.{end_next, mark_next, number_next, letters_next}
 use Rattle.ext_vers.proofs.token.next_token.Goals as goal
 
 pub returns-in_default : goal.returns-in_default

@@ -2,13 +2,13 @@ use Rattle.std.proofs.Common.{sym, ap, ◌∙◌, subst}
 use Rattle.std.specs.FinMap.{put}
 use Rattle.ext_text.specs.Path.{path_cmp}
 use Rattle.ext_tree.specs.Tree.{IsTreeWithin}
-use Rattle.ext_tree.proofs.Kept.{put_at, tree_put_at}
+use Rattle.ext_tree.proofs.TreeLemmas.{put_at, tree_put_at}
 use Rattle.ext_tree.proofs.tree.Tree.insert.Goals as goal
 
 pub invariant_of-self-in-None : goal.invariant_of-self-in-None
 invariant_of-self-in-None g c =
-    subst IsTreeWithin (sym c.in_ok-insert-in-None.ensures.items) (tree_put_at c.args.entry c.self.invariant c.names.ensures.path c.as_slice-entries.ensures.value c.names.ensures.same c.place_of-place.ensures.place c.in-None.ensures)
+    subst IsTreeWithin (sym c.in_ok-insert_at-in-None.ensures.ok) (tree_put_at c.args.entry c.self.invariant c.names.ensures.path c.as_slice-entries.ensures.value c.names.ensures.same c.insertion_point_of-index.ensures.index c.in-None.ensures)
 
-pub returns-in_ok-insert-in-None-clause-ok : goal.returns-in_ok-insert-in-None-clause-ok
-returns-in_ok-insert-in-None-clause-ok g c =
-    c.in_ok-insert-in-None.ensures.items ∙ put_at c.args.entry c.as_slice-entries.ensures.value c.names.ensures.same c.place_of-place.ensures.place c.in-None.ensures ∙ ap (put path_cmp c.args.path c.args.entry) c.self.view_is
+pub returns-in_ok-insert_at-in-None-clause-ok : goal.returns-in_ok-insert_at-in-None-clause-ok
+returns-in_ok-insert_at-in-None-clause-ok g c =
+    c.in_ok-insert_at-in-None.ensures.ok ∙ put_at c.args.entry c.as_slice-entries.ensures.value c.names.ensures.same c.insertion_point_of-index.ensures.index c.in-None.ensures ∙ ap (put path_cmp c.args.path c.args.entry) c.self.view_is

@@ -1,0 +1,194 @@
+-- What a list of layers says at each path: what is visible there, and what the lists of two parts say in turn.
+use Rattle.std.proofs.Common.{◌≡◌, ℕ, ◌<◌, Bool, true, false, cond, not, ◌&&◌, List, [], ◌∷◌, ◌++◌, length, map, take, drop, Option, Some, None, is_some, refl, sym, ap, ◌∙◌, subst, arith}
+use mathlib.Core.Logic.{inl, inr}
+use Rattle.std.proofs.lemmas.Bool.{false≢true, and_parts, and_from, not-true, false_from_ne_true, not_from_false}
+use Rattle.std.proofs.lemmas.Float.{T_from_true}
+use Rattle.std.proofs.lemmas.List.{take-append-drop}
+use Rattle.std.specs.Option.{option_map}
+use Rattle.std.specs.List.{AllByRecursion}
+use Rattle.std.specs.Ordering.{is_lt, eq_by_cmp}
+use Rattle.std.specs.FinMap.{find, is_sorted}
+use Rattle.std.specs.FinMap.Entries.{below_all}
+use Rattle.ext_text.specs.Path.{path_cmp, is_prefix, is_proper_prefix}
+use Rattle.ext_text.proofs.ForCallers.{true_from_T}
+use Rattle.ext_text.proofs.ForCallers.{all_append}
+use Rattle.ext_text.proofs.ForCallers.{prefix_both}
+use Rattle.ext_tree.specs.Tree.{Entries, IsTree, IsTreeWithin, lookup, is_directory}
+use Rattle.ext_tree.specs.declared.entry.Entry.{Entry}
+use Rattle.ext_layer.specs.Layered.{CutsOff, IsVisible, cuts_below}
+use Rattle.ext_layer.specs.declared.item.Item.{Item}
+use Rattle.ext_layer.specs.Item.{all_seen}
+use Rattle.ext_layer.specs.Joining.{Joins, layers_overlay}
+use Rattle.ext_layer.specs.Overlay.{Marked, MarkedEntries, Overlay, visible, hidden, absent, first_of_two, some_prefix, cuts_at, overlay_of, overlay_at, marked, unmarked, with_mark, over}
+use Rattle.ext_layer.proofs.Prefixes.{some_prefix-none, some_prefix-at}
+use Rattle.ext_layer.proofs.OverlayLemmas.{first_assoc, none_overlay, over_overlay, sorted_over}
+
+-- other values at the same keys
+find-map : {X Y : Type 0} (g : X → Y) (q : List (List ℕ)) (es : List (List (List ℕ) × X)) → find path_cmp q (map (λ e. (e.0, g e.1)) es) ≡ option_map g (find path_cmp q es)
+find-map g q [] = refl
+find-map g q (e ∷ es) =
+    let rest = find-map g q es in
+    elim (eq_by_cmp path_cmp q e.0) as (λ b. cond b (Some (g e.1)) (find path_cmp q (map (λ x. (x.0, g x.1)) es)) ≡ option_map g (cond b (Some e.1) (find path_cmp q es))) [ true ↦ refl | false ↦ rest ]
+
+below_all-map : {X Y : Type 0} (g : X → Y) (k : List (List ℕ)) (es : List (List (List ℕ) × X)) → below_all path_cmp k (map (λ e. (e.0, g e.1)) es) ≡ below_all path_cmp k es
+below_all-map g k [] = refl
+below_all-map g k (e ∷ es) = ap (λ b. is_lt (path_cmp k e.0) && b) (below_all-map g k es)
+
+pub is_sorted-map : {X Y : Type 0} (g : X → Y) (es : List (List (List ℕ) × X)) → is_sorted path_cmp (map (λ e. (e.0, g e.1)) es) ≡ is_sorted path_cmp es
+is_sorted-map g [] = refl
+is_sorted-map g (e ∷ es) = λ i. below_all-map g e.0 es i && is_sorted-map g es i
+
+-- a prefix of a path is the path or a proper prefix
+prefix_cases : {P : Type 0} (q p : List (List ℕ)) → is_prefix q p ≡ true → (q ≡ p → P) → (is_proper_prefix q p ≡ true → P) → P
+prefix_cases {P = P} q p f same proper =
+    elim (is_prefix p q) as (λ b. is_prefix p q ≡ b → P) [
+      | true ↦ λ back. same (prefix_both q p f back)
+      | false ↦ λ apart. proper (and_from _ _ f (not_from_false _ apart))
+    ] refl
+
+abbrev pub without_mark : {C : Type 0} → Marked C → Entry C
+without_mark m = m.entry
+
+nothing_there : {X : Type 0} (o : Option X) → ¬ (is_some o ≡ true) → o ≡ None
+nothing_there None not = refl
+nothing_there (Some x) not = absurd (not refl)
+
+module _ {C : Type 0} where
+  -- a layer that does not cut off a path has nothing there, and nothing that cuts at a proper prefix
+  pub open_path : (es : Entries C) (p : List (List ℕ)) → ¬ CutsOff es p → lookup es p ≡ None
+  open_path es p open_ = nothing_there (lookup es p) (λ some. open_ (inl some))
+
+  pub open_above : (es : Entries C) (p q : List (List ℕ)) → ¬ CutsOff es p → is_proper_prefix q p ≡ true → cuts_below (lookup es q) ≡ false
+  open_above es p q open_ proper = false_from_ne_true (cuts_below (lookup es q)) (λ cuts. open_ (inr (q, proper, cuts)))
+
+  pub find_marked : (es : Entries C) (q : List (List ℕ)) → find path_cmp q (marked es) ≡ option_map with_mark (lookup es q)
+  find_marked es q = find-map with_mark q es
+
+  cuts_with_mark : (o : Option (Entry C)) → cuts_at (option_map with_mark o) ≡ cuts_below o
+  cuts_with_mark None = refl
+  cuts_with_mark (Some e) = refl
+
+  cuts_marked : (es : Entries C) (q : List (List ℕ)) → cuts_at (find path_cmp q (marked es)) ≡ cuts_below (lookup es q)
+  cuts_marked es q = ap cuts_at (find_marked es q) ∙ cuts_with_mark (lookup es q)
+
+  absent_of : (o : Option (Marked C)) (b : Bool) → overlay_of o b ≡ absent → (o ≡ None) × (b ≡ false)
+  absent_of None false h = (refl, refl)
+  absent_of None true h = absurd (cc)
+  absent_of (Some m) b h = absurd (cc)
+
+  visible_of : (o : Option (Marked C)) (b : Bool) (e : Entry C) → overlay_of o b ≡ visible e → option_map without_mark o ≡ Some e
+  visible_of None false e h = absurd (cc)
+  visible_of None true e h = absurd (cc)
+  visible_of (Some m) b e h = cc
+
+  of_visible : (o : Option (Marked C)) (b : Bool) (e : Entry C) → option_map without_mark o ≡ Some e → overlay_of o b ≡ visible e
+  of_visible None b e h = absurd (cc)
+  of_visible (Some m) b e h = cc
+
+  -- what is visible in a list, with and without marks
+  pub lookup_unmarked : (ms : MarkedEntries C) (p : List (List ℕ)) → lookup (unmarked ms) p ≡ option_map without_mark (find path_cmp p ms)
+  lookup_unmarked ms p = find-map without_mark p ms
+
+  pub visible_unmarked : (ms : MarkedEntries C) (p : List (List ℕ)) (e : Entry C) → overlay_at ms p ≡ visible e → lookup (unmarked ms) p ≡ Some e
+  visible_unmarked ms p e h = lookup_unmarked ms p ∙ visible_of (find path_cmp p ms) _ e h
+
+  pub unmarked_visible : (ms : MarkedEntries C) (p : List (List ℕ)) (e : Entry C) → lookup (unmarked ms) p ≡ Some e → overlay_at ms p ≡ visible e
+  unmarked_visible ms p e h = of_visible (find path_cmp p ms) _ e (sym (lookup_unmarked ms p) ∙ h)
+
+  twice : (o : Option (Entry C)) → option_map without_mark (option_map with_mark o) ≡ o
+  twice None = refl
+  twice (Some e) = refl
+
+  -- in a single layer what it has is visible
+  layer_visible : (es : Entries C) (p : List (List ℕ)) (e : Entry C) → lookup es p ≡ Some e → overlay_at (marked es) p ≡ visible e
+  layer_visible es p e h = of_visible (find path_cmp p (marked es)) _ e (ap (option_map without_mark) (find_marked es p) ∙ twice (lookup es p) ∙ h)
+
+  visible_layer : (es : Entries C) (p : List (List ℕ)) (e : Entry C) → overlay_at (marked es) p ≡ visible e → lookup es p ≡ Some e
+  visible_layer es p e h = sym (ap (option_map without_mark) (find_marked es p) ∙ twice (lookup es p)) ∙ visible_of (find path_cmp p (marked es)) _ e h
+
+  not_marked : (o : Option (Entry C)) → option_map with_mark o ≡ None → o ≡ None
+  not_marked None h = refl
+  not_marked (Some e) h = absurd (cc)
+
+  -- a path is absent in a single layer exactly where the layer does not cut it off
+  pub open_absent : (es : Entries C) (p : List (List ℕ)) → ¬ CutsOff es p → overlay_at (marked es) p ≡ absent
+  open_absent es p open_ =
+      let none : find path_cmp p (marked es) ≡ None = find_marked es p ∙ ap (option_map with_mark) (open_path es p open_) in
+      let bare : some_prefix (λ q. cuts_at (find path_cmp q (marked es))) p ≡ false = some_prefix-none (λ q. cuts_at (find path_cmp q (marked es))) p (λ q f. prefix_cases q p f
+      (λ same. ap (λ z. cuts_at (find path_cmp z (marked es))) same ∙ ap cuts_at none)
+      (λ proper. cuts_marked es q ∙ open_above es p q open_ proper)) in
+      λ i. overlay_of (none i) (bare i)
+
+  absent_open : (es : Entries C) (p : List (List ℕ)) → overlay_at (marked es) p ≡ absent → ¬ CutsOff es p
+  absent_open es p h cuts =
+      let x = absent_of (find path_cmp p (marked es)) _ h in
+      let none : lookup es p ≡ None = not_marked (lookup es p) (sym (find_marked es p) ∙ x.0) in
+      elim cuts [
+        | inl some ↦ false≢true (sym (ap is_some none) ∙ some)
+        | inr above ↦ false≢true (sym x.1 ∙ some_prefix-at (λ r. cuts_at (find path_cmp r (marked es))) above.0 p (and_parts (is_prefix above.0 p) (not (is_prefix p above.0)) above.1).0 (cuts_marked es above.0 ∙ above.2))
+      ]
+
+  -- what layers say is what is visible
+  open_layers : (above : List (Entries C)) (layer : Entries C) (below : List (Entries C)) (p : List (List ℕ)) (e : Entry C) → lookup layer p ≡ Some e → AllByRecursion (λ es. ¬ CutsOff es p) above → layers_overlay (above ++ layer ∷ below) p ≡ visible e
+  open_layers [] layer below p e stands open_ = ap (λ v. first_of_two v (layers_overlay below p)) (layer_visible layer p e stands)
+  open_layers (a ∷ above) layer below p e stands open_ = ap (λ v. first_of_two v (layers_overlay (above ++ layer ∷ below) p)) (open_absent a p open_.0) ∙ open_layers above layer below p e stands open_.1
+
+  pub overlay_from_visible : (layers : List (Entries C)) (p : List (List ℕ)) (e : Entry C) → IsVisible layers p e → layers_overlay layers p ≡ visible e
+  overlay_from_visible layers p e v = ap (λ l. layers_overlay l p) v.split ∙ open_layers v.above v.layer v.below p e v.stands v.open_
+
+  one_higher : (a : Entries C) (layers : List (Entries C)) (p : List (List ℕ)) (e : Entry C) → ¬ CutsOff a p → IsVisible layers p e → IsVisible (a ∷ layers) p e
+  one_higher a layers p e open_ v = record { above = a ∷ v.above; layer = v.layer; below = v.below; split = ap (λ l. a ∷ l) v.split; stands = v.stands; open_ = (open_, v.open_) }
+
+  pub visible_from_overlay : (layers : List (Entries C)) (p : List (List ℕ)) (e : Entry C) → layers_overlay layers p ≡ visible e → IsVisible layers p e
+  visible_from_overlay [] p e h = absurd (cc)
+  visible_from_overlay (a ∷ layers) p e h =
+      let rest = visible_from_overlay layers p e in
+      elim (overlay_at (marked a) p) as (λ v. overlay_at (marked a) p ≡ v → first_of_two v (layers_overlay layers p) ≡ visible e → IsVisible (a ∷ layers) p e) [
+        | visible d ↦ λ is says. record { above = []; layer = a; below = layers; split = refl; stands = visible_layer a p e (is ∙ says); open_ = tt }
+        | hidden ↦ λ is says. absurd (cc)
+        | absent ↦ λ is says. one_higher a layers p e (absent_open a p is) (rest says)
+      ] refl h
+
+  -- a list of layers in two parts
+  layers_overlay-append : (xs ys : List (Entries C)) (p : List (List ℕ)) → layers_overlay (xs ++ ys) p ≡ first_of_two (layers_overlay xs p) (layers_overlay ys p)
+  layers_overlay-append [] ys p = refl
+  layers_overlay-append (x ∷ xs) ys p =
+      ap (first_of_two (overlay_at (marked x) p)) (layers_overlay-append xs ys p) ∙ sym (first_assoc (overlay_at (marked x) p) (layers_overlay xs p) (layers_overlay ys p))
+
+  -- the marked list of no layer, of one, and of two lists of layers
+  joins_none : Joins {C = C} [] []
+  joins_none = record { trees = tt; sorted = refl; says = none_overlay }
+
+  last_of_two : (v : Overlay C) → v ≡ first_of_two v absent
+  last_of_two (visible e) = refl
+  last_of_two hidden = refl
+  last_of_two absent = refl
+
+  joins_one : (es : Entries C) → IsTree es → Joins (es ∷ []) (marked es)
+  joins_one es tree = record {
+    trees = (tree, tt);
+    sorted = is_sorted-map with_mark es ∙ tree.sorted;
+    says = λ p. last_of_two (overlay_at (marked es) p);
+  }
+
+  joins_both : (xs ys : List (Entries C)) (us ls : MarkedEntries C) → Joins xs us → Joins ys ls → Joins (xs ++ ys) (over us ls)
+  joins_both xs ys us ls upper lower = record {
+    trees = all_append IsTree xs ys upper.trees lower.trees;
+    sorted = true_from_T _ (sorted_over us ls (T_from_true _ lower.sorted));
+    says = λ p. over_overlay us ls p (T_from_true _ upper.sorted) ∙ (λ i. first_of_two (upper.says p i) (lower.says p i)) ∙ sym (layers_overlay-append xs ys p);
+  }
+
+  -- these, over what the calls of the code give
+  pub joins_one_at : {es pairs : Entries C} {ms : MarkedEntries C} → IsTreeWithin es → pairs ≡ es → ms ≡ marked pairs → Joins (es ∷ []) ms
+  joins_one_at {es = es} within same is = subst (Joins (es ∷ [])) (sym (is ∙ ap marked same)) (joins_one es within.tree)
+
+  pub joins_none_at : {layers : List (Entries C)} {items : List (Item C)} → length layers < 1 → items ≡ [] → Joins layers (all_seen items)
+  joins_none_at {layers = []} lt is = subst (λ l. Joins [] (all_seen l)) (sym is) joins_none
+  joins_none_at {layers = a ∷ layers} lt is = absurd (omega arith)
+
+  pub joins_both_at : {xs ys : List (Entries C)} {us ls us-slice ls-slice : List (Item C)} {ms : MarkedEntries C} → Joins xs (all_seen us) → Joins ys (all_seen ls) → us-slice ≡ us → ls-slice ≡ ls → ms ≡ over (all_seen us-slice) (all_seen ls-slice) → Joins (xs ++ ys) ms
+  joins_both_at {xs = xs} {ys = ys} {us = us} {ls = ls} upper lower us-is ls-is is =
+      subst (Joins (xs ++ ys)) (sym (is ∙ (λ i. over (all_seen (us-is i)) (all_seen (ls-is i))))) (joins_both xs ys (all_seen us) (all_seen ls) upper lower)
+
+  pub joins_parts : (n : ℕ) (layers : List (Entries C)) {xs ys : List (Entries C)} {ms : MarkedEntries C} → xs ≡ take n layers → ys ≡ drop n layers → Joins (xs ++ ys) ms → Joins layers ms
+  joins_parts n layers {ms = ms} prefix back joins = subst (λ l. Joins l ms) ((λ i. prefix i ++ back i) ∙ take-append-drop n layers) joins

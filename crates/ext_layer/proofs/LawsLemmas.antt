@@ -1,0 +1,78 @@
+-- The laws of layered trees.
+use Rattle.std.proofs.Common.{◌≡◌, ℕ, zero, ◌<◌, ◌≤◌, Bool, true, false, cond, ◌&&◌, List, [], ◌∷◌, ◌++◌, length, Option, Some, None, is_some, refl, sym, ap, ◌∙◌, subst, arith}
+use Rattle.std.proofs.lemmas.Bool.{false≢true, and_parts}
+use Rattle.std.proofs.lemmas.Float.{T_from_true}
+use Rattle.std.proofs.lemmas.List.Elements.{Contains-append_right}
+use Rattle.std.specs.List.{AllByRecursion, Contains}
+use Rattle.std.specs.Ordering.{eq_by_cmp}
+use Rattle.std.specs.FinMap.{find, is_sorted}
+use Rattle.std.specs.FinMap.Entries.{below_all, same_entries}
+use Rattle.ext_text.specs.Path.{path_cmp}
+use Rattle.ext_text.specs.Order.{paths_exact, paths_total}
+use Rattle.ext_text.proofs.ForCallers.{all_back}
+use Rattle.ext_text.proofs.ForCallers.{same_path, tied_path, prefix_self}
+use Rattle.ext_tree.specs.Tree.{Entries, lookup, most_entries}
+use Rattle.ext_tree.specs.EntryLine.{IsWritable}
+use Rattle.ext_tree.specs.TreeText.{HasText, stamp_form}
+use Rattle.ext_tree.specs.declared.entry.Entry.{Entry}
+use Rattle.ext_tree.specs.declared.stamp.Stamp.{Stamp}
+use Rattle.ext_layer.specs.Layered.{IsLayered, IsVisible}
+use Rattle.ext_layer.specs.Laws.{EntriesAreOfLayers, IsOfLayer, LayeredHasText, OneLayeredTree}
+use Rattle.ext_layer.proofs.Prefixes.{not_found}
+
+same_options : {X : Type 0} (o w : Option X) → ((x : X) → o ≡ Some x → w ≡ Some x) → ((x : X) → w ≡ Some x → o ≡ Some x) → o ≡ w
+same_options (Some x) w there back = sym (there x refl)
+same_options None None there back = refl
+same_options None (Some x) there back = back x refl
+
+same_some : {X : Type 0} (x y : X) → Some x ≡ Some y → x ≡ y
+same_some x y h = cc
+
+pub one_layered_tree : {C : Type 0} → OneLayeredTree C
+one_layered_tree layers a b x y =
+    same_entries path_cmp paths_total paths_exact a b (T_from_true _ x.tree.sorted) (T_from_true _ y.tree.sorted) (λ q.
+    same_options (lookup a q) (lookup b q) (λ e h. y.whole q e (x.visible q e h)) (λ e h. x.whole q e (y.visible q e h)))
+
+-- the layer that a list is split at is among its layers
+among : {X : Type 0} (above below : List X) (x : X) → Contains (above ++ x ∷ below) x
+among above below x = Contains-append_right above (x ∷ below) x (zero, omega arith, refl)
+
+pub entries_are_of_layers : {C : Type 0} → EntriesAreOfLayers C
+entries_are_of_layers layers es p e layered stands =
+    let v = layered.visible p e stands in
+    record { layer = v.layer; among = subst (λ l. Contains l v.layer) (sym v.split) (among v.above v.below v.layer); stands = v.stands }
+
+module _ {C : Type 0} (P : Entry C → Type 0) where
+  -- what holds of each entry holds of what stands at a path
+  all_at : (es : Entries C) (p : List (List ℕ)) (e : Entry C) → AllByRecursion (λ x. P x.1) es → lookup es p ≡ Some e → P e
+  all_at [] p e all h = absurd (false≢true (ap is_some h))
+  all_at (x ∷ es) p e all h =
+      let rest = all_at es p e all.1 in
+      elim (eq_by_cmp path_cmp p x.0) as (λ b. cond b (Some x.1) (find path_cmp p es) ≡ Some e → P e) [
+        | true ↦ λ is. subst P (same_some x.1 e is) all.0
+        | false ↦ λ is. rest is
+      ] h
+
+  -- what holds of what stands at each path holds of each entry of a list in order
+  all_from_lookup : (es : Entries C) → is_sorted path_cmp es ≡ true → ((p : List (List ℕ)) (e : Entry C) → lookup es p ≡ Some e → P e) → AllByRecursion (λ x. P x.1) es
+  all_from_lookup [] sorted at = tt
+  all_from_lookup (x ∷ es) sorted at =
+      let parts = and_parts (below_all path_cmp x.0 es) (is_sorted path_cmp es) sorted in
+      let apart : (p : List (List ℕ)) (e : Entry C) → lookup es p ≡ Some e → eq_by_cmp path_cmp p x.0 ≡ false = λ p e h. elim (eq_by_cmp path_cmp p x.0) as (λ b. eq_by_cmp path_cmp p x.0 ≡ b → b ≡ false) [
+        | true ↦ λ t.
+            let none : lookup es p ≡ None = ap (lookup es) (same_path p x.0 t) ∙ not_found x.0 x.0 (prefix_self x.0) es (T_from_true _ parts.0) in
+            absurd (false≢true (sym (ap is_some none) ∙ ap is_some h))
+        | false ↦ λ t. refl
+      ] refl in (
+        at x.0 x.1 (ap (λ b. cond b (Some x.1) (find path_cmp x.0 es)) (tied_path x.0 x.0 refl)),
+        all_from_lookup es parts.1 (λ p e h. at p e (ap (λ b. cond b (Some x.1) (find path_cmp p es)) (apart p e h) ∙ h)),
+      )
+
+pub layered_has_text : LayeredHasText
+layered_has_text layers es all layered count = record {
+  within = record { tree = layered.tree; count = count };
+  each = all_from_lookup (IsWritable stamp_form) es layered.tree.sorted (λ p e h.
+      let v = layered.visible p e h in
+      let text : HasText v.layer = (all_back HasText v.above (v.layer ∷ v.below) (subst (AllByRecursion HasText) v.split all)).0 in
+      all_at (IsWritable stamp_form) v.layer p e text.each v.stands);
+}

@@ -1,0 +1,19 @@
+//! Laws of layered trees, each the contract of a function that does nothing: what holds of every layered tree, whoever
+//! made it.
+ghost use Rattle.ext_layer.specs.Laws.{EntriesAreOfLayers, LayeredHasText, OneLayeredTree};
+
+/// Layers have one layered tree.
+pub fn one_layered_tree<C>()
+    ensures { OneLayeredTree C }
+{}
+
+/// Each entry of a layered tree is an entry of one of the layers, at the same path: nothing is made up.
+pub fn entries_are_of_layers<C>()
+    ensures { EntriesAreOfLayers C }
+{}
+
+/// The layered tree of trees that have texts has a text too, where it has at most 262,144 entries: so it is read back
+/// from what it is written as.
+pub fn layered_has_text()
+    ensures { LayeredHasText }
+{}

@@ -1,0 +1,10 @@
+pub mod MemoryLemmas
+pub mod SplitLemmas
+pub mod PrefixLemmas
+pub mod LinesLemmas
+pub mod PlainLemmas
+pub mod WordsLemmas
+pub mod OctalSteps
+pub mod NumbersLemmas
+pub mod HexadecimalLemmas
+pub mod ForCallers

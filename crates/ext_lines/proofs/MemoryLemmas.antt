@@ -1,0 +1,7 @@
+-- What holds where memory ran out.
+use Rattle.std.specs.Prelude.{Result, Ok, Err, OnErr}
+
+-- what holds at all holds at each error
+pub on_err : {T E P : Type 0} (r : Result T E) → P → OnErr r P
+on_err (Ok x) holds = tt
+on_err (Err e) holds = holds

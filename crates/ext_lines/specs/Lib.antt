@@ -1,0 +1,9 @@
+pub mod Split
+pub mod Prefix
+pub mod ByteOrder
+pub mod Lines
+pub mod Plain
+pub mod Blanks
+pub mod Words
+pub mod Numbers
+pub mod Hexadecimal

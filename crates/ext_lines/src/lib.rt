@@ -1,0 +1,25 @@
+//! What every text format shares, and no notion of ours: splitting a text at a byte, lines, blanks and words, text
+//! without control bytes, numbers and hexadecimal digits as text; and [`OutOfMemory`], which comes out of every call that
+//! takes memory.
+//!
+//! Each reader is exact: it gives the value, or that no value is printed so. The crates above read and print their
+//! formats by these calls.
+#![tactic(auto)]
+
+mod blanks;
+mod hexadecimal;
+mod lines;
+mod memory;
+mod numbers;
+mod plain;
+mod split;
+mod words;
+
+pub use blanks::{is_blank, trimmed};
+pub use hexadecimal::{five_digits, hex_digits, read_five_digits, read_hex_digits};
+pub use lines::{next_line, strip_carriage_return};
+pub use memory::{OutOfMemory, grown};
+pub use numbers::{append_decimal, append_octal, read_decimal, read_octal};
+pub use plain::{is_plain, is_plain_byte, is_plain_or_tab, plain_text, plain_text_with_tabs};
+pub use split::{split_around, split_at_byte, split_str_at_byte};
+pub use words::{has_word, next_word};

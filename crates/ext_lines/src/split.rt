@@ -1,0 +1,73 @@
+// Texts are split at the first of some byte.
+ghost use Rattle.std.specs.Prelude.{◌≡◌, ◌+◌, ◌<◌, length, take, drop, slice_index, MatchOption};
+ghost use Rattle.std.specs.Option.{option_map};
+ghost use Rattle.memchr.specs.Find.{IsFirstByte, is_byte};
+ghost use Rattle.ext_lines.specs.Split.{IsSplit, Lacks, split_of};
+
+use memchr::memchr;
+
+/// How many bytes are looked at in turn before a search of many at once begins. Most names and numbers are shorter.
+const NEAR: usize = 16;
+
+/// The text before the first of a byte, and the text after it; `None` exactly where the byte is nowhere.
+pub fn split_at_byte(bytes: &[u8], byte: u8) -> Option<(&[u8], &[u8])>
+    ensures { MatchOption result (Lacks byte bytes.now) (λ parts. IsSplit byte bytes.now parts.0.now parts.1.now) }
+{
+    match index_of(bytes, byte) {
+        None => None,
+        Some(index) => {
+            let (prefix, rest) = bytes.split_at(index);
+            match rest {
+                [] => None,
+                [_byte, after @ ..] => Some((prefix, after)),
+            }
+        }
+    }
+}
+
+/// The text before the first of a byte of ASCII, and the text after it, each as text; `None` exactly where the byte is
+/// nowhere.
+pub fn split_str_at_byte(text: &str, byte: u8) -> Option<(&str, &str)>
+    requires { byte < 128 }
+    ensures value { option_map (λ parts. (parts.0.now, parts.1.now)) result ≡ split_of byte text.now }
+    ensures parts { MatchOption result (Lacks byte text.now) (λ parts. IsSplit byte text.now parts.0.now parts.1.now) }
+{
+    match index_of(text.as_bytes(), byte) {
+        None => None,
+        Some(index) => Some(split_around(text, index)),
+    }
+}
+
+/// The text before a byte of ASCII, and the text after it.
+pub fn split_around(text: &str, index: usize) -> (&str, &str)
+    requires within { index < length text.now }
+    requires ascii { slice_index text.now index < 128 }
+    ensures prefix { result.0.now ≡ take index text.now }
+    ensures after { result.1.now ≡ drop (index + 1) text.now }
+{
+    (&text[..index], &text[index + 1..])
+}
+
+// The index of the first of a byte. Each of the first bytes is looked at in turn, and the others many at once.
+fn index_of(bytes: &[u8], byte: u8) -> Option<usize>
+    ensures { IsFirstByte (is_byte byte) bytes.now result }
+{
+    if bytes.len() <= NEAR {
+        return index_near(bytes, byte);
+    }
+    let (near, far) = bytes.split_at(NEAR);
+    match index_near(near, byte) {
+        Some(index) => Some(index),
+        None => match memchr(byte, far) {
+            None => None,
+            Some(index) => Some(NEAR + index),
+        },
+    }
+}
+
+// The index of the first of a byte, by a look at each byte in turn.
+fn index_near(bytes: &[u8], byte: u8) -> Option<usize>
+    ensures { IsFirstByte (is_byte byte) bytes.now result }
+{
+    bytes.iter().position(|other| *other == byte)
+}

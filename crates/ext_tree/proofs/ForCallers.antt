@@ -1,0 +1,51 @@
+-- The lemmas on this crate's definitions that other crates cite.
+
+-- ---- entries in the order of their keys, for any keys and values
+
+-- the insertion point: what a search by halves finds, and past the last entry
+pub use Rattle.ext_tree.proofs.InsertionPointLemmas.{is_insertion_point, partitioned, past_last}
+-- a look-up reads there, a new entry goes in there, and each entry is found by its key
+pub use Rattle.ext_tree.proofs.InsertionPointLemmas.{find_here, insert_here, find_there}
+-- an entry of a list stands above what is below all of the list
+pub use Rattle.ext_tree.proofs.InsertionPointLemmas.{below_at}
+-- what is found in two lists one after another, and that a prefix of a list in order is in order
+pub use Rattle.ext_tree.proofs.OrderLemmas.{find-join, sorted_prefix, prefix_below}
+-- a key above all others: it keeps the order at the end, and is not found; what is found is below it
+pub use Rattle.ext_tree.proofs.OrderLemmas.{sorted_push, all_below, find_above, found_below}
+-- what holds of each key that is found holds of each entry's key
+pub use Rattle.ext_tree.proofs.OrderLemmas.{each_found}
+
+-- ---- trees
+
+-- the root is no entry's path; each shorter prefix of an entry's path is a directory or the root
+pub use Rattle.ext_tree.proofs.PrefixLemmas.{root_none, prefixes}
+-- what is a directory or the root: a directory, where it is not the root, and so an entry
+pub use Rattle.ext_tree.proofs.PrefixLemmas.{some_dir, directory_dir, dir_directory, directory_some}
+-- the empty tree, a tree with one entry more at its end, and without its last one
+pub use Rattle.ext_tree.proofs.FollowingLemmas.{empty_tree, push_tree, pop_tree}
+-- a tree with one entry more at its insertion point
+pub use Rattle.ext_tree.proofs.TreeLemmas.{put_at, tree_put_at}
+
+-- ---- lines of entries, for any content
+
+-- a field, its space and what follows are read in one way
+pub use Rattle.ext_tree.proofs.FieldsLemmas.{mode_once, number_once, digest_once, target_once}
+-- fields and what follows them: joined, printed one after the other, and which bytes they lack
+pub use Rattle.ext_tree.proofs.FieldsLemmas.{spaced-append, line_printed, spaced_lacks}
+-- fields tell their entry and where they end, and an entry has its line alone
+pub use Rattle.ext_tree.proofs.EntryLineLemmas.{fields_once, line_injective}
+-- no entry's line is `end`, none holds a newline, and no fields do
+pub use Rattle.ext_tree.proofs.EntryLineLemmas.{line_not_end, line_lacks, fields_lack}
+-- where what follows the fields is no path's text, no entry has the line
+pub use Rattle.ext_tree.proofs.EntryLineLemmas.{no_path_after}
+
+-- ---- tree texts
+
+-- the empty tree has a text, and so has a tree without its last entries
+pub use Rattle.ext_tree.proofs.TreeTextLemmas.{empty_text, prefix_text}
+-- each entry of a tree that has a text has a line
+pub use Rattle.ext_tree.proofs.TreeTextLemmas.{lines_of}
+-- a text is a sequence of one
+pub use Rattle.ext_tree.proofs.OneFaultLemmas.{one_text}
+-- the lines of trees are read in one way
+pub use Rattle.ext_tree.proofs.SequenceLemmas.{one_tree, sequence_peeled}

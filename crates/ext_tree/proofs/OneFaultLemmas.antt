@@ -1,0 +1,72 @@
+-- Bytes have one first faulty line at most, and bytes that are texts have none.
+use Rattle.std.proofs.Common.{◌≡◌, ℕ, ◌-◌, ◌<◌, ◌≤◌, List, [], ◌∷◌, ◌++◌, length, take, drop, take-append-drop, sym, ap, ◌∙◌, subst, arith, append_assoc}
+use Rattle.std.specs.Prelude.{◌⊎◌}
+use mathlib.Core.Logic.{inl, inr}
+use Rattle.std.proofs.lemmas.Bool.{cases_lt}
+use Rattle.std.proofs.lemmas.List.{append-nil, take_all, take-take}
+use Rattle.std.specs.List.{flat_map}
+use Rattle.ext_tree.specs.declared.stamp.Stamp.{Stamp}
+use Rattle.ext_tree.specs.Tree.{Entries}
+use Rattle.ext_tree.specs.TreeText.{IsSequence, IsTreeText, tree_lines, tree_text}
+use Rattle.ext_tree.specs.FirstFault.{Begins, IsFaultyLine, IsEarlyEnd}
+use Rattle.ext_lines.specs.Lines.{whole_lines}
+use Rattle.ext_tree.specs.Laws.{NoFaultInText, NoFaultInSequence, PrefixesBegin, OneFirstFault}
+use Rattle.ext_tree.proofs.FirstFaultLemmas.{sequence_lines}
+
+-- one text is a sequence
+pub one_text : (bytes : List ℕ) (tree : Entries Stamp) → IsTreeText bytes tree → IsSequence bytes (tree ∷ [])
+one_text bytes tree is = record { non_empty = omega arith; each = (is.tree, tt); text = is.text ∙ sym (append-nil (tree_text tree)) }
+
+pub no_fault_in_text : NoFaultInText
+no_fault_in_text bytes tree line is fault = fault.none (tree ∷ []) (omega arith) (one_text bytes tree is)
+
+pub no_fault_in_sequence : NoFaultInSequence
+no_fault_in_sequence bytes trees line is fault = fault.none trees is.non_empty is
+
+pub prefixes_begin : PrefixesBegin
+prefixes_begin bytes trees line sequence =
+    let lines : whole_lines bytes ≡ flat_map tree_lines trees = sequence_lines bytes trees sequence.each sequence.text in
+    record {
+      trees = trees;
+      more = drop line (whole_lines bytes);
+      as_many = sequence.non_empty;
+      each = sequence.each;
+      text = take-append-drop line (whole_lines bytes) ∙ lines;
+    }
+
+-- ---- at most one
+
+-- what begins with lines begins with fewer of them
+fewer_begin : (wanted : List (Entries Stamp) → Type 0) (lines : List (List ℕ)) (n k : ℕ) → n ≤ k → Begins wanted (take k lines) → Begins wanted (take n lines)
+fewer_begin wanted lines n k fewer begins = record {
+  trees = begins.trees;
+  more = drop n (take k lines) ++ begins.more;
+  as_many = begins.as_many;
+  each = begins.each;
+  text = sym (append_assoc (take n lines) (drop n (take k lines)) begins.more)
+      ∙ ap (λ xs. (xs ++ drop n (take k lines)) ++ begins.more) (sym (take-take n k lines fewer))
+      ∙ ap (λ xs. xs ++ begins.more) (take-append-drop n (take k lines))
+      ∙ begins.text;
+}
+
+faulty_apart : (wanted : List (Entries Stamp) → Type 0) (lines : List (List ℕ)) (k l : ℕ) → IsFaultyLine wanted lines k → IsFaultyLine wanted lines l → k < l → ⊥
+faulty_apart wanted lines k l first second less = first.faulty (fewer_begin wanted lines k (l - 1) (omega arith) second.before)
+
+not_early : (wanted : List (Entries Stamp) → Type 0) (lines : List (List ℕ)) (k l : ℕ) → IsFaultyLine wanted lines k → IsEarlyEnd wanted lines l → ⊥
+not_early wanted lines k l faulty early =
+    faulty.faulty (fewer_begin wanted lines k (length lines) faulty.there (subst (Begins wanted) (sym (take_all (length lines) lines (omega arith))) early.before))
+
+one_stop : (wanted : List (Entries Stamp) → Type 0) (lines : List (List ℕ)) (k l : ℕ) → IsFaultyLine wanted lines k ⊎ IsEarlyEnd wanted lines k → IsFaultyLine wanted lines l ⊎ IsEarlyEnd wanted lines l → k ≡ l
+one_stop wanted lines k l (inl first) (inl second) = elim (cases_lt k l) [
+  | inl less ↦ absurd (faulty_apart wanted lines k l first second less)
+  | inr not_less ↦ elim (cases_lt l k) [
+    | inl more ↦ absurd (faulty_apart wanted lines l k second first more)
+    | inr not_more ↦ omega arith
+  ]
+]
+one_stop wanted lines k l (inl first) (inr second) = absurd (not_early wanted lines k l first second)
+one_stop wanted lines k l (inr first) (inl second) = absurd (not_early wanted lines l k second first)
+one_stop wanted lines k l (inr first) (inr second) = omega (arith, first.after, second.after)
+
+pub one_first_fault : (wanted : List (Entries Stamp) → Type 0) → OneFirstFault wanted
+one_first_fault wanted bytes k l first second = one_stop wanted (whole_lines bytes) k l first.stop second.stop

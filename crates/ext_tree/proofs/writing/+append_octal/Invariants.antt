@@ -1,4 +1,0 @@
-use Rattle.ext_tree.proofs.writing.+append_octal.Given as goal
-
-abbrev pub decreases-append_octal : goal.decreases-append_octal
-decreases-append_octal l = l.number

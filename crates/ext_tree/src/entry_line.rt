@@ -1,0 +1,178 @@
+// The line of an entry, whatever it holds of a file's content: read back exactly, and printed.
+ghost use Rattle.std.specs.Prelude.{◌≡◌, ◌≢◌, ◌<◌, ℕ, List, [], ◌∷◌, ◌++◌, length, IfOk, MatchOption, OnOk};
+ghost use Rattle.ext_text.specs.Path.{IsPath, path_text};
+ghost use Rattle.ext_tree.specs.Fields.{spaced};
+ghost use Rattle.ext_tree.specs.EntryLine.{LineForm, FieldsOnce, FieldsLack, ReadsFields, ReadsLine, entry_fields, entry_line};
+
+use crate::entry::Entry;
+use crate::fields::{append_mode, append_target, split_mode, split_target};
+use ext_lines::OutOfMemory;
+use ext_text::{Path, PathErr, Text};
+use std::alloc::Global;
+
+#[cfg(test)]
+mod tests;
+
+/// Contents of files that a line holds.
+pub trait LineContent: Sized {
+    /// Which contents a line holds, and as which fields.
+    ghost form: { LineForm Self };
+
+    /// The content whose fields a text begins with, and what follows them; `None` exactly where it begins with those of no
+    /// content that a line holds.
+    fn split_from(text: &[u8]) -> Option<(Self, &[u8])>
+        ensures { MatchOption result
+            ((c : Self) (rest : List ℕ) → form.writable c → text.now ≢ spaced (form.fields c) rest)
+            (λ r. form.writable r.0 × (text.now ≡ spaced (form.fields r.0) r.1.now)) };
+
+    /// Adds the fields to a text, a space after each.
+    ///
+    /// # Errors
+    /// Out of memory alone.
+    fn append_to(&self, text: &mut Vec<u8>) -> Result<(), OutOfMemory>
+        ensures { OnOk result (text.new.items ≡ text.old.items ++ spaced (form.fields self.now) []) };
+
+    ghost once: { FieldsOnce form };
+
+    ghost lacks: { FieldsLack form };
+}
+
+/// The entry whose line this is, without its newline; `None` exactly where no entry has this line.
+///
+/// # Errors
+/// Out of memory alone.
+pub fn entry_of_line<C: LineContent + Drop>(
+    alloc: Global,
+    line: &[u8],
+) -> Result<Option<(Path, Entry<C>)>, OutOfMemory>
+    ensures { IfOk result (ReadsLine C.form line.now) }
+{
+    let Some((entry, rest)) = fields_of(alloc, line)? else {
+        return Ok(None);
+    };
+    match path_of(alloc, rest)? {
+        None => Ok(None),
+        Some(path) => Ok(Some((path, entry))),
+    }
+}
+
+/// The entry whose fields a text begins with, and what follows them, which on a line is the path; `None` exactly where it
+/// begins with those of no entry that has a line.
+///
+/// # Errors
+/// Out of memory alone.
+pub fn fields_of<C: LineContent>(
+    alloc: Global,
+    text: &[u8],
+) -> Result<Option<(Entry<C>, &[u8])>, OutOfMemory>
+    ensures { IfOk result (ReadsFields C.form text.now) }
+{
+    match text {
+        [b'd', b' ', fields @ ..] => Ok(dir_of(fields)),
+        [b'f', b' ', fields @ ..] => Ok(file_of(fields)),
+        [b'l', b' ', fields @ ..] => link_of(alloc, fields),
+        _ => Ok(None),
+    }
+}
+
+// The directory whose fields these are after the kind.
+fn dir_of<C: LineContent>(fields: &[u8]) -> Option<(Entry<C>, &[u8])>
+    ensures { ReadsFields C.form (100 ∷ 32 ∷ fields.now) result }
+{
+    let Some((mode, rest)) = split_mode(fields) else {
+        return None;
+    };
+    Some((Entry::Dir(mode), rest))
+}
+
+// The file whose fields these are after the kind.
+fn file_of<C: LineContent>(fields: &[u8]) -> Option<(Entry<C>, &[u8])>
+    ensures { ReadsFields C.form (102 ∷ 32 ∷ fields.now) result }
+{
+    let Some(split) = split_mode(fields) else {
+        return None;
+    };
+    let (mode, after) = split;
+    let Some((content, rest)) = C::split_from(after) else {
+        return None;
+    };
+    Some((Entry::File(mode, content), rest))
+}
+
+// The link whose fields these are after the kind.
+fn link_of<C: LineContent>(
+    alloc: Global,
+    fields: &[u8],
+) -> Result<Option<(Entry<C>, &[u8])>, OutOfMemory>
+    ensures { IfOk result (ReadsFields C.form (108 ∷ 32 ∷ fields.now)) }
+{
+    let Some((target, rest)) = split_target(fields) else {
+        return Ok(None);
+    };
+    let target = Text::from_bytes(alloc, target)?;
+    Ok(Some((Entry::Link(target), rest)))
+}
+
+/// The path whose text this is; `None` exactly where it is that of no path, or of the root.
+///
+/// # Errors
+/// Out of memory alone.
+pub fn path_of(alloc: Global, text: &[u8]) -> Result<Option<Path>, OutOfMemory>
+    ensures { IfOk result (λ found. MatchOption found
+        ((p : List (List ℕ)) → IsPath p → 0 < length p → text.now ≢ path_text p)
+        (λ p. IsPath p × (0 < length p) × (text.now ≡ path_text p))) }
+{
+    if text.is_empty() {
+        return Ok(None);
+    }
+    match Path::read(alloc, text) {
+        Ok(path) => Ok(Some(path)),
+        Err(refused) => match refused {
+            PathErr::OutOfMemory => Err(OutOfMemory),
+            PathErr::TooLong | PathErr::TooDeep | PathErr::BadName => Ok(None),
+        },
+    }
+}
+
+/// Adds an entry's line to a text, without a newline.
+///
+/// # Errors
+/// Out of memory alone.
+pub fn append_line<C: LineContent>(
+    text: &mut Vec<u8>,
+    path: &Path,
+    entry: &Entry<C>,
+) -> Result<(), OutOfMemory>
+    ensures { OnOk result (text.new.items ≡ text.old.items ++ entry_line C.form (path.now, entry.now)) }
+{
+    append_fields(text, entry)?;
+    path.append_to(text)?;
+    Ok(())
+}
+
+/// Adds the fields of an entry's line to a text, a space after each.
+///
+/// # Errors
+/// Out of memory alone.
+pub fn append_fields<C: LineContent>(
+    text: &mut Vec<u8>,
+    entry: &Entry<C>,
+) -> Result<(), OutOfMemory>
+    ensures { OnOk result (text.new.items ≡ text.old.items ++ spaced (entry_fields C.form entry.now) []) }
+{
+    match entry {
+        Entry::Dir(mode) => {
+            text.extend_from_slice(b"d ")?;
+            append_mode(text, *mode)
+        }
+        Entry::File(mode, content) => {
+            text.extend_from_slice(b"f ")?;
+            append_mode(text, *mode)?;
+            content.append_to(text)
+        }
+        Entry::Link(target) => {
+            text.extend_from_slice(b"l ")?;
+            append_target(text, target.bytes())
+        }
+    }
+}

@@ -1,5 +1,0 @@
-use Rattle.ext_vers.proofs.Laws.{versions_total}
-use Rattle.ext_vers.proofs.comparing.compare_is_a_total_preorder.Goals as goal
-
-pub returns : goal.returns
-returns c = versions_total
