@@ -1,7 +1,7 @@
 -- What contracts see of a depot: the files that a program reads and never writes. This project's own device.
 use Rattle.std.specs.Prelude.{◌≡◌, ℕ, ◌≤◌, List, Option, IfSome, IsSome, length}
 use Rattle.std.specs.Option.{option_map}
-use Rattle.ext_depot.specs.ReadAt.{IsReadAt}
+use Rattle.ext_io.specs.Device.{IsReadAt}
 
 -- the bytes of the file at each path; none where no file stands
 abbrev pub Files : Type 0

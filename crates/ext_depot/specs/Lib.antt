@@ -1,4 +1,3 @@
 pub mod Depot
-pub mod ReadAt
 pub mod DepotView
 pub mod DepotCalls

@@ -7,7 +7,6 @@
 
 mod depot;
 mod memory_depot;
-mod read_at;
 #[cfg(test)]
 mod tests;
 

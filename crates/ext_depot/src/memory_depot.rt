@@ -4,8 +4,7 @@ ghost use Rattle.ext_depot.specs.Depot.{IsKept, HasFile, IsSizeAt, IsReadOf};
 ghost use Rattle.ext_depot.specs.DepotCalls.{Admits, Puts};
 
 use crate::depot::Depot;
-use crate::read_at::read_at;
-use ext_io::{Calls, Failed, is_listed, next_count};
+use ext_io::{Calls, Failed, is_listed, next_count, read_at};
 use ext_text::{OutOfMemory, Path, Text};
 use std::alloc::Global;
 use std::collections::BTreeMap;

@@ -4,8 +4,8 @@ use Rattle.std.proofs.lemmas.Bool.{false≢true, true≢false}
 use Rattle.std.specs.Option.{is_some}
 use Rattle.std.specs.Ordering.{eq_by_cmp}
 use Rattle.ext_text.specs.Path.{path_cmp}
-use Rattle.ext_text.proofs.PathPrefixes.{same_path}
-use Rattle.ext_disk.specs.Disk.{Node, folder, file, Place, Places, Swing, IsTree, IsSwing, is_taken, is_folder, is_file, is_no_folder, is_firm, root_place, absent}
+use Rattle.ext_text.proofs.ForCallers.{same_path}
+use Rattle.ext_disk.specs.Disk.{Node, folder, file, Place, Places, Swing, is_folder, is_file, is_no_folder, is_firm, root_place, absent}
 use Rattle.ext_disk.specs.Calls.{Call, look, make_dir, make_file, append, sync_file, sync_dir, rename, remove, IsFree, CanRename, IsEmptyFolder, Allows, put, is_child, loosened, written, settled, settled_in, unswung_in, left_place, reached_place, renamed, removed, after, bytes_of}
 use Rattle.ext_disk.specs.Spots.{IsGrown, IsReached}
 use Rattle.ext_disk.proofs.Paths.{put_here}
@@ -114,22 +114,6 @@ marks_grow d e grown root nodes swung = record {
   root = root;
   parents = λ p n there. nodes p ∙ grown.parents p n (ap is_some (sym (nodes (p ++ n ∷ []))) ∙ there);
   swings = λ p w is. subst (λ o. IsReached w o) (sym (nodes p)) (grown.swings p w (swung p w is));
-}
-
-taken_either : (x : Place) (node : Option Node) (swing : Option Swing) → x.node ≡ node → ((w : Swing) → swing ≡ Some w → IsReached w node) → (is_some node || is_some swing) ≡ true → is_some node ≡ true
-taken_either x (Some n) swing is swung taken = refl
-taken_either x None None is swung taken = taken
-taken_either x None (Some w) is swung taken = let reached = swung w refl in absurd (false≢true (ap is_file reached.stands ∙ reached.after))
-
-taken_there : (x : Place) → ((w : Swing) → x.swung ≡ Some w → IsReached w x.node) → is_taken x ≡ true → is_some x.node ≡ true
-taken_there x swung taken = taken_either x x.node x.swung refl swung taken
-
--- a tree in memory is a tree
-pub grown_is_tree : (d : Places) → IsGrown d → IsTree d
-grown_is_tree d grown = record {
-  root = grown.root;
-  parents = λ p n taken. grown.parents p n (taken_there (d (p ++ n ∷ [])) (λ w is. grown.swings (p ++ n ∷ []) w is) taken);
-  swings = λ p w is. let reached = grown.swings p w is in record { before = reached.before; after = reached.after; stands = inr reached.stands };
 }
 
 -- ---- each call

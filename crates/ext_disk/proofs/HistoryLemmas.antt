@@ -7,7 +7,7 @@ use Rattle.std.specs.Option.{is_some}
 use Rattle.std.specs.Ordering.{eq_by_cmp}
 use Rattle.ext_text.specs.Name.{bytes_cmp}
 use Rattle.ext_text.specs.Path.{path_cmp}
-use Rattle.ext_text.proofs.PathPrefixes.{same_name}
+use Rattle.ext_text.proofs.ForCallers.{same_name}
 use Rattle.ext_disk.specs.Disk.{Place, Places, Swing, root_place, is_file, is_firm}
 use Rattle.ext_disk.specs.Calls.{Call, remove, Allows, IsEmptyFolder, put, child_name, is_child, unswung_in, loosened, left_place, reached_place, renamed, removed, after}
 use Rattle.ext_disk.specs.Spots.{Spots, place_at, found_place, IsGrown, IsReached}

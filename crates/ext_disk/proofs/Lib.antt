@@ -8,4 +8,6 @@ mod Growth
 mod ListingLemmas
 mod HistoryLemmas
 mod PastLemmas
+mod PickedLemmas
+mod StoppedLemmas
 pub mod ForCallers

@@ -12,7 +12,7 @@ use Rattle.std.specs.declared.cmp.Ordering.TheVariants.{Less, Equal, Greater}
 use Rattle.std.specs.Ordering.{is_eq, eq_by_cmp, ordering_then}
 use Rattle.ext_text.specs.Name.{bytes_cmp}
 use Rattle.ext_text.specs.Path.{path_cmp, IsPath}
-use Rattle.ext_text.proofs.PathPrefixes.{same_name, tied_name, same_path, tied_path, names_tied}
+use Rattle.ext_text.proofs.ForCallers.{same_name, tied_name, same_path, tied_path, names_tied}
 use Rattle.ext_disk.specs.Calls.{child_name}
 use Rattle.ext_disk.specs.Spots.{Spots, node_of, place_of, place_at, found_place, spot_name}
 use Rattle.ext_disk.specs.declared.spot.Spot.{Spot}
@@ -55,7 +55,7 @@ is_key dir q n = same_bool _ _
     ∙ ap (is_named n) (child_last dir dir n ∙ ap (λ b. cond b (Some n) None) (tied_path dir dir refl)) ∙ tied_name n n refl)
     (λ named. tied_path (dir ++ n ∷ []) q (named_child dir q n (child_name dir q) refl named))
 
-none_later : (k : List (List ℕ)) (es : Entries) → AllByRecursion (λ y. path_cmp k y ≡ Less) (keys_of es) → lookup (is_at (path_cmp k)) es ≡ None
+pub none_later : (k : List (List ℕ)) (es : Entries) → AllByRecursion (λ y. path_cmp k y ≡ Less) (keys_of es) → lookup (is_at (path_cmp k)) es ≡ None
 none_later k [] less = refl
 none_later k (e ∷ es) less = ap (λ r. cond (is_eq r) (Some e.1) (lookup (is_at (path_cmp k)) es)) less.0 ∙ none_later k es less.1
 
@@ -133,3 +133,23 @@ gathered so_far (Some m) rest all is n same = append_one so_far n rest ∙ ap (�
 
 pub passed : (so_far : List (List ℕ)) (o : Option (List ℕ)) (rest all : List (List ℕ)) → so_far ++ add_name o rest ≡ all → o ≡ None → so_far ++ rest ≡ all
 passed so_far o rest all is none = ap (λ x. so_far ++ add_name x rest) (sym none) ∙ is
+
+nil_append : (xs : List (List ℕ)) → xs ++ [] ≡ xs
+nil_append [] = refl
+nil_append (x ∷ xs) = ap (λ l. x ∷ l) (nil_append xs)
+
+-- when no spot is left, the names are all of them
+pub all_gathered : (dir names : List (List ℕ)) (left all : Entries) → names ++ names_of dir left ≡ names_of dir all → left ≡ [] → names ≡ names_of dir all
+all_gathered dir names left all is none = sym (nil_append names) ∙ ap (λ es. names ++ names_of dir es) (sym none) ∙ is
+
+place_below : (spots : Spots) (dir : List (List ℕ)) (n : List ℕ) → found_place (lookup (is_at (path_cmp (dir ++ n ∷ []))) spots.entries) ≡ place_at spots (dir ++ n ∷ [])
+place_below spots [] n = refl
+place_below spots (k ∷ dir) n = refl
+
+pub names_stand : (spots : Spots) (dir names : List (List ℕ)) → names ≡ names_of dir spots.entries → IsStrictlySortedBy path_cmp (keys_of spots.entries)
+    → (n : List ℕ) → list_any (eq_by_cmp bytes_cmp n) names ≡ is_some (place_at spots (dir ++ n ∷ [])).node
+names_stand spots dir names is sorted n =
+    ap (list_any (eq_by_cmp bytes_cmp n)) is ∙ names_have dir spots.entries n sorted ∙ ap (λ x. is_some x.node) (place_below spots dir n)
+
+pub names_in_order : (spots : Spots) (dir names : List (List ℕ)) → names ≡ names_of dir spots.entries → IsStrictlySortedBy path_cmp (keys_of spots.entries) → IsStrictlySortedBy bytes_cmp names
+names_in_order spots dir names is sorted = subst (IsStrictlySortedBy bytes_cmp) (sym is) (names_sorted dir spots.entries sorted)

@@ -7,7 +7,7 @@ use Rattle.ext_text.specs.Name.{bytes_cmp}
 use Rattle.ext_text.specs.Path.{path_cmp}
 use Rattle.std.proofs.lemmas.Bool.{cases_lt, and_parts, and_from}
 use Rattle.std.proofs.lemmas.List.{take_all, take_more}
-use Rattle.ext_text.proofs.PathPrefixes.{same_path}
+use Rattle.ext_text.proofs.ForCallers.{same_path}
 use Rattle.ext_disk.specs.Disk.{at_prefixes}
 use Rattle.ext_disk.specs.Calls.{child_name}
 use Rattle.ext_disk.proofs.Paths.{contrapose}

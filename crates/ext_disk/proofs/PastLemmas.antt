@@ -1,15 +1,13 @@
 -- A deed as the call that did it: what it changed, and the moments that it added.
 use Rattle.std.proofs.Common.{◌≡◌, ℕ, ◌+◌, ◌<◌, ◌≤◌, Bool, true, false, List, [], ◌∷◌, ◌++◌, length, take, refl, sym, ap, ◌∙◌, subst, inl, inr, arith, length-append, lt_irrefl}
 use Rattle.std.proofs.lemmas.List.{take_all, take-append-le}
-use Rattle.ext_disk.specs.Disk.{Told, IsDisk}
+use Rattle.ext_disk.specs.Disk.{Told}
 use Rattle.ext_disk.specs.Since.{IsLater}
 use Rattle.ext_disk.specs.Calls.{Call, look, make_dir, make_file, append, sync_file, sync_dir, rename, remove, after, appended_after, DoneTold, FailsTold, DoesTold}
-use Rattle.ext_disk.specs.Spots.{Spots}
-use Rattle.ext_disk.specs.Deeds.{IsWhole, call_of, told_of, replay, replay_from, given_from, empty_places}
+use Rattle.ext_disk.specs.Deeds.{call_of, told_of, replay, replay_from, given_from, empty_places}
 use Rattle.ext_disk.specs.declared.deed.Deed.{Deed}
 use Rattle.ext_disk.specs.declared.deed.Deed.TheVariants.{MakeDir, MakeFile, Append, SyncFile, SyncDir, Rename, Remove}
 use Rattle.ext_disk.specs.declared.spot.Content.{Content}
-use Rattle.ext_disk.proofs.Growth.{grown_is_tree}
 use Rattle.ext_disk.proofs.HistoryLemmas.{replay_push}
 use Rattle.ext_disk.proofs.Sparing.{later_itself}
 
@@ -68,10 +66,3 @@ failed call d e same = subst (DoesTold call false d) (sym same) (does_nothing ca
 pub looked : (done : Bool) (d : Told) → DoesTold look done d d
 looked true d = record { later = later_itself d; within = λ n late upto. absurd (none_between d.clock n late upto); ends = refl }
 looked false d = does_nothing look d
-
--- what a disk in memory tells is a disk
-pub told_is_disk : (spots : Spots) (given : List (List (List ℕ) × Content)) (deeds : List Deed) (sum : ℕ) → IsWhole spots given deeds → IsDisk (told_of given deeds sum)
-told_is_disk spots given deeds sum whole = record {
-  tree = grown_is_tree (replay given deeds) whole.grown;
-  present = ap (replay given) (take_all (length deeds) deeds (omega arith));
-}

@@ -2,7 +2,7 @@
 use Rattle.std.proofs.Common.{◌≡◌, ◌⊎◌, ℕ, ◌<◌, ◌≤◌, Bool, true, false, List, Result, refl, sym, ap, ◌∙◌, subst, inl, inr, arith}
 use Rattle.std.proofs.lemmas.Bool.{cases_lt}
 use Rattle.ext_text.specs.Path.{is_prefix}
-use Rattle.ext_text.proofs.PathPrefixes.{prefix_self}
+use Rattle.ext_text.proofs.ForCallers.{prefix_self}
 use Rattle.ext_disk.specs.Disk.{Tree, Places, Told, MayLeave, is_firm}
 use Rattle.ext_disk.specs.Since.{Since, IsLater}
 use Rattle.ext_disk.specs.Calls.{Call, IsWithin, DoesTold}

@@ -7,7 +7,7 @@ use Rattle.std.specs.Map.Calls.{RetainsPairs}
 use Rattle.std.specs.Option.{is_some}
 use Rattle.std.specs.Ordering.{eq_by_cmp}
 use Rattle.ext_text.specs.Path.{path_cmp}
-use Rattle.ext_text.proofs.PathPrefixes.{same_path}
+use Rattle.ext_text.proofs.ForCallers.{same_path}
 use Rattle.ext_disk.specs.Disk.{Place, Places, root_place, absent, is_file}
 use Rattle.ext_disk.specs.Calls.{put, is_child, settled, settled_in}
 use Rattle.ext_disk.specs.Spots.{Spots, place_of, place_at, found_place}

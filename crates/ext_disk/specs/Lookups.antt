@@ -4,6 +4,7 @@ use Rattle.std.specs.List.{AllByRecursion, list_any}
 use Rattle.std.specs.List.Sorted.{IsStrictlySortedBy}
 use Rattle.std.specs.Option.{is_some}
 use Rattle.std.specs.Ordering.{eq_by_cmp}
+use Rattle.ext_io.specs.Device.{IsReadAt}
 use Rattle.ext_text.specs.Causes.{Rose}
 use Rattle.ext_text.specs.Name.{bytes_cmp}
 use Rattle.ext_text.specs.Path.{IsPath}
@@ -48,12 +49,6 @@ kind_of (Some (file bytes)) = Some (File (length bytes))
 -- what stands at the path, where it is told
 abbrev pub IsKindAt : DiskState → List (List ℕ) → Option Kind → Type 0
 IsKindAt disk path kind = IfSome disk.told (λ d. kind ≡ kind_of (d.places path).node)
-
--- the first so many bytes of the buffer are those of the file from the byte `at` on, and they are none exactly at or past
--- the file's end
-pub record IsReadAt (bytes : List ℕ) (at : ℕ) (buf : List ℕ) (count : ℕ) : Type 0 where
-  pub moved : drop at bytes ≡ take count buf ++ drop (at + count) bytes
-  pub some : count ≡ 0 → length bytes ≤ at
 
 -- what a read of the file at the path gave, where it is told
 abbrev pub IsReadOf : DiskState → List (List ℕ) → ℕ → List ℕ → ℕ → Type 0

@@ -25,3 +25,14 @@ abbrev pub IsListMetered : {T : Type 0} → MemoryDisk → MemoryDisk → DiskCa
 IsListMetered old new call (Ok _) = IsMetered old.meter new.meter call true
 IsListMetered old new call (Err Failed) = IsMetered old.meter new.meter call false
 IsListMetered old new call (Err OutOfMemory) = IsMetered old.meter new.meter call true
+
+-- no call was made of the disk, and none is to fail
+pub record IsUnused (disk : MemoryDisk) : Type 0 where
+  pub deeds : disk.history.deeds.items ≡ []
+  pub appended : disk.history.appended ≡ 0
+  pub fails : disk.meter.fails ≡ []
+  pub stop : disk.meter.stop ≡ None
+  pub called : disk.meter.called ≡ 0
+  pub calls : disk.meter.calls.items ≡ []
+  pub starved : disk.meter.starved ≡ 0
+  pub faults : disk.meter.faults ≡ 0

@@ -1,15 +1,16 @@
 // The tree of a disk in memory, and its past.
-ghost use Rattle.std.specs.Prelude.{◌≡◌, ◌≢◌, ℕ, ◌∷◌, ◌++◌, [], List, true, Some, ◌&&◌, IfOk, OnOk, OnErr};
+ghost use Rattle.std.specs.Prelude.{◌≡◌, ◌≢◌, ℕ, ◌∷◌, ◌++◌, [], List, true, Some, ◌&&◌, All, IfOk, OnOk, OnErr};
 ghost use Rattle.ext_disk.specs.Disk.{file, is_firm};
 ghost use Rattle.ext_disk.specs.Calls.{Allows, CanRename, after, loosened, renamed, appended_after};
 ghost use Rattle.ext_disk.specs.Spots.{place_of, place_at, IsGrown};
-ghost use Rattle.ext_disk.specs.Deeds.{IsWhole, call_of, replay};
+ghost use Rattle.ext_disk.specs.Deeds.{IsWhole, call_of, empty_places, given_from, replay};
 
 use crate::deed::Deed;
 use crate::spot::{Content, Spot};
 use crate::spots::{
     Spots, append_at, harden_at, is_firm_at, leave_at, put_spot, reach_at, reserve, settle_in,
 };
+use crate::stopped::spots_of;
 use ext_text::{OutOfMemory, Path, Text};
 use std::alloc::Global;
 
@@ -40,6 +41,32 @@ impl History {
             deeds: Vec::new(alloc),
             appended: 0,
         }
+    }
+
+    /// The history of a disk that begins with these.
+    pub(crate) fn given(alloc: Global, given: Vec<(Path, Content)>) -> Result<History, OutOfMemory>
+        requires paths { All (λ e. e.0 ≢ []) given.items }
+        requires grown { IsGrown (given_from empty_places given.items) }
+        ensures given { IfOk result (λ history. history.given.items ≡ given.items) }
+        ensures deeds { IfOk result (λ history. history.deeds.items ≡ []) }
+        ensures appended { IfOk result (λ history. history.appended ≡ 0) }
+    {
+        let spots = spots_of(alloc, &given)?;
+        Ok(History {
+            alloc,
+            spots,
+            given,
+            deeds: Vec::new(alloc),
+            appended: 0,
+        })
+    }
+
+    /// The places alone; the past is let go.
+    pub(crate) fn into_spots(self) -> Spots
+        ensures places { (q : List (List ℕ)) → place_at result q ≡ replay self.given.items self.deeds.items q }
+        ensures grown { IsGrown (replay self.given.items self.deeds.items) }
+    {
+        self.spots
     }
 
     /// Does a deed that is allowed. At an error nothing was done.

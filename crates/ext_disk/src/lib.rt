@@ -14,11 +14,14 @@ mod list_err;
 mod listing;
 mod memory_disk;
 mod meter;
+mod pick;
 mod spot;
 mod spots;
+mod stopped;
 
 pub use disk::Disk;
 pub use disk_call::{DiskCall, DiskOp};
 pub use kind::Kind;
 pub use list_err::ListErr;
 pub use memory_disk::MemoryDisk;
+pub use pick::Pick;

@@ -21,7 +21,7 @@ pub(crate) fn names_in(alloc: Global, spots: &Spots, dir: &Path) -> Result<Names
         ≡ is_some (place_at spots.now (dir.now ++ n ∷ [])).node) }
 {
     let mut names = Names::new(alloc);
-    'spots: for (path, spot) in spots {
+    'spots: for (path, spot) in spots.iter() {
         if let Some(name) = name_there(dir, path, spot) {
             names.push(name.copy()?)?;
         }

@@ -1,10 +1,12 @@
 // What a disk in memory holds of one path.
-ghost use Rattle.std.specs.Prelude.{◌≡◌, ◌++◌, true, false, None, Some, OnOk, OnErr};
+ghost use Rattle.std.specs.Prelude.{◌≡◌, ◌++◌, true, false, None, Some, IfOk, OnOk, OnErr};
 ghost use Rattle.ext_disk.specs.Disk.{Place, absent, file, is_file};
 ghost use Rattle.ext_disk.specs.Calls.{bytes_of, written, settled, left_place, reached_place};
+ghost use Rattle.ext_disk.specs.Picked.{junked};
 ghost use Rattle.ext_disk.specs.Spots.{node_of, place_of};
 
 use ext_text::{OutOfMemory, Text};
+use std::alloc::Global;
 use std::mem;
 
 /// What stands at a path.
@@ -25,7 +27,43 @@ pub(crate) struct Spot {
     pub(crate) swung: Option<Content>,
 }
 
+impl Content {
+    /// An equal content.
+    pub(crate) fn copy(&self) -> Result<Content, OutOfMemory>
+        ensures { IfOk result (λ copy. copy ≡ self.now) }
+    {
+        match self {
+            Content::Absent => Ok(Content::Absent),
+            Content::Folder => Ok(Content::Folder),
+            Content::File(text) => Ok(Content::File(text.copy()?)),
+        }
+    }
+
+    /// The same with other bytes in a file.
+    pub(crate) fn junk(&self, alloc: Global) -> Result<Content, OutOfMemory>
+        ensures { IfOk result (λ junk. node_of junk ≡ junked (node_of self.now)) }
+    {
+        match self {
+            Content::Absent => Ok(Content::Absent),
+            Content::Folder => Ok(Content::Folder),
+            Content::File(_bytes) => Ok(Content::File(Text::from_bytes(alloc, b"junk")?)),
+        }
+    }
+}
+
 impl Spot {
+    /// A path with nothing to settle.
+    pub(crate) fn firm(content: Content) -> Spot
+        ensures { place_of result ≡ record absent { node = node_of content } }
+    {
+        Spot {
+            content,
+            loose: false,
+            soft: false,
+            swung: None,
+        }
+    }
+
     /// A path whose name is not settled.
     pub(crate) fn loose(content: Content, soft: bool) -> Spot
         ensures { result ≡ record { content = content; loose = true; soft = soft; swung = None } }
@@ -34,18 +72,6 @@ impl Spot {
             content,
             loose: true,
             soft,
-            swung: None,
-        }
-    }
-
-    /// A path at which nothing stands, with nothing to settle.
-    pub(crate) fn absent() -> Spot
-        ensures { place_of result ≡ absent }
-    {
-        Spot {
-            content: Content::Absent,
-            loose: false,
-            soft: false,
             swung: None,
         }
     }

@@ -1,12 +1,14 @@
 // The map of a disk in memory: a place for each path that was ever named.
-ghost use Rattle.std.specs.Prelude.{◌≡◌, ◌≢◌, ℕ, ◌∷◌, ◌++◌, [], List, true, false, None, Some, IsSome, IfOk, IfSome, OnOk, OnErr, is_some, if◌then◌else◌};
+ghost use Rattle.std.specs.Prelude.{◌≡◌, ◌≢◌, ℕ, ◌∷◌, ◌++◌, [], List, true, false, None, Some, IsSome, MatchOption, IfOk, IfSome, OnOk, OnErr, is_some, if◌then◌else◌};
 ghost use Rattle.std.specs.Option.{option_copied};
 ghost use Rattle.std.specs.BTreeMap.{get};
 ghost use Rattle.ext_text.specs.Path.{IsPath, path_cmp};
-ghost use Rattle.ext_disk.specs.Disk.{Place, is_file, is_settled, is_firm, at_prefixes};
+ghost use Rattle.ext_disk.specs.Disk.{Place, file, is_file, is_settled, is_firm, at_prefixes};
 ghost use Rattle.ext_disk.specs.Calls.{put, child_name, is_child, bytes_of, written, settled, settled_in, left_place, reached_place};
+ghost use Rattle.ext_disk.specs.Lookups.{kind_of};
 ghost use Rattle.ext_disk.specs.Spots.{Spots, node_of, place_of, place_at, found_place};
 
+use crate::kind::Kind;
 use crate::spot::{Content, Spot};
 use ext_text::{Name, OutOfMemory, Path};
 use std::alloc::Global;
@@ -74,7 +76,7 @@ pub(crate) fn reserve(spots: &mut Spots, path: &Path) -> Result<(), OutOfMemory>
     if spots.contains_key(path) {
         return Ok(());
     }
-    put_spot(spots, path, Spot::absent())?;
+    put_spot(spots, path, Spot::firm(Content::Absent))?;
     Ok(())
 }
 
@@ -134,8 +136,8 @@ pub(crate) fn is_firm_at(alloc: Global, spots: &Spots, path: &Path) -> Result<bo
     Ok(is_settled_to(spots, path, root(alloc)?)? && !is_soft_at(spots, path))
 }
 
-// The empty path.
-fn root(alloc: Global) -> Result<Path, OutOfMemory>
+/// The empty path.
+pub(crate) fn root(alloc: Global) -> Result<Path, OutOfMemory>
     ensures { IfOk result (λ root. root ≡ []) }
 {
     match Path::read(alloc, b"") {
@@ -172,8 +174,8 @@ fn is_soft_at(spots: &Spots, path: &Path) -> bool
     }
 }
 
-// The path below a prefix of a path.
-fn longer(prefix: &Path, name: &Name) -> Result<Path, OutOfMemory>
+/// The path below a prefix of a path.
+pub(crate) fn longer(prefix: &Path, name: &Name) -> Result<Path, OutOfMemory>
     ensures { IfOk result (λ path. path ≡ prefix.now ++ name.now ∷ []) }
 {
     match prefix.child(name) {
@@ -191,5 +193,54 @@ fn is_settled_at(spots: &Spots, path: &Path) -> bool
     match spots.get(path) {
         Some(spot) => !spot.loose && spot.swung.is_none(),
         None => true,
+    }
+}
+
+/// What stands at the path.
+pub(crate) fn kind_at(spots: &Spots, path: &Path) -> Option<Kind>
+    ensures { result ≡ kind_of (place_at spots.now path.now).node }
+{
+    if path.names().is_empty() {
+        return Some(Kind::Dir);
+    }
+    match spots.get(path) {
+        Some(spot) => content_kind(&spot.content),
+        None => None,
+    }
+}
+
+// What the content is.
+fn content_kind(content: &Content) -> Option<Kind>
+    ensures { result ≡ kind_of (node_of content.now) }
+{
+    match content {
+        Content::Absent => None,
+        Content::Folder => Some(Kind::Dir),
+        Content::File(text) => Some(Kind::File(text.bytes().len() as u64)),
+    }
+}
+
+/// The bytes of the file at the path, where one stands there.
+pub(crate) fn bytes_at<'a>(spots: &'a Spots, path: &Path) -> Option<&'a [u8]>
+    ensures { MatchOption result (is_file (place_at spots.now path.now).node ≡ false)
+        (λ bytes. (place_at spots.now path.now).node ≡ Some (file bytes.now)) }
+{
+    if path.names().is_empty() {
+        return None;
+    }
+    match spots.get(path) {
+        Some(spot) => file_bytes(&spot.content),
+        None => None,
+    }
+}
+
+// The bytes of a file.
+fn file_bytes(content: &Content) -> Option<&[u8]>
+    ensures { MatchOption result (is_file (node_of content.now) ≡ false)
+        (λ bytes. node_of content.now ≡ Some (file bytes.now)) }
+{
+    match content {
+        Content::File(text) => Some(text.bytes()),
+        _ => None,
     }
 }
