@@ -1,5 +1,5 @@
 -- What contracts see of a depot: the files that a program reads and never writes. This project's own device.
-use Rattle.std.specs.Prelude.{◌≡◌, ℕ, ◌≤◌, List, Option, IfSome, IsSome, length}
+use Rattle.std.specs.Prelude.{◌≡◌, ℕ, ◌<◌, ◌≤◌, List, Option, IfSome, IsSome, length}
 use Rattle.std.specs.Option.{option_map}
 use Rattle.ext_io.specs.Device.{IsReadAt}
 
@@ -18,9 +18,9 @@ pub record IsKept (old new : DepotState) : Type 0 where
   pub contents : new.contents ≡ old.contents
   pub count : old.faults ≤ new.faults
 
--- a file stands at the path, where the files are told
-abbrev pub HasFile : DepotState → List (List ℕ) → Type 0
-HasFile depot path = IfSome depot.contents (λ files. IsSome (files path))
+-- a file stands at the path, and the buffer has room for a byte: the condition of a read, in force where the files are told
+abbrev pub MayRead : DepotState → List (List ℕ) → ℕ → Type 0
+MayRead depot path room = IfSome depot.contents (λ files. IsSome (files path) × (0 < room))
 
 -- the size of the file at the path, and none exactly where there is none, where the files are told
 abbrev pub IsSizeAt : DepotState → List (List ℕ) → Option ℕ → Type 0

@@ -1,6 +1,6 @@
-ghost use Rattle.std.specs.Prelude.{◌≡◌, ◌<◌, ◌≤◌, [], length, IfOk, OnOk, OnErr};
+ghost use Rattle.std.specs.Prelude.{◌≡◌, ◌≤◌, [], length, IfOk, OnOk, OnErr};
 ghost use Rattle.ext_text.specs.Causes.{HasCause};
-ghost use Rattle.ext_depot.specs.Depot.{IsKept, HasFile, IsSizeAt, IsReadOf};
+ghost use Rattle.ext_depot.specs.Depot.{IsKept, MayRead, IsSizeAt, IsReadOf};
 ghost use Rattle.ext_depot.specs.DepotCalls.{Admits, Puts};
 
 use crate::depot::Depot;
@@ -98,8 +98,7 @@ impl Depot for MemoryDepot {
 
     /// Beside what each depot promises: the call fails exactly where it is listed.
     fn read(&mut self, path: &Path, at: u64, buf: &mut [u8]) -> Result<usize, Failed>
-        requires room { 0 < length buf.old }
-        requires file { HasFile (depot_state self.old) path.now }
+        requires { MayRead (depot_state self.old) path.now (length buf.old) }
         ensures within { IfOk result (λ count. count ≤ length buf.new) }
         ensures moved { IfOk result (IsReadOf (depot_state self.old) path.now at buf.new) }
         ensures kept { IsKept (depot_state self.old) (depot_state self.new) }

@@ -18,6 +18,8 @@ mod pick;
 mod spot;
 mod spots;
 mod stopped;
+#[cfg(test)]
+mod tests;
 
 pub use disk::Disk;
 pub use disk_call::{DiskCall, DiskOp};
