@@ -1,0 +1,14 @@
+//! The depot: the folder of release files, manifests and images that the program reads and never writes.
+//!
+//! A [`Depot`] may tell contracts which files it has. No call changes them, and a call that fails is counted, so that no
+//! answer blames a depot that did nothing wrong. [`MemoryDepot`] tells everything and serves tests; the real folder is
+//! another crate's. The crates that bring files into the store and that update from sources stand on this one.
+#![tactic(auto)]
+
+mod depot;
+mod memory_depot;
+#[cfg(test)]
+mod tests;
+
+pub use depot::Depot;
+pub use memory_depot::MemoryDepot;

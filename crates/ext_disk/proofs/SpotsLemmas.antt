@@ -1,0 +1,127 @@
+-- What a change of the map does to the places that it says.
+use Rattle.std.proofs.Common.{◌≡◌, ◌≢◌, ◌⊎◌, ℕ, Bool, true, false, cond, List, [], ◌∷◌, ◌++◌, Option, Some, None, IsSome, Result, Ok, Err, OnOk, OnErr, refl, sym, ap, ◌∙◌, subst, inl, inr}
+use Rattle.std.proofs.lemmas.Bool.{false≢true, true≢false}
+use Rattle.std.specs.BTreeMap.{BTreeMap, get, get_by, is_at, Updates, UpdatesBy, WritesThrough}
+use Rattle.std.specs.Map.{lookup}
+use Rattle.std.specs.Map.Calls.{RetainsPairs}
+use Rattle.std.specs.Option.{is_some}
+use Rattle.std.specs.Ordering.{eq_by_cmp}
+use Rattle.ext_text.specs.Path.{path_cmp}
+use Rattle.ext_text.proofs.ForCallers.{same_path}
+use Rattle.ext_disk.specs.Disk.{Place, Places, root_place, absent, is_file}
+use Rattle.ext_disk.specs.Calls.{put, is_child, settled, settled_in}
+use Rattle.ext_disk.specs.Spots.{Spots, place_of, place_at, found_place}
+use Rattle.ext_disk.specs.declared.spot.Spot.{Spot}
+
+found_either : (b : Bool) (x y : Option Spot) → found_place (cond b x y) ≡ cond b (found_place x) (found_place y)
+found_either true x y = refl
+found_either false x y = refl
+
+-- a spot that is put into the map is put at its path, which is not the root
+pub put_at : (m n : Spots) (p : List (List ℕ)) (spot : Spot) → p ≢ [] → ((q : List (List ℕ)) → get path_cmp n q ≡ cond (is_at (path_cmp p) q) (Some spot) (get path_cmp m q))
+    → (q : List (List ℕ)) → place_at n q ≡ put p (place_of spot) (place_at m) q
+put_at m n [] spot some updates q = absurd (some refl)
+put_at m n (k ∷ p) spot some updates [] = refl
+put_at m n (k ∷ p) spot some updates (l ∷ q) = ap found_place (updates (l ∷ q)) ∙ found_either (eq_by_cmp path_cmp (k ∷ p) (l ∷ q)) (Some spot) (get path_cmp m (l ∷ q))
+
+-- where a file stands, it is not at the root
+pub file_no_root : (m : Spots) (p : List (List ℕ)) → is_file (place_at m p).node ≡ true → p ≢ []
+file_no_root m p file root = false≢true (subst (λ q. is_file (place_at m q).node ≡ true) root file)
+
+-- and the map has a spot there
+pub file_found : (m : Spots) (p : List (List ℕ)) → is_file (place_at m p).node ≡ true → get path_cmp m p ≡ None → ⊥
+file_found m [] file none = false≢true file
+file_found m (k ∷ p) file none = false≢true (subst (λ o. is_file (found_place o).node ≡ true) none file)
+
+pub found_at : (m : Spots) (p : List (List ℕ)) (spot : Spot) → p ≢ [] → get path_cmp m p ≡ Some spot → place_at m p ≡ place_of spot
+found_at m [] spot some is = absurd (some refl)
+found_at m (k ∷ p) spot some is = ap found_place is
+
+-- the same, where the key equals the path
+pub put_key : (m n : Spots) (key p : List (List ℕ)) (spot : Spot) → key ≡ p → p ≢ [] → Updates path_cmp m n key (Some spot) → (q : List (List ℕ)) → place_at n q ≡ put p (place_of spot) (place_at m) q
+put_key m n key p spot same some updates =
+    subst (λ k. (q : List (List ℕ)) → place_at n q ≡ put k (place_of spot) (place_at m) q) same
+    (put_at m n key spot (λ root. some (sym same ∙ root)) updates.0)
+
+put_back_at : (b : Bool) (x y : Place) → (b ≡ true → x ≡ y) → cond b x y ≡ y
+put_back_at true x y same = same refl
+put_back_at false x y same = refl
+
+-- nothing changes where what stands at a path is put there
+pub put_back : (p : List (List ℕ)) (x : Place) (d : Places) → x ≡ d p → (q : List (List ℕ)) → put p x d q ≡ d q
+put_back p x d same q = put_back_at (eq_by_cmp path_cmp p q) x (d q) (λ tied. same ∙ ap d (same_path p q tied))
+
+-- a spot that is changed through a borrow, but not in what it says
+pub write_back : (m n : Spots) (p : List (List ℕ)) (old new : Spot) → p ≢ [] → Some old ≡ get path_cmp m p → WritesThrough path_cmp (path_cmp p) m new n → place_of new ≡ place_of old
+    → (q : List (List ℕ)) → place_at n q ≡ place_at m q
+write_back m n p old new some is writes same q =
+    put_at m n p new some (writes.3 (subst IsSome is refl)).0 q
+    ∙ put_back p (place_of new) (place_at m) (same ∙ sym (found_at m p old some (sym is))) q
+
+pub on_err : {T E : Type 0} (r : Result T E) (P Q : Type 0) → (P → Q) → OnErr r P → OnErr r Q
+on_err (Ok x) P Q gives holds = tt
+on_err (Err e) P Q gives holds = gives holds
+
+none_found : (o : Option Spot) → is_some o ≡ false → o ≡ None
+none_found None none = refl
+none_found (Some spot) none = absurd (true≢false none)
+
+pub absent_at : (m : Spots) (p : List (List ℕ)) → p ≢ [] → is_some (get path_cmp m p) ≡ false → place_at m p ≡ absent
+absent_at m [] some none = absurd (some refl)
+absent_at m (k ∷ p) some none = ap found_place (none_found (get path_cmp m (k ∷ p)) none)
+
+-- an empty spot changes nothing where there was none
+pub put_absent : (m n : Spots) (p : List (List ℕ)) (spot : Spot) → p ≢ [] → is_some (get path_cmp m p) ≡ false → place_of spot ≡ absent
+    → ((q : List (List ℕ)) → place_at n q ≡ put p (place_of spot) (place_at m) q) → (q : List (List ℕ)) → place_at n q ≡ place_at m q
+put_absent m n p spot some none empty puts q = puts q ∙ put_back p (place_of spot) (place_at m) (empty ∙ sym (absent_at m p some none)) q
+
+-- ---- names settled in a folder
+
+pub no_child_root : (dir : List (List ℕ)) → is_child dir [] ≡ false
+no_child_root [] = refl
+no_child_root (k ∷ dir) = refl
+
+both_absent : (b : Bool) → absent ≡ cond b (settled absent) absent
+both_absent true = refl
+both_absent false = refl
+
+settled_either : (tied child : Bool) (w v : Spot) (new old : Option Spot) → (tied ≡ true → place_of w ≡ cond child (settled (place_of v)) (place_of v))
+    → found_place new ≡ cond child (settled (found_place old)) (found_place old)
+    → found_place (cond tied (Some w) new) ≡ cond child (settled (found_place (cond tied (Some v) old))) (found_place (cond tied (Some v) old))
+settled_either true child w v new old here more = here refl
+settled_either false child w v new old here more = more
+
+settled_here : (dir q : List (List ℕ)) (e : List (List ℕ) × Spot) (w : Spot) (rest es : List (List (List ℕ) × Spot)) → place_of w ≡ cond (is_child dir e.0) (settled (place_of e.1)) (place_of e.1)
+    → found_place (lookup (is_at (path_cmp q)) rest) ≡ cond (is_child dir q) (settled (found_place (lookup (is_at (path_cmp q)) es))) (found_place (lookup (is_at (path_cmp q)) es))
+    → (kept : List (List (List ℕ) × Spot)) → kept ≡ (e.0, w) ∷ rest
+    → found_place (lookup (is_at (path_cmp q)) kept) ≡ cond (is_child dir q) (settled (found_place (lookup (is_at (path_cmp q)) (e ∷ es)))) (found_place (lookup (is_at (path_cmp q)) (e ∷ es)))
+settled_here dir q e w rest es here more kept is =
+    ap (λ l. found_place (lookup (is_at (path_cmp q)) l)) is
+    ∙ settled_either (is_at (path_cmp q) e.0) (is_child dir q) w e.1 (lookup (is_at (path_cmp q)) rest) (lookup (is_at (path_cmp q)) es)
+    (λ tied. here ∙ ap (λ k. cond (is_child dir k) (settled (place_of e.1)) (place_of e.1)) (sym (same_path q e.0 tied))) more
+
+-- the spots that a closure kept which settles those in the folder, and keeps each
+pub settled_pairs : {F : Type 0} (T : F → List (List ℕ) → Spot → Bool → Spot → F → Type 0) (f : F) (dir : List (List ℕ))
+    → ((k : List (List ℕ)) (v : Spot) (b : Bool) (w : Spot) (g : F) → T f k v b w g → (b ≡ true) × (place_of w ≡ cond (is_child dir k) (settled (place_of v)) (place_of v)) × (g ≡ f))
+    → (es kept : List (List (List ℕ) × Spot)) → RetainsPairs T f es kept → (q : List (List ℕ))
+    → found_place (lookup (is_at (path_cmp q)) kept) ≡ cond (is_child dir q) (settled (found_place (lookup (is_at (path_cmp q)) es))) (found_place (lookup (is_at (path_cmp q)) es))
+settled_pairs T f dir calls [] kept keeps q = ap (λ l. found_place (lookup (is_at (path_cmp q)) l)) keeps ∙ both_absent (is_child dir q)
+settled_pairs T f dir calls (e ∷ es) kept keeps q =
+    let b = keeps.0 in
+    let w = keeps.1 in
+    let rest = keeps.3 in
+    let called = calls e.0 e.1 b w keeps.2 keeps.4 in
+    let more : RetainsPairs T f es rest = subst (λ g. RetainsPairs T g es rest) called.2 keeps.5 in
+    let is : kept ≡ (e.0, w) ∷ rest = keeps.6 ∙ ap (λ (x : Bool). cond x ((e.0, w) ∷ rest) rest) called.0 in
+    settled_here dir q e w rest es called.1 (settled_pairs T f dir calls es rest more q) kept is
+
+-- the map after its spots in the folder were settled
+pub settled_at : (m n : Spots) (dir : List (List ℕ))
+    → ((q : List (List ℕ)) → found_place (get path_cmp n q) ≡ cond (is_child dir q) (settled (found_place (get path_cmp m q))) (found_place (get path_cmp m q)))
+    → (q : List (List ℕ)) → place_at n q ≡ settled_in dir (place_at m) q
+settled_at m n dir settles [] = sym (ap (λ b. cond b (settled root_place) root_place) (no_child_root dir))
+settled_at m n dir settles (k ∷ q) = settles (k ∷ q)
+
+pub on_ok : {T E : Type 0} (r : Result T E) (P Q : Type 0) → (P → Q) → OnOk r P → OnOk r Q
+on_ok (Ok x) P Q gives holds = gives holds
+on_ok (Err e) P Q gives holds = tt

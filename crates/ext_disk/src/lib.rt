@@ -1,0 +1,29 @@
+//! The disk: the folder in which the store stands, and what a stop may leave of it.
+//!
+//! A [`Disk`] tells contracts what stands at each path, which names and bytes are not settled yet, and what a stop at each
+//! moment of its past may have left. What is promised of stops anywhere above comes from here.
+#![tactic(auto)]
+
+mod deed;
+mod disk;
+mod disk_call;
+mod history;
+mod kind;
+pub mod laws;
+mod list_err;
+mod listing;
+mod memory_disk;
+mod meter;
+mod pick;
+mod spot;
+mod spots;
+mod stopped;
+#[cfg(test)]
+mod tests;
+
+pub use disk::Disk;
+pub use disk_call::{DiskCall, DiskOp};
+pub use kind::Kind;
+pub use list_err::ListErr;
+pub use memory_disk::MemoryDisk;
+pub use pick::Pick;
