@@ -1,7 +1,7 @@
 //! The program `hostext STORE DEPOT COMMAND ..`: a thin shell over `ext_top::run`.
 //!
 //! It hands the words after DEPOT and the standard streams to `run`, ends with the number of the status, and prints a
-//! line on standard error where that is 2 or more. No command that is built so far looks at STORE or DEPOT.
+//! line on standard error where that is 2 or more. Neither command looks at STORE or DEPOT.
 #![tactic(auto)]
 
 use ext_io::{StdSink, StdSource};
@@ -16,8 +16,8 @@ const HELP: &str = "usage: hostext STORE DEPOT COMMAND ..
 
 commands:
   compare TEXT TEXT   write less, equal or greater: the order of two versions
-  layer               read a row of tree texts from standard input, the host
-                      first, and write the text of the layered tree
+  layer               read a sequence of tree texts from standard input, the
+                      host first, and write the text of the layered tree
 
 It ends with 0 where the command was done, 1 refused, 2 usage, 3 read fault,
 4 write fault, 7 out of memory, 10 input too long.";
@@ -40,7 +40,7 @@ fn outcome(rt: &HostRuntime) -> Status {
     }
 }
 
-// The same of the arguments, of which the first is the program's name.
+// How the run of these arguments ends. The first of them is the program's name.
 fn outcome_of(rt: &HostRuntime, arguments: env::Args) -> Result<Status, OutOfMemory> {
     let arguments = arguments.collect::<Vec<String>>(rt.alloc())?;
     match arguments.as_slice() {
@@ -74,7 +74,7 @@ fn run_command(rt: &HostRuntime, command: &[String]) -> Result<Status, OutOfMemo
     Ok(run(rt.alloc(), &words, &mut source, &mut sink))
 }
 
-// Prints the line of a status from 2 on. A fault in printing it is ignored: the number tells the same.
+// Prints the line of a status from 2 on. A fault in printing it is ignored: the number tells as much.
 fn report(rt: &HostRuntime, status: &Status) {
     let _ = match status {
         Status::Done | Status::Refused(_) => Ok(()),

@@ -1,4 +1,4 @@
--- A sink in memory, and one call of it, exactly: what it answers, and the whole sink after it.
+-- A sink in memory, and one call of it, exactly: what it gives, and the whole sink after it.
 use Rattle.std.specs.Prelude.{◌≡◌, ℕ, min, List, ◌++◌, length, take, Contains, ◌⊎◌, Result, Ok, Err}
 use Rattle.ext_io.specs.Device.{next_count}
 

@@ -1,4 +1,4 @@
--- A source in memory, and one call of it, exactly: what it answers, and the whole source after it.
+-- A source in memory, and one call of it, exactly: what it gives, and the whole source after it.
 use Rattle.std.specs.Prelude.{◌≡◌, ℕ, List, min, length, drop, Contains, Result, Ok, Err}
 use Rattle.ext_io.specs.Device.{next_count}
 

@@ -5,22 +5,22 @@ use Rattle.std.proofs.lemmas.Bool.{false≢true, and_parts, and_from, not-true, 
 use Rattle.std.proofs.lemmas.Float.{T_from_true}
 use Rattle.std.proofs.lemmas.List.{take-append-drop}
 use Rattle.std.specs.Option.{option_map}
-use Rattle.std.specs.List.{AllByRecursion}
+use Rattle.std.specs.List.{AllByRecursion, filter}
 use Rattle.std.specs.Ordering.{is_lt, eq_by_cmp}
 use Rattle.std.specs.FinMap.{find, is_sorted}
 use Rattle.std.specs.FinMap.Entries.{below_all}
 use Rattle.ext_text.specs.Path.{path_cmp, is_prefix, is_proper_prefix}
 use Rattle.ext_text.proofs.ForCallers.{true_from_T}
 use Rattle.ext_text.proofs.ForCallers.{all_append}
-use Rattle.ext_text.proofs.ForCallers.{prefix_both}
-use Rattle.ext_tree.specs.Tree.{Entries, IsTree, IsTreeWithin, lookup, is_directory}
+use Rattle.ext_text.proofs.ForCallers.{prefix_both, prefix_self, same_path}
+use Rattle.ext_tree.specs.Tree.{Entries, IsTree, IsTreeWithin, as_shown, is_hide, lookup}
 use Rattle.ext_tree.specs.declared.entry.Entry.{Entry}
 use Rattle.ext_layer.specs.Layered.{CutsOff, IsVisible, cuts_below}
 use Rattle.ext_layer.specs.declared.item.Item.{Item}
 use Rattle.ext_layer.specs.Item.{all_seen}
 use Rattle.ext_layer.specs.Joining.{Joins, layers_overlay}
-use Rattle.ext_layer.specs.Overlay.{Marked, MarkedEntries, Overlay, visible, hidden, absent, first_of_two, some_prefix, cuts_at, overlay_of, overlay_at, marked, unmarked, with_mark, over}
-use Rattle.ext_layer.proofs.Prefixes.{some_prefix-none, some_prefix-at}
+use Rattle.ext_layer.specs.Overlay.{Marked, MarkedEntries, Overlay, visible, hidden, absent, first_of_two, some_prefix, cuts_at, overlay_of, overlay_at, marked, visible_in, with_mark, over}
+use Rattle.ext_layer.proofs.Prefixes.{not_found, some_prefix-none, some_prefix-at}
 use Rattle.ext_layer.proofs.OverlayLemmas.{first_assoc, none_overlay, over_overlay, sorted_over}
 
 -- other values at the same keys
@@ -46,8 +46,56 @@ prefix_cases {P = P} q p f same proper =
       | false ↦ λ apart. proper (and_from _ _ f (not_from_false _ apart))
     ] refl
 
-abbrev pub without_mark : {C : Type 0} → Marked C → Entry C
-without_mark m = m.entry
+-- a value that passes
+abbrev pub passing : {X : Type 0} → (X → Bool) → Option X → Option X
+passing t None = None
+passing t (Some x) = cond (t x) (Some x) None
+
+below_all-filter : {X : Type 0} (t : X → Bool) (k : List (List ℕ)) (es : List (List (List ℕ) × X)) → below_all path_cmp k es ≡ true → below_all path_cmp k (filter (λ e. t e.1) es) ≡ true
+below_all-filter t k [] h = refl
+below_all-filter t k (e ∷ es) h =
+    let x = and_parts (is_lt (path_cmp k e.0)) (below_all path_cmp k es) h in
+    let rest = below_all-filter t k es x.1 in
+    elim (t e.1) as (λ b. below_all path_cmp k (cond b (e ∷ filter (λ f. t f.1) es) (filter (λ f. t f.1) es)) ≡ true) [ true ↦ and_from _ _ x.0 rest | false ↦ rest ]
+
+-- the entries whose values pass stand in order
+pub is_sorted-filter : {X : Type 0} (t : X → Bool) (es : List (List (List ℕ) × X)) → is_sorted path_cmp es ≡ true → is_sorted path_cmp (filter (λ e. t e.1) es) ≡ true
+is_sorted-filter t [] h = refl
+is_sorted-filter t (e ∷ es) h =
+    let x = and_parts (below_all path_cmp e.0 es) (is_sorted path_cmp es) h in
+    let rest = is_sorted-filter t es x.1 in
+    elim (t e.1) as (λ b. is_sorted path_cmp (cond b (e ∷ filter (λ f. t f.1) es) (filter (λ f. t f.1) es)) ≡ true) [ true ↦ and_from _ _ (below_all-filter t e.0 es x.0) rest | false ↦ rest ]
+
+-- and each is found that passes
+find-filter : {X : Type 0} (t : X → Bool) (q : List (List ℕ)) (es : List (List (List ℕ) × X)) → is_sorted path_cmp es ≡ true → find path_cmp q (filter (λ e. t e.1) es) ≡ passing t (find path_cmp q es)
+find-filter t q [] h = refl
+find-filter t q (e ∷ es) h =
+    let x = and_parts (below_all path_cmp e.0 es) (is_sorted path_cmp es) h in
+    let rest = find-filter t q es x.1 in
+    let kept = filter (λ f. t f.1) es in
+    elim (eq_by_cmp path_cmp q e.0) as (λ b. eq_by_cmp path_cmp q e.0 ≡ b → find path_cmp q (cond (t e.1) (e ∷ kept) kept) ≡ passing t (cond b (Some e.1) (find path_cmp q es))) [
+      | true ↦ λ same.
+          let none : find path_cmp q es ≡ None = ap (λ k. find path_cmp k es) (same_path q e.0 same) ∙ not_found e.0 e.0 (prefix_self e.0) es (T_from_true _ x.0) in
+          elim (t e.1) as (λ b. find path_cmp q (cond b (e ∷ kept) kept) ≡ cond b (Some e.1) None) [
+            | true ↦ ap (λ b. cond b (Some e.1) (find path_cmp q kept)) same
+            | false ↦ rest ∙ ap (passing t) none
+          ]
+      | false ↦ λ apart.
+          elim (t e.1) as (λ b. find path_cmp q (cond b (e ∷ kept) kept) ≡ passing t (find path_cmp q es)) [
+            | true ↦ ap (λ b. cond b (Some e.1) (find path_cmp q kept)) apart ∙ rest
+            | false ↦ rest
+          ]
+    ] refl
+
+abbrev pub no_hide : {C : Type 0} → Marked C → Bool
+no_hide m = not (is_hide m.entry)
+
+abbrev pub shown : {C : Type 0} → Marked C → Entry C
+shown m = as_shown m.entry
+
+-- what a marked entry lets be seen of it
+abbrev pub seen_of : {C : Type 0} → Option (Marked C) → Option (Entry C)
+seen_of o = option_map shown (passing no_hide o)
 
 nothing_there : {X : Type 0} (o : Option X) → ¬ (is_some o ≡ true) → o ≡ None
 nothing_there None not = refl
@@ -74,37 +122,44 @@ module _ {C : Type 0} where
   absent_of : (o : Option (Marked C)) (b : Bool) → overlay_of o b ≡ absent → (o ≡ None) × (b ≡ false)
   absent_of None false h = (refl, refl)
   absent_of None true h = absurd (cc)
-  absent_of (Some m) b h = absurd (cc)
+  absent_of (Some m) b h = elim (is_hide m.entry) as (λ c. cond c hidden (visible (as_shown m.entry)) ≡ absent → (Some m ≡ None) × (b ≡ false)) [ true ↦ λ is. absurd (cc) | false ↦ λ is. absurd (cc) ] h
 
-  visible_of : (o : Option (Marked C)) (b : Bool) (e : Entry C) → overlay_of o b ≡ visible e → option_map without_mark o ≡ Some e
+  visible_of : (o : Option (Marked C)) (b : Bool) (e : Entry C) → overlay_of o b ≡ visible e → seen_of o ≡ Some e
   visible_of None false e h = absurd (cc)
   visible_of None true e h = absurd (cc)
-  visible_of (Some m) b e h = cc
+  visible_of (Some m) b e h = elim (is_hide m.entry) as (λ c. cond c hidden (visible (as_shown m.entry)) ≡ visible e → option_map shown (cond (not c) (Some m) None) ≡ Some e) [ true ↦ λ is. absurd (cc) | false ↦ λ is. cc ] h
 
-  of_visible : (o : Option (Marked C)) (b : Bool) (e : Entry C) → option_map without_mark o ≡ Some e → overlay_of o b ≡ visible e
+  of_visible : (o : Option (Marked C)) (b : Bool) (e : Entry C) → seen_of o ≡ Some e → overlay_of o b ≡ visible e
   of_visible None b e h = absurd (cc)
-  of_visible (Some m) b e h = cc
+  of_visible (Some m) b e h = elim (is_hide m.entry) as (λ c. option_map shown (cond (not c) (Some m) None) ≡ Some e → cond c hidden (visible (as_shown m.entry)) ≡ visible e) [ true ↦ λ is. absurd (cc) | false ↦ λ is. cc ] h
 
-  -- what is visible in a list, with and without marks
-  pub lookup_unmarked : (ms : MarkedEntries C) (p : List (List ℕ)) → lookup (unmarked ms) p ≡ option_map without_mark (find path_cmp p ms)
-  lookup_unmarked ms p = find-map without_mark p ms
+  -- what is visible of a list in order, with and without marks
+  pub lookup_visible : (ms : MarkedEntries C) (p : List (List ℕ)) → is_sorted path_cmp ms ≡ true → lookup (visible_in ms) p ≡ seen_of (find path_cmp p ms)
+  lookup_visible ms p sorted = find-map shown p (filter (λ m. no_hide m.1) ms) ∙ ap (option_map shown) (find-filter no_hide p ms sorted)
 
-  pub visible_unmarked : (ms : MarkedEntries C) (p : List (List ℕ)) (e : Entry C) → overlay_at ms p ≡ visible e → lookup (unmarked ms) p ≡ Some e
-  visible_unmarked ms p e h = lookup_unmarked ms p ∙ visible_of (find path_cmp p ms) _ e h
+  pub visible_found : (ms : MarkedEntries C) (p : List (List ℕ)) (e : Entry C) → is_sorted path_cmp ms ≡ true → overlay_at ms p ≡ visible e → lookup (visible_in ms) p ≡ Some e
+  visible_found ms p e sorted h = lookup_visible ms p sorted ∙ visible_of (find path_cmp p ms) _ e h
 
-  pub unmarked_visible : (ms : MarkedEntries C) (p : List (List ℕ)) (e : Entry C) → lookup (unmarked ms) p ≡ Some e → overlay_at ms p ≡ visible e
-  unmarked_visible ms p e h = of_visible (find path_cmp p ms) _ e (sym (lookup_unmarked ms p) ∙ h)
+  pub found_visible : (ms : MarkedEntries C) (p : List (List ℕ)) (e : Entry C) → is_sorted path_cmp ms ≡ true → lookup (visible_in ms) p ≡ Some e → overlay_at ms p ≡ visible e
+  found_visible ms p e sorted h = of_visible (find path_cmp p ms) _ e (sym (lookup_visible ms p sorted) ∙ h)
 
-  twice : (o : Option (Entry C)) → option_map without_mark (option_map with_mark o) ≡ o
-  twice None = refl
-  twice (Some e) = refl
+  -- in a single layer what it has is visible as it shows, where it is no whiteout
+  layer_visible : (es : Entries C) (p : List (List ℕ)) (stored : Entry C) → lookup es p ≡ Some stored → not (is_hide stored) ≡ true → overlay_at (marked es) p ≡ visible (as_shown stored)
+  layer_visible es p stored h bare =
+      ap (λ o. overlay_of o (some_prefix (λ q. cuts_at (find path_cmp q (marked es))) p)) (find_marked es p ∙ ap (option_map with_mark) h)
+      ∙ ap (λ b. cond b hidden (visible (as_shown stored))) (not-true _ bare)
 
-  -- in a single layer what it has is visible
-  layer_visible : (es : Entries C) (p : List (List ℕ)) (e : Entry C) → lookup es p ≡ Some e → overlay_at (marked es) p ≡ visible e
-  layer_visible es p e h = of_visible (find path_cmp p (marked es)) _ e (ap (option_map without_mark) (find_marked es p) ∙ twice (lookup es p) ∙ h)
+  -- what is visible of what stands in a layer
+  seen_stored : (o : Option (Entry C)) (e : Entry C) → seen_of (option_map with_mark o) ≡ Some e → (stored : Entry C) × (o ≡ Some stored) × (not (is_hide stored) ≡ true) × (e ≡ as_shown stored)
+  seen_stored None e h = absurd (cc)
+  seen_stored (Some stored) e h =
+      elim (is_hide stored) as (λ b. is_hide stored ≡ b → option_map shown (cond (not b) (Some (with_mark stored)) None) ≡ Some e → (s : Entry C) × (Some stored ≡ Some s) × (not (is_hide s) ≡ true) × (e ≡ as_shown s)) [
+        | true ↦ λ t is. absurd (cc)
+        | false ↦ λ t is. (stored, refl, ap not t, cc)
+      ] refl h
 
-  visible_layer : (es : Entries C) (p : List (List ℕ)) (e : Entry C) → overlay_at (marked es) p ≡ visible e → lookup es p ≡ Some e
-  visible_layer es p e h = sym (ap (option_map without_mark) (find_marked es p) ∙ twice (lookup es p)) ∙ visible_of (find path_cmp p (marked es)) _ e h
+  visible_layer : (es : Entries C) (p : List (List ℕ)) (e : Entry C) → overlay_at (marked es) p ≡ visible e → (stored : Entry C) × (lookup es p ≡ Some stored) × (not (is_hide stored) ≡ true) × (e ≡ as_shown stored)
+  visible_layer es p e h = seen_stored (lookup es p) e (ap seen_of (sym (find_marked es p)) ∙ visible_of (find path_cmp p (marked es)) _ e h)
 
   not_marked : (o : Option (Entry C)) → option_map with_mark o ≡ None → o ≡ None
   not_marked None h = refl
@@ -129,22 +184,24 @@ module _ {C : Type 0} where
       ]
 
   -- what layers say is what is visible
-  open_layers : (above : List (Entries C)) (layer : Entries C) (below : List (Entries C)) (p : List (List ℕ)) (e : Entry C) → lookup layer p ≡ Some e → AllByRecursion (λ es. ¬ CutsOff es p) above → layers_overlay (above ++ layer ∷ below) p ≡ visible e
-  open_layers [] layer below p e stands open_ = ap (λ v. first_of_two v (layers_overlay below p)) (layer_visible layer p e stands)
-  open_layers (a ∷ above) layer below p e stands open_ = ap (λ v. first_of_two v (layers_overlay (above ++ layer ∷ below) p)) (open_absent a p open_.0) ∙ open_layers above layer below p e stands open_.1
+  open_layers : (above : List (Entries C)) (layer : Entries C) (below : List (Entries C)) (p : List (List ℕ)) (stored : Entry C) → lookup layer p ≡ Some stored → not (is_hide stored) ≡ true → AllByRecursion (λ es. ¬ CutsOff es p) above → layers_overlay (above ++ layer ∷ below) p ≡ visible (as_shown stored)
+  open_layers [] layer below p stored stands bare open_ = ap (λ v. first_of_two v (layers_overlay below p)) (layer_visible layer p stored stands bare)
+  open_layers (a ∷ above) layer below p stored stands bare open_ = ap (λ v. first_of_two v (layers_overlay (above ++ layer ∷ below) p)) (open_absent a p open_.0) ∙ open_layers above layer below p stored stands bare open_.1
 
   pub overlay_from_visible : (layers : List (Entries C)) (p : List (List ℕ)) (e : Entry C) → IsVisible layers p e → layers_overlay layers p ≡ visible e
-  overlay_from_visible layers p e v = ap (λ l. layers_overlay l p) v.split ∙ open_layers v.above v.layer v.below p e v.stands v.open_
+  overlay_from_visible layers p e v = ap (λ l. layers_overlay l p) v.split ∙ open_layers v.above v.layer v.below p v.stored v.stands v.no_hide v.open_ ∙ ap visible (sym v.shown)
 
   one_higher : (a : Entries C) (layers : List (Entries C)) (p : List (List ℕ)) (e : Entry C) → ¬ CutsOff a p → IsVisible layers p e → IsVisible (a ∷ layers) p e
-  one_higher a layers p e open_ v = record { above = a ∷ v.above; layer = v.layer; below = v.below; split = ap (λ l. a ∷ l) v.split; stands = v.stands; open_ = (open_, v.open_) }
+  one_higher a layers p e open_ v = record { above = a ∷ v.above; layer = v.layer; below = v.below; split = ap (λ l. a ∷ l) v.split; stored = v.stored; stands = v.stands; no_hide = v.no_hide; shown = v.shown; open_ = (open_, v.open_) }
 
   pub visible_from_overlay : (layers : List (Entries C)) (p : List (List ℕ)) (e : Entry C) → layers_overlay layers p ≡ visible e → IsVisible layers p e
   visible_from_overlay [] p e h = absurd (cc)
   visible_from_overlay (a ∷ layers) p e h =
       let rest = visible_from_overlay layers p e in
       elim (overlay_at (marked a) p) as (λ v. overlay_at (marked a) p ≡ v → first_of_two v (layers_overlay layers p) ≡ visible e → IsVisible (a ∷ layers) p e) [
-        | visible d ↦ λ is says. record { above = []; layer = a; below = layers; split = refl; stands = visible_layer a p e (is ∙ says); open_ = tt }
+        | visible d ↦ λ is says.
+            let x = visible_layer a p e (is ∙ says) in
+            record { above = []; layer = a; below = layers; split = refl; stored = x.0; stands = x.1; no_hide = x.2; shown = x.3; open_ = tt }
         | hidden ↦ λ is says. absurd (cc)
         | absent ↦ λ is says. one_higher a layers p e (absent_open a p is) (rest says)
       ] refl h

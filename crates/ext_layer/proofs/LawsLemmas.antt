@@ -1,5 +1,5 @@
 -- The laws of layered trees.
-use Rattle.std.proofs.Common.{◌≡◌, ℕ, zero, ◌<◌, ◌≤◌, Bool, true, false, cond, ◌&&◌, List, [], ◌∷◌, ◌++◌, length, Option, Some, None, is_some, refl, sym, ap, ◌∙◌, subst, arith}
+use Rattle.std.proofs.Common.{◌≡◌, ℕ, zero, true, false, cond, not, List, [], ◌∷◌, ◌++◌, Option, Some, None, is_some, refl, sym, ap, ◌∙◌, subst, arith}
 use Rattle.std.proofs.lemmas.Bool.{false≢true, and_parts}
 use Rattle.std.proofs.lemmas.Float.{T_from_true}
 use Rattle.std.proofs.lemmas.List.Elements.{Contains-append_right}
@@ -11,13 +11,13 @@ use Rattle.ext_text.specs.Path.{path_cmp}
 use Rattle.ext_text.specs.Order.{paths_exact, paths_total}
 use Rattle.ext_text.proofs.ForCallers.{all_back}
 use Rattle.ext_text.proofs.ForCallers.{same_path, tied_path, prefix_self}
-use Rattle.ext_tree.specs.Tree.{Entries, lookup, most_entries}
+use Rattle.ext_tree.specs.Tree.{Entries, as_shown, is_file, is_hide, is_opaque, lookup}
 use Rattle.ext_tree.specs.EntryLine.{IsWritable}
 use Rattle.ext_tree.specs.TreeText.{HasText, stamp_form}
 use Rattle.ext_tree.specs.declared.entry.Entry.{Entry}
+use Rattle.ext_tree.specs.declared.entry.Entry.TheVariants.{Dir, Opaque, File, Link, Hide}
 use Rattle.ext_tree.specs.declared.stamp.Stamp.{Stamp}
-use Rattle.ext_layer.specs.Layered.{IsLayered, IsVisible}
-use Rattle.ext_layer.specs.Laws.{EntriesAreOfLayers, IsOfLayer, LayeredHasText, OneLayeredTree}
+use Rattle.ext_layer.specs.Laws.{EntriesAreOfLayers, FilesAreOfLayers, IsOfLayer, LayeredHasText, NothingHides, OneLayeredTree}
 use Rattle.ext_layer.proofs.Prefixes.{not_found}
 
 same_options : {X : Type 0} (o w : Option X) → ((x : X) → o ≡ Some x → w ≡ Some x) → ((x : X) → w ≡ Some x → o ≡ Some x) → o ≡ w
@@ -40,7 +40,42 @@ among above below x = Contains-append_right above (x ∷ below) x (zero, omega a
 pub entries_are_of_layers : {C : Type 0} → EntriesAreOfLayers C
 entries_are_of_layers layers es p e layered stands =
     let v = layered.visible p e stands in
-    record { layer = v.layer; among = subst (λ l. Contains l v.layer) (sym v.split) (among v.above v.below v.layer); stands = v.stands }
+    (v.stored, record { layer = v.layer; among = subst (λ l. Contains l v.layer) (sym v.split) (among v.above v.below v.layer); stands = v.stands }, v.shown)
+
+-- what is shown as a file is that file
+file_shown : {C : Type 0} (e : Entry C) → is_file (as_shown e) ≡ true → as_shown e ≡ e
+file_shown (Dir mode) h = absurd (false≢true h)
+file_shown (Opaque mode) h = absurd (false≢true h)
+file_shown (File mode content) h = refl
+file_shown (Link target) h = refl
+file_shown Hide h = refl
+
+pub files_are_of_layers : {C : Type 0} → FilesAreOfLayers C
+files_are_of_layers layers es p e layered stands file =
+    let x = entries_are_of_layers layers es p e layered stands in
+    let same : e ≡ x.0 = x.2 ∙ file_shown x.0 (sym (ap is_file x.2) ∙ file) in
+    subst (IsOfLayer layers p) (sym same) x.1
+
+shown_plain : {C : Type 0} (e : Entry C) → not (is_hide e) ≡ true → (not (is_hide (as_shown e)) ≡ true) × (not (is_opaque (as_shown e)) ≡ true)
+shown_plain (Dir mode) h = (refl, refl)
+shown_plain (Opaque mode) h = (refl, refl)
+shown_plain (File mode content) h = (refl, refl)
+shown_plain (Link target) h = (refl, refl)
+shown_plain Hide h = absurd (false≢true h)
+
+pub nothing_hides : {C : Type 0} → NothingHides C
+nothing_hides layers es p e layered stands =
+    let v = layered.visible p e stands in
+    let x = shown_plain v.stored v.no_hide in
+    (ap (λ f. not (is_hide f)) v.shown ∙ x.0, ap (λ f. not (is_opaque f)) v.shown ∙ x.1)
+
+-- an entry that has a line has one as it shows
+shown_writable : (e : Entry Stamp) → IsWritable stamp_form e → IsWritable stamp_form (as_shown e)
+shown_writable (Dir mode) h = h
+shown_writable (Opaque mode) h = h
+shown_writable (File mode content) h = h
+shown_writable (Link target) h = h
+shown_writable Hide h = h
 
 module _ {C : Type 0} (P : Entry C → Type 0) where
   -- what holds of each entry holds of what stands at a path
@@ -74,5 +109,5 @@ layered_has_text layers es all layered count = record {
   each = all_from_lookup (IsWritable stamp_form) es layered.tree.sorted (λ p e h.
       let v = layered.visible p e h in
       let text : HasText v.layer = (all_back HasText v.above (v.layer ∷ v.below) (subst (AllByRecursion HasText) v.split all)).0 in
-      all_at (IsWritable stamp_form) v.layer p e text.each v.stands);
+      subst (IsWritable stamp_form) (sym v.shown) (shown_writable v.stored (all_at (IsWritable stamp_form) v.layer p v.stored text.each v.stands)));
 }

@@ -1,22 +1,24 @@
 -- What is visible of trees is a tree.
-use Rattle.std.proofs.Common.{◌≡◌, ℕ, ◌<◌, ◌≤◌, Bool, true, false, not, List, [], ◌∷◌, ◌++◌, length, Option, Some, None, is_some, refl, sym, ap, ◌∙◌, subst, arith}
+use Rattle.std.proofs.Common.{◌≡◌, ℕ, ◌<◌, ◌≤◌, Bool, true, false, cond, not, List, [], ◌∷◌, ◌++◌, length, map, take, get_or, ◌+◌, Option, Some, None, is_some, refl, sym, ap, ◌∙◌, subst, arith}
 use mathlib.Core.Logic.{inl, inr}
-use Rattle.std.proofs.lemmas.Bool.{false≢true, and_parts, and_from, not-true, not-false, false_from_ne_true, not_from_false}
-use Rattle.std.proofs.lemmas.List.{length-map}
+use Rattle.std.proofs.lemmas.Bool.{false≢true, and_parts, and_from, not-true, false_from_ne_true, not_from_false}
+use Rattle.std.proofs.lemmas.List.{length-map, map-append, take_more}
 use Rattle.std.specs.Option.{option_map}
-use Rattle.std.specs.List.{AllByRecursion}
-use Rattle.std.specs.FinMap.{find}
+use Rattle.std.specs.Borrow.{Bor}
+use Rattle.std.specs.List.{AllByRecursion, filter}
+use Rattle.std.specs.FinMap.{find, is_sorted}
 use Rattle.ext_text.specs.Path.{path_cmp, is_prefix, parent, is_proper_prefix}
 use Rattle.ext_text.proofs.ForCallers.{all_back}
 use Rattle.ext_text.proofs.ForCallers.{some_name, prefix_both, prefix_trans, parent_prefix, parent_other}
-use Rattle.ext_tree.specs.Tree.{Entries, IsTree, lookup, is_directory, is_directory_at, is_directory_or_root, most_entries}
+use Rattle.ext_tree.specs.Tree.{Entries, IsTree, lookup, as_shown, is_directory, is_directory_at, is_hide, is_directory_or_root, most_entries}
 use Rattle.ext_tree.specs.declared.entry.Entry.{Entry}
+use Rattle.ext_tree.specs.declared.entry.Entry.TheVariants.{Dir, Opaque, File, Link, Hide}
 use Rattle.ext_layer.specs.Layered.{CutsOff, IsLayered, IsVisible, cuts_below}
 use Rattle.ext_layer.specs.declared.item.Item.{Item}
-use Rattle.ext_layer.specs.Item.{seen, all_seen}
+use Rattle.ext_layer.specs.Item.{seen, all_seen, all_shown}
 use Rattle.ext_layer.specs.Joining.{Joins, layers_overlay}
-use Rattle.ext_layer.specs.Overlay.{Marked, MarkedEntries, Overlay, visible, hidden, absent, first_of_two, some_prefix, cuts_at, overlay_of, overlay_at, marked, unmarked, with_mark}
-use Rattle.ext_layer.proofs.JoiningLemmas.{is_sorted-map, without_mark, find_marked, lookup_unmarked, open_above, open_absent, visible_unmarked, unmarked_visible, overlay_from_visible, visible_from_overlay}
+use Rattle.ext_layer.specs.Overlay.{Marked, MarkedEntries, Overlay, visible, hidden, absent, first_of_two, some_prefix, cuts_at, overlay_of, overlay_at, marked, visible_in, with_mark}
+use Rattle.ext_layer.proofs.JoiningLemmas.{is_sorted-map, is_sorted-filter, no_hide, shown, seen_of, find_marked, lookup_visible, open_above, open_absent, visible_found, found_visible, overlay_from_visible, visible_from_overlay}
 
 parent_above : (p : List (List ℕ)) → (p ≡ [] → ⊥) → is_proper_prefix (parent p) p ≡ true
 parent_above p below =
@@ -39,19 +41,31 @@ module _ {C : Type 0} where
   sees_directory hidden = false
   sees_directory absent = false
 
-  directory_of : (o : Option (Marked C)) (b : Bool) → is_directory_at (option_map without_mark o) ≡ sees_directory (overlay_of o b)
+  -- what is shown as a directory is one
+  directory_shown : (e : Entry C) → is_directory (as_shown e) ≡ is_directory e
+  directory_shown (Dir mode) = refl
+  directory_shown (Opaque mode) = refl
+  directory_shown (File mode content) = refl
+  directory_shown (Link target) = refl
+  directory_shown Hide = refl
+
+  directory_of : (o : Option (Marked C)) (b : Bool) → is_directory_at (seen_of o) ≡ sees_directory (overlay_of o b)
   unfolding sees_directory
   directory_of None true = refl
   directory_of None false = refl
-  directory_of (Some x) b = refl
+  directory_of (Some m) b = elim (is_hide m.entry) as (λ c. is_directory_at (option_map shown (cond (not c) (Some m) None)) ≡ sees_directory (cond c hidden (visible (as_shown m.entry)))) [ true ↦ refl | false ↦ refl ]
 
-  directory_unmarked : (ms : MarkedEntries C) (q : List (List ℕ)) → sees_directory (overlay_at ms q) ≡ true → is_directory_at (lookup (unmarked ms) q) ≡ true
-  directory_unmarked ms q h = ap is_directory_at (lookup_unmarked ms q) ∙ directory_of (find path_cmp q ms) _ ∙ h
+  directory_found : (ms : MarkedEntries C) (q : List (List ℕ)) → is_sorted path_cmp ms ≡ true → sees_directory (overlay_at ms q) ≡ true → is_directory_at (lookup (visible_in ms) q) ≡ true
+  directory_found ms q sorted h = ap is_directory_at (lookup_visible ms q sorted) ∙ directory_of (find path_cmp q ms) _ ∙ h
 
   directory_first : (o : Option (Entry C)) (b : Bool) (w : Overlay C) → is_directory_at o ≡ true → sees_directory (first_of_two (overlay_of (option_map with_mark o) b) w) ≡ true
   unfolding sees_directory
   directory_first None b w h = absurd (false≢true h)
-  directory_first (Some e) b w h = h
+  directory_first (Some (Dir mode)) b w h = refl
+  directory_first (Some (Opaque mode)) b w h = refl
+  directory_first (Some (File mode content)) b w h = absurd (false≢true h)
+  directory_first (Some (Link target)) b w h = absurd (false≢true h)
+  directory_first (Some Hide) b w h = absurd (false≢true h)
 
   -- a layer with a directory shows a directory
   directory_here : (es : Entries C) (q : List (List ℕ)) (w : Overlay C) → is_directory_at (lookup es q) ≡ true → sees_directory (first_of_two (overlay_at (marked es) q) w) ≡ true
@@ -66,7 +80,11 @@ module _ {C : Type 0} where
   ]
 
   directory_of_open : (e : Entry C) → cuts_below (Some e) ≡ false → is_directory e ≡ true
-  directory_of_open e h = not-false _ h
+  directory_of_open (Dir mode) h = refl
+  directory_of_open (Opaque mode) h = refl
+  directory_of_open (File mode content) h = absurd (false≢true (sym h))
+  directory_of_open (Link target) h = absurd (false≢true (sym h))
+  directory_of_open Hide h = absurd (false≢true (sym h))
 
   -- below layers that do not cut off a path, a directory above the path is visible as a directory
   directory_layers : (above : List (Entries C)) (layer : Entries C) (below : List (Entries C)) (q p : List (List ℕ)) → AllByRecursion (λ es. ¬ CutsOff es p) above → is_proper_prefix q p ≡ true → is_directory_at (lookup layer q) ≡ true → sees_directory (layers_overlay (above ++ layer ∷ below) q) ≡ true
@@ -82,10 +100,10 @@ module _ {C : Type 0} where
   directory_at layer es [] h dir = refl
   directory_at layer es (n ∷ q) h dir = dir h
 
-  pub layered_from_joins : (layers : List (Entries C)) (ms : MarkedEntries C) → Joins layers ms → IsLayered layers (unmarked ms)
+  pub layered_from_joins : (layers : List (Entries C)) (ms : MarkedEntries C) → Joins layers ms → IsLayered layers (visible_in ms)
   layered_from_joins layers ms joins =
-      let es = unmarked ms in
-      let found : (p : List (List ℕ)) (e : Entry C) → lookup es p ≡ Some e → IsVisible layers p e = λ p e h. visible_from_overlay layers p e (sym (joins.says p) ∙ unmarked_visible ms p e h) in
+      let es = visible_in ms in
+      let found : (p : List (List ℕ)) (e : Entry C) → lookup es p ≡ Some e → IsVisible layers p e = λ p e h. visible_from_overlay layers p e (sym (joins.says p) ∙ found_visible ms p e joins.sorted h) in
       let tree_of : (p : List (List ℕ)) (e : Entry C) (v : IsVisible layers p e) → IsTree v.layer = λ p e v. (all_back IsTree v.above (v.layer ∷ v.below) (subst (AllByRecursion IsTree) v.split joins.trees)).0 in
       let root : lookup es [] ≡ None = elim (lookup es []) as (λ o. lookup es [] ≡ o → o ≡ None) [
         | None ↦ λ h. refl
@@ -93,7 +111,7 @@ module _ {C : Type 0} where
       ] refl in
       record {
         tree = record {
-          sorted = is_sorted-map without_mark ms ∙ joins.sorted;
+          sorted = is_sorted-map (shown {C = C}) (filter (λ m. no_hide m.1) ms) ∙ is_sorted-filter no_hide ms joins.sorted;
           root = root;
           paths = λ p h. let x = some_of (lookup es p) h in let v = found p x.0 x.1 in (tree_of p x.0 v).paths p (ap is_some v.stands);
           parents = λ p h.
@@ -101,26 +119,37 @@ module _ {C : Type 0} where
               let v = found p x.0 x.1 in
               let below_root : p ≡ [] → ⊥ = λ e. false≢true (ap is_some (sym root) ∙ ap (λ q. is_some (lookup es q)) (sym e) ∙ h) in
               directory_at v.layer es (parent p) ((tree_of p x.0 v).parents p (ap is_some v.stands)) (λ is.
-              directory_unmarked ms (parent p) (ap sees_directory (joins.says (parent p) ∙ ap (λ l. layers_overlay l (parent p)) v.split) ∙ directory_layers v.above v.layer v.below (parent p) p v.open_ (parent_above p below_root) is));
+              directory_found ms (parent p) joins.sorted (ap sees_directory (joins.says (parent p) ∙ ap (λ l. layers_overlay l (parent p)) v.split) ∙ directory_layers v.above v.layer v.below (parent p) p v.open_ (parent_above p below_root) is));
         };
         visible = found;
-        whole = λ p e v. visible_unmarked ms p e (joins.says p ∙ overlay_from_visible layers p e v);
+        whole = λ p e v. visible_found ms p e joins.sorted (joins.says p ∙ overlay_from_visible layers p e v);
       }
 
-  -- the joined items as the tree of what is visible, and its number of entries
-  visible_at : (host : Entries C) (items : List (Item C)) {layers lists : List (Entries C)} {pairs : Entries C} → Joins (lists ++ host ∷ []) (all_seen items) → lists ≡ layers → pairs ≡ unmarked (all_seen items) → IsLayered (layers ++ host ∷ []) pairs × (length pairs ≡ length items)
-  visible_at host items {lists = lists} {pairs = pairs} joins same is = (
-    subst (λ l. IsLayered (l ++ host ∷ []) pairs) same (subst (IsLayered (lists ++ host ∷ [])) (sym is) (layered_from_joins (lists ++ host ∷ []) (all_seen items) joins)),
-    ap length is ∙ length-map (all_seen items) (λ m. (m.0, m.1.entry)) ∙ length-map items seen,
-  )
+  -- the visible entries of the joined items as the tree of what is visible
+  visible_at : (host : Entries C) (items : List (Item C)) {layers lists : List (Entries C)} {pairs : Entries C} → Joins (lists ++ host ∷ []) (all_seen items) → lists ≡ layers → pairs ≡ visible_in (all_seen items) → IsLayered (layers ++ host ∷ []) pairs
+  visible_at host items {lists = lists} {pairs = pairs} joins same is =
+      subst (λ l. IsLayered (l ++ host ∷ []) pairs) same (subst (IsLayered (lists ++ host ∷ [])) (sym is) (layered_from_joins (lists ++ host ∷ []) (all_seen items) joins))
 
-  pub too_many_at : (host : Entries C) (items slice : List (Item C)) {layers lists : List (Entries C)} → Joins (lists ++ host ∷ []) (all_seen items) → lists ≡ layers → slice ≡ items → most_entries < length slice → (es : Entries C) × IsLayered (layers ++ host ∷ []) es × (most_entries < length es)
-  too_many_at host items slice joins same is over =
-      let x = visible_at host items joins same refl in
-      (unmarked (all_seen items), x.0, subst (λ n. most_entries < n) (ap length is ∙ sym x.1) over)
+  pub too_many_at : (host : Entries C) (items slice : List (Item C)) (pairs counted : List (Bor (List (List ℕ) × Entry C))) {layers lists : List (Entries C)} → Joins (lists ++ host ∷ []) (all_seen items) → lists ≡ layers → slice ≡ items → all_shown pairs ≡ visible_in (all_seen slice) → counted ≡ pairs → most_entries < length counted → (es : Entries C) × IsLayered (layers ++ host ∷ []) es × (most_entries < length es)
+  too_many_at host items slice pairs counted joins same slice-is is counted-is over =
+      (all_shown pairs, visible_at host items joins same (is ∙ ap (λ l. visible_in (all_seen l)) slice-is), subst (λ n. most_entries < n) (ap length counted-is ∙ sym (length-map pairs (λ r. (r.now.0, as_shown r.now.1)))) over)
 
-  pub within_at : (host : Entries C) (items slice counted : List (Item C)) {layers lists : List (Entries C)} {pairs : Entries C} → Joins (lists ++ host ∷ []) (all_seen items) → lists ≡ layers → counted ≡ items → ¬ (most_entries < length counted) → slice ≡ items → pairs ≡ unmarked (all_seen slice) → IsLayered (layers ++ host ∷ []) pairs × (length pairs ≤ most_entries)
-  within_at host items slice counted joins same counted-is within slice-is is =
-      let x = visible_at host items joins same (is ∙ ap (λ l. unmarked (all_seen l)) slice-is) in
+  pub within_at : (host : Entries C) (items slice : List (Item C)) (pairs counted : List (Bor (List (List ℕ) × Entry C))) {layers lists : List (Entries C)} → Joins (lists ++ host ∷ []) (all_seen items) → lists ≡ layers → slice ≡ items → all_shown pairs ≡ visible_in (all_seen slice) → counted ≡ pairs → ¬ (most_entries < length counted) → IsLayered (layers ++ host ∷ []) (all_shown pairs) × (length (all_shown pairs) ≤ most_entries)
+  within_at host items slice pairs counted joins same slice-is is counted-is within =
       let at_most : length counted ≤ most_entries = omega arith in
-      (x.0, subst (λ n. n ≤ most_entries) (ap length counted-is ∙ sym x.1) at_most)
+      (visible_at host items joins same (is ∙ ap (λ l. visible_in (all_seen l)) slice-is), subst (λ n. n ≤ most_entries) (ap length counted-is ∙ sym (length-map pairs (λ r. (r.now.0, as_shown r.now.1)))) at_most)
+
+  -- one item more
+  visible_append : (ms ns : MarkedEntries C) → visible_in (ms ++ ns) ≡ visible_in ms ++ visible_in ns
+  visible_append [] ns = refl
+  visible_append (m ∷ ms) ns =
+      let rest = visible_append ms ns in
+      elim (is_hide m.1.entry) as (λ b. map (λ k. (k.0, as_shown k.1.entry)) (cond (not b) (m ∷ filter (λ k. not (is_hide k.1.entry)) (ms ++ ns)) (filter (λ k. not (is_hide k.1.entry)) (ms ++ ns))) ≡ map (λ k. (k.0, as_shown k.1.entry)) (cond (not b) (m ∷ filter (λ k. not (is_hide k.1.entry)) ms) (filter (λ k. not (is_hide k.1.entry)) ms)) ++ visible_in ns) [
+        | true ↦ rest
+        | false ↦ ap (λ l. (m.0, as_shown m.1.entry) ∷ l) rest
+      ]
+
+  pub pushed : (items : List (Item C)) (i : ℕ) (item : Item C) (pairs more : Entries C) → i < length items → item ≡ get_or items i item → pairs ≡ visible_in (all_seen (take i items)) → more ≡ pairs ++ visible_in (seen item ∷ []) → more ≡ visible_in (all_seen (take (i + 1) items))
+  pushed items i item pairs more lt item-is is more-is =
+      let longer : take (i + 1) items ≡ take i items ++ item ∷ [] = take_more items i item lt ∙ ap (λ x. take i items ++ x ∷ []) (sym item-is) in
+      more-is ∙ ap (λ l. l ++ visible_in (seen item ∷ [])) is ∙ sym (visible_append (all_seen (take i items)) (seen item ∷ [])) ∙ ap visible_in (sym (map-append seen (take i items) (item ∷ []))) ∙ ap (λ l. visible_in (all_seen l)) (sym longer)

@@ -1,6 +1,6 @@
 -- What marked lists say at each path: an upper list laid over a lower one says what the upper one says, and where
 -- nothing is there what the lower one says.
-use Rattle.std.proofs.Common.{◌≡◌, ℕ, Bool, true, false, cond, not, ◌||◌, T, List, [], ◌∷◌, ◌++◌, Option, Some, None, refl, sym, ap, ◌∙◌, subst}
+use Rattle.std.proofs.Common.{◌≡◌, ℕ, Bool, true, false, cond, not, ◌||◌, T, List, [], ◌∷◌, Option, Some, None, refl, sym, ap, ◌∙◌, subst}
 use Rattle.std.proofs.Math.Bool.{or-false}
 use Rattle.std.proofs.lemmas.Bool.{false≢true, false_from_ne_true, and_parts}
 use Rattle.std.proofs.lemmas.Float.{T_from_true}
@@ -11,7 +11,9 @@ use Rattle.ext_text.specs.Path.{path_cmp, is_prefix}
 use Rattle.ext_text.specs.Order.{paths_exact, paths_total}
 use Rattle.ext_text.proofs.ForCallers.{true_from_T}
 use Rattle.ext_text.proofs.ForCallers.{same_path, tied_path, prefix_self, prefix_trans}
-use Rattle.ext_layer.specs.Overlay.{Marked, MarkedEntries, Overlay, visible, hidden, absent, first_of_two, some_prefix, cuts_at, overlay_of, overlay_at, hides, over_entry, lay, over}
+use Rattle.ext_tree.specs.Tree.{as_shown, is_hide}
+use Rattle.ext_tree.specs.declared.entry.Entry.{Entry}
+use Rattle.ext_layer.specs.Overlay.{Marked, MarkedEntries, Overlay, visible, hidden, absent, first_of_two, some_prefix, cuts_at, overlay_of, overlay_at, said_by, hides, over_entry, lay, over}
 use Rattle.ext_layer.proofs.Prefixes.{not_found, some_prefix-same, some_prefix-none, some_prefix-at, some_prefix-or}
 
 pub first_assoc : {C : Type 0} (a b c : Overlay C) → first_of_two (first_of_two a b) c ≡ first_of_two a (first_of_two b c)
@@ -20,6 +22,10 @@ first_assoc hidden b c = refl
 first_assoc absent b c = refl
 
 module _ {C : Type 0} where
+  -- what an entry says decides
+  said_first : (e : Entry C) (w : Overlay C) → first_of_two (said_by e) w ≡ said_by e
+  said_first e w = elim (is_hide e) as (λ b. first_of_two (cond b hidden (visible (as_shown e))) w ≡ cond b hidden (visible (as_shown e))) [ true ↦ refl | false ↦ refl ]
+
   -- the mark of an entry that is laid over a list
   abbrev laid : List (List ℕ) × Marked C → MarkedEntries C → Marked C
   laid u ls = over_entry u.1 (find path_cmp u.0 ls)
@@ -94,12 +100,12 @@ module _ {C : Type 0} where
       ] in
       ap (λ o. overlay_of o cut_laid) (find_lay u ls p)
       ∙ elim (eq_by_cmp path_cmp p u.0) as (λ b. eq_by_cmp path_cmp p u.0 ≡ b → overlay_of (cond b (Some (laid u ls)) (cond (not (hides u p)) (find path_cmp p ls) None)) cut_laid ≡ first_of_two (overlay_of (cond b (Some u.1) None) cut_one) (overlay_of (find path_cmp p ls) cut_list)) [
-        | true ↦ λ t. refl
+        | true ↦ λ t. sym (said_first u.1.entry (overlay_of (find path_cmp p ls) cut_list))
         | false ↦ λ t. over_it (hides u p) refl t
       ] refl
 
   overlay_of_or : (o : Option (Marked C)) (a b : Bool) → overlay_of o (a || b) ≡ first_of_two (overlay_of o a) (overlay_of None b)
-  overlay_of_or (Some x) a b = refl
+  overlay_of_or (Some x) a b = sym (said_first x.entry (overlay_of None b))
   overlay_of_or None true b = refl
   overlay_of_or None false b = refl
 
@@ -119,7 +125,7 @@ module _ {C : Type 0} where
       ∙ elim (eq_by_cmp path_cmp p u.0) as (λ b. eq_by_cmp path_cmp p u.0 ≡ b → overlay_of (cond b (Some u.1) (find path_cmp p us)) (cut_rest || cut_one) ≡ first_of_two (overlay_of (find path_cmp p us) cut_rest) (overlay_of (cond b (Some u.1) None) cut_one)) [
         | true ↦ λ t.
             let rest : cut_rest ≡ false = some_prefix-none _ p (λ q f. ap cuts_at (gone q (subst (λ z. is_prefix q z ≡ true) (same_path p u.0 t) f))) in
-            sym ((λ i. first_of_two (overlay_of (here p t i) (rest i)) (visible u.1.entry)))
+            sym ((λ i. first_of_two (overlay_of (here p t i) (rest i)) (said_by u.1.entry)))
         | false ↦ λ t. overlay_of_or (find path_cmp p us) cut_rest cut_one
       ] refl
 

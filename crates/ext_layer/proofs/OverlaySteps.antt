@@ -1,6 +1,6 @@
 -- Where an upper entry lies in a lower list: after what stands before its path, in place of the entries that it hides,
 -- which stand one after another.
-use Rattle.std.proofs.Common.{◌≡◌, ℕ, zero, suc, ◌+◌, ◌<◌, Bool, true, false, cond, not, ◌&&◌, ◌||◌, T, List, [], ◌∷◌, ◌++◌, length, get_or, take, drop, Some, None, refl, sym, ap, ◌∙◌, subst, arith}
+use Rattle.std.proofs.Common.{◌≡◌, ℕ, zero, suc, ◌+◌, ◌<◌, Bool, true, false, cond, not, T, List, [], ◌∷◌, ◌++◌, length, get_or, take, drop, Some, None, refl, sym, ap, ◌∙◌, subst, arith}
 use Rattle.std.proofs.lemmas.Bool.{false≢true, false_from_ne_true, and_parts, and_from, not-true}
 use Rattle.std.proofs.lemmas.Float.{T_from_true}
 use Rattle.std.specs.declared.cmp.Ordering.TheVariants.{Less, Equal, Greater}
@@ -14,8 +14,8 @@ use Rattle.ext_text.specs.Order.{paths_exact, paths_total}
 use Rattle.ext_text.proofs.ForCallers.{true_from_T, is_less, is_greater}
 use Rattle.ext_text.proofs.ForCallers.{same_path, tied_path, prefix_self, prefix_order, convex}
 use Rattle.ext_tree.specs.InsertionPoint.{insertion_point, is_past}
-use Rattle.ext_tree.proofs.InsertionPointLemmas.{below_at}
-use Rattle.ext_layer.specs.Overlay.{Marked, MarkedEntries, cuts_at, hides, over_entry, first_at, lay, over, count_hidden}
+use Rattle.ext_tree.proofs.ForCallers.{below_at}
+use Rattle.ext_layer.specs.Overlay.{Marked, MarkedEntries, hides, over_entry, first_at, lay, over, count_hidden}
 use Rattle.ext_layer.proofs.Prefixes.{not_found}
 
 -- what follows the first elements of a list that pass a test

@@ -1,7 +1,7 @@
 -- Laws of layered trees.
-use Rattle.std.specs.Prelude.{◌≡◌, ℕ, ◌≤◌, List, length, Some}
+use Rattle.std.specs.Prelude.{◌≡◌, ℕ, ◌≤◌, not, List, length, IsTrue, Some}
 use Rattle.std.specs.List.{AllByRecursion, Contains}
-use Rattle.ext_tree.specs.Tree.{Entries, lookup, most_entries}
+use Rattle.ext_tree.specs.Tree.{Entries, as_shown, is_file, is_hide, is_opaque, lookup, most_entries}
 use Rattle.ext_tree.specs.TreeText.{HasText}
 use Rattle.ext_tree.specs.declared.entry.Entry.{Entry}
 use Rattle.ext_tree.specs.declared.stamp.Stamp.{Stamp}
@@ -17,9 +17,17 @@ pub record IsOfLayer {C : Type 0} (layers : List (Entries C)) (p : List (List �
   pub among : Contains layers layer
   pub stands : lookup layer p ≡ Some e
 
--- each entry of a layered tree is an entry of one of the layers, at the same path
+-- each entry of a layered tree is one of the layers' entries at the same path, as it shows
 abbrev pub EntriesAreOfLayers : Type 0 → Type 0
-EntriesAreOfLayers C = (layers : List (Entries C)) (es : Entries C) (p : List (List ℕ)) (e : Entry C) → IsLayered layers es → lookup es p ≡ Some e → IsOfLayer layers p e
+EntriesAreOfLayers C = (layers : List (Entries C)) (es : Entries C) (p : List (List ℕ)) (e : Entry C) → IsLayered layers es → lookup es p ≡ Some e → (stored : Entry C) × IsOfLayer layers p stored × (e ≡ as_shown stored)
+
+-- each file of a layered tree is a file of one of the layers at the same path
+abbrev pub FilesAreOfLayers : Type 0 → Type 0
+FilesAreOfLayers C = (layers : List (Entries C)) (es : Entries C) (p : List (List ℕ)) (e : Entry C) → IsLayered layers es → lookup es p ≡ Some e → IsTrue (is_file e) → IsOfLayer layers p e
+
+-- a layered tree has no whiteout and no opaque directory
+abbrev pub NothingHides : Type 0 → Type 0
+NothingHides C = (layers : List (Entries C)) (es : Entries C) (p : List (List ℕ)) (e : Entry C) → IsLayered layers es → lookup es p ≡ Some e → IsTrue (not (is_hide e)) × IsTrue (not (is_opaque e))
 
 -- the layered tree of trees that have texts has one, where it is within the limit
 abbrev pub LayeredHasText : Type 0

@@ -1,14 +1,15 @@
 -- How layers are joined two by two. A list of marked entries says at each path what joined layers say there: an entry is
 -- visible, or what lower layers have is hidden, or nothing is there and what they have comes through. The first layer
--- that says something decides. A mark says that the entry cuts: nothing of lower layers comes through below it. A file
--- and a link cut, and so does a directory that lies over an entry that cuts.
-use Rattle.std.specs.Prelude.{◌≡◌, ℕ, Bool, true, false, if◌then◌else◌, not, ◌&&◌, ◌||◌, List, [], ◌∷◌, map, Option, Some, None}
+-- that says something decides. A mark says that the entry cuts: nothing of lower layers comes through below it. All cut
+-- but directories that are not opaque, and so does such a directory that lies over an entry that cuts. A whiteout hides
+-- what lies under it, and stays in the list to do so.
+use Rattle.std.specs.Prelude.{ℕ, Bool, true, false, if◌then◌else◌, not, ◌||◌, List, [], ◌∷◌, map, Option, Some, None}
 use Rattle.std.specs.FinMap.{find, put}
 use Rattle.std.specs.FinMap.Entries.{where_key}
-use Rattle.std.specs.List.{prefix_len}
+use Rattle.std.specs.List.{filter, prefix_len}
 use Rattle.std.specs.Ordering.{eq_by_cmp}
 use Rattle.ext_text.specs.Path.{path_cmp, is_prefix}
-use Rattle.ext_tree.specs.Tree.{Entries}
+use Rattle.ext_tree.specs.Tree.{Entries, as_shown, is_hide}
 use Rattle.ext_tree.specs.declared.entry.Entry.{Entry}
 use Rattle.ext_layer.specs.Layered.{cuts_below}
 
@@ -41,9 +42,9 @@ with_mark e = record { entry = e; cuts = cuts_below (Some e) }
 abbrev pub marked : {C : Type 0} → Entries C → MarkedEntries C
 marked es = map (λ e. (e.0, with_mark e.1)) es
 
--- the entries without their marks
-abbrev pub unmarked : {C : Type 0} → MarkedEntries C → Entries C
-unmarked ms = map (λ m. (m.0, m.1.entry)) ms
+-- the entries that are visible, as they show
+abbrev pub visible_in : {C : Type 0} → MarkedEntries C → Entries C
+visible_in ms = map (λ m. (m.0, as_shown m.1.entry)) (filter (λ m. not (is_hide m.1.entry)) ms)
 
 -- what stands there cuts
 abbrev pub cuts_at : {C : Type 0} → Option (Marked C) → Bool
@@ -55,9 +56,13 @@ abbrev pub some_prefix : (List (List ℕ) → Bool) → List (List ℕ) → Bool
 some_prefix f [] = f []
 some_prefix f (n ∷ p) = f [] || some_prefix (λ q. f (n ∷ q)) p
 
--- what stands at a path is visible, whatever cuts there or above it
+-- what an entry says at its own path
+abbrev pub said_by : {C : Type 0} → Entry C → Overlay C
+said_by e = if is_hide e then hidden else visible (as_shown e)
+
+-- what stands at a path says what is there, whatever cuts above it
 abbrev pub overlay_of : {C : Type 0} → Option (Marked C) → Bool → Overlay C
-overlay_of (Some m) cut = visible m.entry
+overlay_of (Some m) cut = said_by m.entry
 overlay_of None true = hidden
 overlay_of None false = absent
 

@@ -15,11 +15,11 @@ pub(crate) struct Item<'a, C> {
     pub(crate) cuts: bool,
 }
 
-// Whether an entry of a single layer lets nothing through below it: all do but directories.
+// Whether an entry of a single layer lets nothing through below it: all but directories that are not opaque.
 fn cuts_below<C>(entry: &Entry<C>) -> bool
     ensures { result ≡ cuts_below (Some entry.now) }
 {
-    !entry.is_directory()
+    !entry.is_directory() || entry.is_opaque()
 }
 
 // The items of a single layer.

@@ -1,15 +1,23 @@
 //! Laws of layered trees, each the contract of a function that does nothing: what holds of every layered tree, whoever
 //! made it.
-ghost use Rattle.ext_layer.specs.Laws.{EntriesAreOfLayers, LayeredHasText, OneLayeredTree};
+ghost use Rattle.ext_layer.specs.Laws.{EntriesAreOfLayers, FilesAreOfLayers, LayeredHasText, NothingHides, OneLayeredTree};
 
 /// Layers have one layered tree.
 pub fn one_layered_tree<C>()
     ensures { OneLayeredTree C }
 {}
 
-/// Each entry of a layered tree is an entry of one of the layers, at the same path: nothing is made up.
+/// Each entry of a layered tree is an entry of one of the layers, at the same path, an opaque directory as a directory;
+/// so each file is a file of one of them: nothing is made up.
 pub fn entries_are_of_layers<C>()
-    ensures { EntriesAreOfLayers C }
+    ensures entries { EntriesAreOfLayers C }
+    ensures files { FilesAreOfLayers C }
+{}
+
+/// A layered tree has no whiteout and no opaque directory: it can be laid under other layers, or merged again, and hides
+/// nothing.
+pub fn nothing_hides<C>()
+    ensures { NothingHides C }
 {}
 
 /// The layered tree of trees that have texts has a text too, where it has at most 262,144 entries: so it is read back

@@ -1,10 +1,10 @@
 // The layers over the host as one tree, borrowed or copied.
-ghost use Rattle.std.specs.Prelude.{◌≡◌, ◌++◌, ◌∷◌, [], ◌↔◌, ◌<◌, length, map, IfOk, IsTrue};
-ghost use Rattle.ext_tree.specs.Tree.{most_entries};
+ghost use Rattle.std.specs.Prelude.{◌≡◌, ◌++◌, ◌∷◌, [], ◌↔◌, ◌<◌, length, IfOk, IsTrue, OnOk};
+ghost use Rattle.ext_tree.specs.Tree.{as_shown, most_entries};
 ghost use Rattle.ext_layer.specs.Layered.{GivesLayered};
-ghost use Rattle.ext_layer.specs.Overlay.{unmarked};
+ghost use Rattle.ext_layer.specs.Overlay.{visible_in};
 ghost use Rattle.ext_layer.specs.Joining.{Joins};
-ghost use Rattle.ext_layer.specs.Item.{all_seen, entries_seen};
+ghost use Rattle.ext_layer.specs.Item.{all_seen, all_shown, entries_seen, seen};
 
 use crate::Layers;
 use crate::errors::LayerErr;
@@ -16,7 +16,7 @@ use ext_tree::{Entry, Held1, MOST_ENTRIES, Tree};
 use std::alloc::Global;
 
 /// The entries that are visible of the layers over the host, in path order. Nothing is copied: the entries stay those of
-/// the layers.
+/// the layers, and an opaque directory among them is to be shown as a directory.
 ///
 /// # Errors
 /// `Limit` exactly where the layered tree has more than 262,144 entries; `OutOfMemory` may come at any time.
@@ -27,14 +27,15 @@ pub fn visible_entries<'a, C>(
 ) -> Result<Vec<&'a (Path, Entry<C>)>, LayerErr>
     ensures { GivesLayered (layers.now ++ host.now ∷ []) (entries_seen result) }
 {
-    let items = visible_items(alloc, layers.as_slice(), host)?;
-    if are_too_many(items.as_slice()) {
+    let items = joined_items(alloc, layers.as_slice(), host)?;
+    let pairs = visible_pairs(alloc, items.as_slice())?;
+    if are_too_many(pairs.as_slice()) {
         return Err(LayerErr::Limit);
     }
-    Ok(pairs_of(alloc, items.as_slice())?)
+    Ok(pairs)
 }
 
-/// The layered tree, its entries copied. The number of entries is tested before anything is copied.
+/// The layered tree, its entries copied, opaque directories as directories. The number of entries is tested before anything is copied.
 ///
 /// # Errors
 /// As for [`visible_entries`].
@@ -51,7 +52,7 @@ pub fn layer<C: Held1 + Drop>(
 }
 
 // The marked list of the layers over the host.
-fn visible_items<'a, C>(
+fn joined_items<'a, C>(
     alloc: Global,
     layers: &'a [Tree<C>],
     host: &'a Tree<C>,
@@ -63,32 +64,45 @@ fn visible_items<'a, C>(
     merged(alloc, upper.as_slice(), lower.as_slice())
 }
 
-fn are_too_many<C>(items: &[Item<C>]) -> bool
-    ensures { IsTrue result ↔ (most_entries < length items.now) }
+fn are_too_many<C>(pairs: &[&(Path, Entry<C>)]) -> bool
+    ensures { IsTrue result ↔ (most_entries < length pairs.now) }
 {
-    items.len() > MOST_ENTRIES
+    pairs.len() > MOST_ENTRIES
 }
 
-// The entries with their paths, without the marks.
-fn pairs_of<'a, C>(
+// The entries that are visible, with their paths. Whiteouts have hidden what they hide, and go.
+fn visible_pairs<'a, C>(
     alloc: Global,
     items: &[Item<'a, C>],
 ) -> Result<Vec<&'a (Path, Entry<C>)>, OutOfMemory>
-    ensures { IfOk result (λ pairs. map (λ r. r.now) pairs.items ≡ unmarked (all_seen items.now)) }
+    ensures { IfOk result (λ pairs. all_shown pairs.items ≡ visible_in (all_seen items.now)) }
 {
     let mut pairs = Vec::with_capacity(alloc, items.len())?;
     for item in items {
-        pairs.push(item.pair)?;
+        push_visible(&mut pairs, item)?;
     }
     Ok(pairs)
 }
 
-// Equal entries with equal paths.
+// Adds an item's entry at the end, where it is no whiteout.
+fn push_visible<'a, C>(
+    pairs: &mut Vec<&'a (Path, Entry<C>)>,
+    item: &Item<'a, C>,
+) -> Result<(), OutOfMemory>
+    ensures { OnOk result (all_shown pairs.new.items ≡ all_shown pairs.old.items ++ visible_in (seen item.now ∷ [])) }
+{
+    if !item.pair.1.is_hide() {
+        pairs.push(item.pair)?;
+    }
+    Ok(())
+}
+
+// Copies of entries as they show, with equal paths.
 fn copies_of<C: Held1 + Drop>(
     alloc: Global,
     pairs: &[&(Path, Entry<C>)],
 ) -> Result<Vec<(Path, Entry<C>)>, OutOfMemory>
-    ensures { IfOk result (λ copies. copies.items ≡ map (λ r. r.now) pairs.now) }
+    ensures { IfOk result (λ copies. copies.items ≡ all_shown pairs.now) }
 {
     let mut copies = Vec::with_capacity(alloc, pairs.len())?;
     for pair in pairs {
@@ -97,14 +111,24 @@ fn copies_of<C: Held1 + Drop>(
     Ok(copies)
 }
 
-// An equal entry with an equal path.
+// A copy of an entry as it shows, with an equal path.
 fn copy_of<C: Held1 + Drop>(
     alloc: Global,
     pair: &(Path, Entry<C>),
 ) -> Result<(Path, Entry<C>), OutOfMemory>
-    ensures { IfOk result (λ copy. copy ≡ pair.now) }
+    ensures { IfOk result (λ copy. copy ≡ (pair.now.0, as_shown pair.now.1)) }
 {
     let path = pair.0.copy()?;
-    let entry = pair.1.copy(alloc)?;
+    let entry = shown_copy(alloc, &pair.1)?;
     Ok((path, entry))
+}
+
+// A copy of an entry as it shows.
+fn shown_copy<C: Held1 + Drop>(alloc: Global, entry: &Entry<C>) -> Result<Entry<C>, OutOfMemory>
+    ensures { IfOk result (λ copy. copy ≡ as_shown entry.now) }
+{
+    match entry {
+        Entry::Opaque(mode) => Ok(Entry::Dir(*mode)),
+        Entry::Dir(_) | Entry::File(_, _) | Entry::Link(_) | Entry::Hide => entry.copy(alloc),
+    }
 }

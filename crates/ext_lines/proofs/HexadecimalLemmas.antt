@@ -1,5 +1,5 @@
 -- Hexadecimal digits: that the bytes have one text, which bytes it lacks, and reading digits by their indices.
-use Rattle.std.proofs.Common.{◌≡◌, ℕ, zero, suc, ◌+◌, ◌*◌, ◌/◌, ◌%◌, ◌<◌, ◌≤◌, List, [], ◌∷◌, Some, Ok, length, get_or, set, true, eqb, refl, sym, ap, ◌∙◌, inl, inr, arith, get_or-set_same, get_or-set_other}
+use Rattle.std.proofs.Common.{◌≡◌, ℕ, zero, suc, ◌+◌, ◌*◌, ◌/◌, ◌%◌, ◌<◌, ◌≤◌, List, [], ◌∷◌, Some, Ok, length, get_or, drop, set, true, eqb, refl, sym, ap, ◌∙◌, inl, inr, arith, get_or-set_same, get_or-set_other}
 use Rattle.std.proofs.lemmas.Bool.{cases_eq, eqb-true, and_parts}
 use Rattle.std.proofs.lemmas.List.Elements.{All-weaker}
 use Rattle.std.specs.Option.{is_some}
@@ -147,3 +147,14 @@ five_injective m n p q e =
       digit 3 (m / 16 % 16) (n / 16 % 16) (omega arith) (omega arith) refl refl,
       digit 4 (m % 16) (n % 16) (omega arith) (omega arith) refl refl,
     )
+
+-- the five digits are those of the number's three bytes, without the first
+pub five_of_three : (n : ℕ) → n < 1048576 → five_digits n ≡ drop 1 (encode_lower (n / 65536 ∷ n / 256 % 256 ∷ n % 256 ∷ []))
+unfolding encode_with
+five_of_three n small =
+    let first : n / 65536 ≡ n / 65536 % 16 = omega arith in
+    let second : n / 4096 % 16 ≡ n / 256 % 256 / 16 = omega arith in
+    let third : n / 256 % 16 ≡ n / 256 % 256 % 16 = omega arith in
+    let fourth : n / 16 % 16 ≡ n % 256 / 16 = omega arith in
+    let fifth : n % 16 ≡ n % 256 % 16 = omega arith in
+    λ i. hex_digit (first i) ∷ hex_digit (second i) ∷ hex_digit (third i) ∷ hex_digit (fourth i) ∷ hex_digit (fifth i) ∷ []

@@ -154,11 +154,11 @@ split_of-lacks byte (b ∷ bs) lacks = rw (not-true (eqb b byte) (lacks 0 0 (ome
 
 -- the split of a text from the index of the first such byte
 pub split_from_index : (byte : ℕ) (text hay : List ℕ) (k : ℕ) (prefix after : List ℕ) → hay ≡ text → IsFirstByte (λ x. eqb x byte) hay (Some k) → prefix ≡ take k text → after ≡ drop (k + 1) text → IsSplit byte text prefix after
-split_from_index byte text hay k prefix after same is before behind =
+split_from_index byte text hay k prefix after same is before follows =
     let P : List ℕ → Type 0 = λ h. IsFirstByte (λ x. eqb x byte) h (Some k) in
     let at : IsSplitBy (λ x. eqb x byte) text (take k text) (get_or text k 0) (drop (k + 1) text) = split_at_first (λ x. eqb x byte) text k (subst P same is) in
     let here : get_or text k 0 ≡ byte = eqb-true _ _ at.passes in
     record {
-      whole = at.whole ∙ ap (λ (x : ℕ). take k text ++ x ∷ drop (k + 1) text) here ∙ ap (λ (xs : List ℕ). xs ++ byte ∷ drop (k + 1) text) (sym before) ∙ ap (λ (xs : List ℕ). prefix ++ byte ∷ xs) (sym behind);
+      whole = at.whole ∙ ap (λ (x : ℕ). take k text ++ x ∷ drop (k + 1) text) here ∙ ap (λ (xs : List ℕ). xs ++ byte ∷ drop (k + 1) text) (sym before) ∙ ap (λ (xs : List ℕ). prefix ++ byte ∷ xs) (sym follows);
       prefix_lacks = subst (Lacks byte) (sym before) at.none_before;
     }

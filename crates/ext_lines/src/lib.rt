@@ -8,11 +8,14 @@
 
 mod blanks;
 mod hexadecimal;
+pub mod laws;
 mod lines;
 mod memory;
 mod numbers;
 mod plain;
 mod split;
+#[cfg(test)]
+mod tests;
 mod words;
 
 pub use blanks::{is_blank, trimmed};

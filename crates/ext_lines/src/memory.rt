@@ -21,16 +21,16 @@ impl<T: Drop> From<AllocFailed<T>> for OutOfMemory {
     }
 }
 
-/// What a growth of std gave, with either of std's two errors turned into `OutOfMemory`.
+/// The outcome of a call of std that allocates, with either of std's two errors turned into `OutOfMemory`.
 ///
 /// # Errors
-/// `OutOfMemory` exactly where the growth failed.
-pub fn grown<T, E>(growth: Result<T, E>) -> Result<T, OutOfMemory>
+/// `OutOfMemory` exactly where the allocation failed.
+pub fn grown<T, E>(outcome: Result<T, E>) -> Result<T, OutOfMemory>
 where
     OutOfMemory: From<E>,
-    ensures { MatchResult result (λ value. growth ≡ Ok value) (λ _. IsErr growth) }
+    ensures { MatchResult result (λ value. outcome ≡ Ok value) (λ _. IsErr outcome) }
 {
-    match growth {
+    match outcome {
         Ok(value) => Ok(value),
         Err(failed) => Err(OutOfMemory::from(failed)),
     }

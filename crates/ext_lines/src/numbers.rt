@@ -81,7 +81,7 @@ fn value_of(digits: &[u8], base: u32, most: u64) -> Option<u64>
     requires low { 2 ≤ base }
     requires high { base ≤ 10 }
     ensures { MatchOption result
-        (AllDigits base digits.now → digits_value base digits.now ≤ most → ⊥)
+        (AllDigits base digits.now → ¬ (digits_value base digits.now ≤ most))
         (λ n. (n ≡ digits_value base digits.now) × AllDigits base digits.now × (n ≤ most)) }
 {
     let mut value = 0;

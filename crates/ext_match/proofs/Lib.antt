@@ -1,1 +1,1 @@
-pub mod OneVerdict
+pub mod VerdictLemmas

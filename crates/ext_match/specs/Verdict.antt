@@ -5,12 +5,12 @@ use Rattle.std.specs.Prelude.{◌≡◌, ℕ, Bool, true, false, ◌⊎◌, List
 use Rattle.std.specs.FinMap.{FinMap, get}
 use Rattle.std.specs.Option.{unwrap_or}
 use Rattle.ext_text.specs.Arch.{arch_name}
-use Rattle.ext_text.specs.Name.{bytes_cmp}
+use Rattle.ext_lines.specs.ByteOrder.{bytes_cmp}
 use Rattle.ext_text.specs.Scope.{scope_name}
 use Rattle.ext_text.specs.declared.arch.Arch.{Arch}
 use Rattle.ext_text.specs.declared.class.Class.{Class}
 use Rattle.ext_text.specs.declared.scope.Scope.{Scope}
-use Rattle.ext_release.specs.Words.{has_word}
+use Rattle.ext_lines.specs.Words.{has_word}
 use Rattle.ext_match.specs.Class.{level_key, scope_key}
 use Rattle.ext_match.specs.declared.verdict.Verdict.{Verdict}
 use Rattle.ext_match.specs.declared.verdict.Verdict.TheVariants as verdicts

@@ -1,13 +1,14 @@
 //! Verdicts: whether an extension fits a host, by what their release files assign.
 //!
-//! [`judge`] decides, and takes no memory. It is for whatever lists extensions or merges them; nothing asks it yet.
+//! [`judge`] decides, takes no memory and answers the verdict that its definition gives; there is one. It is for whatever
+//! lists extensions or merges them.
 #![tactic(auto)]
 
 mod class;
-mod judging;
+mod laws;
 #[cfg(test)]
 mod tests;
 mod verdict;
 
-pub use judging::{judge, one_verdict};
-pub use verdict::Verdict;
+pub use laws::one_verdict;
+pub use verdict::{Verdict, judge};

@@ -1,9 +1,5 @@
-pub mod Bare
-pub mod Cuts
-pub mod Lines
-pub mod Quotes
-pub mod SoFar
-pub mod Texts
-pub mod Utf8
-pub mod Words
-pub mod Quoting
+pub mod ValueLemmas
+pub mod QuotingLemmas
+pub mod ReleaseLemmas
+pub mod ReadingLemmas
+pub mod LawsLemmas

@@ -1,7 +1,6 @@
-pub mod Words
 pub mod Value
 pub mod Quoting
 pub mod Line
 pub mod Release
-pub mod Cutting
+pub mod Laws
 pub mod Reading

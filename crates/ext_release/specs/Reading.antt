@@ -1,17 +1,13 @@
 -- Reading the lines of a release file one after another.
-use Rattle.std.specs.Prelude.{◌≡◌, ℕ, ◌+◌, ◌<◌, ◌≤◌, Bool, true, false, List, [], ◌∷◌, ◌++◌, length, Option, MatchOption}
-use Rattle.std.specs.Borrow.{Bor}
+use Rattle.std.specs.Prelude.{◌≡◌, ℕ, ◌+◌, ◌≤◌, Bool, true, false, List, ◌++◌, length}
 use Rattle.std.specs.FinMap.{FinMap, get}
 use Rattle.std.specs.List.{AllByRecursion}
-use Rattle.ext_text.specs.Name.{bytes_cmp}
-use Rattle.ext_release.specs.Line.{ReleaseLine, is_faulty, line_of, lines_of}
+use Rattle.ext_lines.specs.Lines.{lines_of}
+use Rattle.ext_lines.specs.ByteOrder.{bytes_cmp}
+use Rattle.ext_release.specs.Line.{ReleaseLine, is_faulty, line_of}
 use Rattle.ext_release.specs.Release.{assigned, leaves, value_after}
 
--- the first line of a text, and the text of the other lines, if there are any
-abbrev pub IsNextLine : List ℕ → List ℕ → Option (Bor (List ℕ)) → Type 0
-IsNextLine text line after = MatchOption after (lines_of text ≡ line ∷ []) (λ more. (lines_of text ≡ line ∷ lines_of more.now) × (length more.now < length text))
-
--- what a line means was done, unless it was told to be faulty
+-- after a sound line each key has what the line leaves it; `false` tells that the line is faulty
 abbrev pub FollowsAs : ReleaseLine → FinMap bytes_cmp (List ℕ) → FinMap bytes_cmp (List ℕ) → Bool → Type 0
 FollowsAs line old new true = (is_faulty line ≡ false) × ((key : List ℕ) → get new key ≡ leaves (assigned line key) (get old key))
 FollowsAs line old new false = is_faulty line ≡ true

@@ -1,28 +1,31 @@
-ghost use Rattle.std.specs.Prelude.{◌≡◌, ℕ, List, true, IfOk};
-ghost use Rattle.std.specs.FinMap.{FinMap};
-ghost use Rattle.ext_text.specs.Name.{bytes_cmp};
-ghost use Rattle.ext_release.specs.Line.{assigns, is_key, is_text, line_of, meaning};
-ghost use Rattle.ext_release.specs.Quoting.{DoubleQuotesKeep, SingleQuotesKeep};
-ghost use Rattle.ext_release.specs.Reading.{FollowsAs, IsNextLine};
-ghost use Rattle.ext_release.specs.Release.{IsRelease, ReadsRelease};
+ghost use Rattle.std.specs.Prelude.{◌≡◌, true, IfOk};
+ghost use Rattle.ext_lines.specs.Plain.{is_plain_text_with_tabs};
+ghost use Rattle.ext_release.specs.Line.{assigns, is_key, line_of, meaning};
+ghost use Rattle.ext_release.specs.Reading.{FollowsAs};
+ghost use Rattle.ext_release.specs.Release.{ReadsRelease};
 
-use crate::cutting::cut;
-use crate::line::{is_key, text_of, trimmed};
+use crate::line::is_key;
 use crate::release::Release;
 use crate::value::unquoted;
-use ext_text::{OutOfMemory, split_at_byte};
+use ext_lines::{
+    next_line, plain_text_with_tabs, split_str_at_byte, strip_carriage_return, trimmed,
+};
+use ext_text::OutOfMemory;
 use std::alloc::Global;
 use thiserror::Error;
 
 /// Why bytes are no release file.
 #[derive(Clone, Copy, Debug, PartialEq, Eq, Error)]
 pub enum ReleaseErr {
-    /// A growth was refused.
+    /// An allocation failed.
     #[error("out of memory")]
     OutOfMemory,
-    /// The first line that is faulty, counted from 1.
+    /// A line is faulty.
     #[error("line {line} of the release file is faulty")]
-    BadRelease { line: u64 },
+    BadRelease {
+        /// The first line that is, counted from 1.
+        line: u64,
+    },
 }
 
 impl From<OutOfMemory> for ReleaseErr {
@@ -31,69 +34,24 @@ impl From<OutOfMemory> for ReleaseErr {
 
     ghost from_gives = { λ _ e. e ≡ errors.OutOfMemory };
 
-    fn from(_refused: OutOfMemory) -> ReleaseErr {
+    fn from(_failed: OutOfMemory) -> ReleaseErr {
         ReleaseErr::OutOfMemory
-    }
-}
-
-// Follows an assignment; whether its value is sound.
-fn assign(release: &mut Release, key: &str, text: &str) -> Result<bool, OutOfMemory>
-    requires { is_key key.now ≡ true }
-    ensures { IfOk result (FollowsAs (assigns key.now text.now) release.old release.new) }
-{
-    match unquoted(release.allocator(), trimmed(text))? {
-        None => Ok(false),
-        Some(value) => {
-            release.set(key, value)?;
-            Ok(true)
-        }
-    }
-}
-
-// Follows a line without its carriage return.
-fn follow_text(release: &mut Release, text: &str) -> Result<bool, OutOfMemory>
-    requires { is_text text.now ≡ true }
-    ensures { IfOk result (FollowsAs (meaning text.now) release.old release.new) }
-{
-    match cut(trimmed(text), b'=') {
-        Some((key, value)) if is_key(key.as_bytes()) => assign(release, key, value),
-        _ => Ok(true),
-    }
-}
-
-// Follows a line; whether it is sound.
-fn follow(release: &mut Release, line: &[u8]) -> Result<bool, OutOfMemory>
-    ensures { IfOk result (FollowsAs (line_of line.now) release.old release.new) }
-{
-    match text_of(line) {
-        None => Ok(false),
-        Some(text) => follow_text(release, text),
-    }
-}
-
-// The first line of a text, and the text behind it, if a newline ends that line.
-fn next_line(text: &[u8]) -> (&[u8], Option<&[u8]>)
-    ensures { IsNextLine text.now result.0.now result.1 }
-{
-    match split_at_byte(text, b'\n') {
-        None => (text, None),
-        Some((line, after)) => (line, Some(after)),
     }
 }
 
 /// What a release file assigns. Its lines end at newlines, the last one perhaps not; one carriage return at the end of
 /// a line and blanks, spaces and tabs, at both ends do not count. A line is skipped where no `=` stands in it, or where
 /// what stands before the first is no key of the form `[A-Z_][A-Z0-9_]*`: an empty line and a comment are such lines. What
-/// stands behind the `=` is the value, without blanks at both ends: in double quotes, where a backslash vanishes before
-/// `"`, `$`, a backquote or a backslash and stays before any other byte; in single quotes, where nothing is special; or
-/// without quotes, where a backslash keeps the byte behind it and vanishes. The last assignment of a key counts, and an
-/// empty value counts as none.
+/// stands after it is the value, without blanks at both ends: in double quotes, where a backslash escapes `"`, `$`, a
+/// backquote and a backslash, and before any other byte stands for itself; in single quotes, where nothing is special; or
+/// without quotes, where a backslash escapes any byte, and at the end stands for nothing. What is escaped stands for itself
+/// and its backslash for nothing. The last assignment of a key counts, and an empty value counts as none.
 ///
 /// Quotes, comments and empty lines are os-release(5)'s; the rest of the rule is this project's own.
 ///
 /// # Errors
 /// `BadRelease` with the first line, counted from 1, that is no UTF-8, holds a control byte other than a tab, or assigns
-/// to a key a value whose quote does not close or has text behind it; `OutOfMemory`.
+/// to a key a value whose quote does not close or has text after it; `OutOfMemory`.
 pub fn read_release(alloc: Global, bytes: &[u8]) -> Result<Release, ReleaseErr>
     ensures { ReadsRelease bytes.now result }
 {
@@ -113,14 +71,37 @@ pub fn read_release(alloc: Global, bytes: &[u8]) -> Result<Release, ReleaseErr>
     }
 }
 
-/// A file has one release: two maps that both are its release are equal.
-pub fn a_file_has_one_release()
-    ensures { (bytes : List ℕ) (a b : FinMap bytes_cmp (List ℕ)) → IsRelease bytes a → IsRelease bytes b → a ≡ b }
-{}
+// Follows a line; whether it is sound.
+fn follow(release: &mut Release, line: &[u8]) -> Result<bool, OutOfMemory>
+    ensures { IfOk result (FollowsAs (line_of line.now) release.old release.new) }
+{
+    match plain_text_with_tabs(strip_carriage_return(line)) {
+        None => Ok(false),
+        Some(text) => follow_text(release, text),
+    }
+}
 
-/// What is written in quotes is read back as the value: in double quotes every text that can stand on a line, with a
-/// backslash before each byte that is special there, and in single quotes every such text without one.
-pub fn quoted_texts_are_read_back()
-    ensures double { DoubleQuotesKeep }
-    ensures single { SingleQuotesKeep }
-{}
+// Follows a line without its carriage return.
+fn follow_text(release: &mut Release, text: &str) -> Result<bool, OutOfMemory>
+    requires { is_plain_text_with_tabs text.now ≡ true }
+    ensures { IfOk result (FollowsAs (meaning text.now) release.old release.new) }
+{
+    match split_str_at_byte(trimmed(text), b'=') {
+        Some((key, value)) if is_key(key.as_bytes()) => assign(release, key, value),
+        _ => Ok(true),
+    }
+}
+
+// Follows an assignment; whether its value is sound.
+fn assign(release: &mut Release, key: &str, text: &str) -> Result<bool, OutOfMemory>
+    requires { is_key key.now ≡ true }
+    ensures { IfOk result (FollowsAs (assigns key.now text.now) release.old release.new) }
+{
+    match unquoted(release.allocator(), trimmed(text))? {
+        None => Ok(false),
+        Some(value) => {
+            release.set(key, value)?;
+            Ok(true)
+        }
+    }
+}

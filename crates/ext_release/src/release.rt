@@ -1,14 +1,14 @@
-ghost use Rattle.std.specs.Prelude.{◌≡◌, ℕ, List, [], IfOk, OnOk, None, Some, if◌then◌else◌};
+ghost use Rattle.std.specs.Prelude.{◌≡◌, ◌++◌, ℕ, List, [], IfOk, OnOk, None, Some, if◌then◌else◌};
 ghost use Rattle.std.specs.Option.{option_copied, unwrap_or};
 ghost use Rattle.std.specs.FinMap as map;
 ghost use Rattle.std.specs.Str.{bytes_eq};
 ghost use Rattle.std.specs.String.{string_bytes};
+ghost use Rattle.ext_lines.specs.Words.{has_word, words_of};
 ghost use Rattle.ext_release.specs.Line.{Sets};
 ghost use Rattle.ext_release.specs.Release.{assigned, leaves, map_of};
-ghost use Rattle.ext_release.specs.Words.{has_word, words_of};
 
-use crate::blanks::{append_words, has_word};
-use ext_text::{Lines, OutOfMemory};
+use ext_lines::{has_word, next_word};
+use ext_text::{Lines, OutOfMemory, Text};
 use std::alloc::Global;
 use std::collections::BTreeMap;
 use std::marker::Model;
@@ -25,7 +25,7 @@ impl Model for Release {
     ghost use Rattle.std.specs.Prelude.{ℕ, List};
     ghost use Rattle.std.specs.Coded.{coded_list, coded_ℕ};
     ghost use Rattle.std.specs.FinMap as map;
-    ghost use Rattle.ext_text.specs.Name.{bytes_cmp};
+    ghost use Rattle.ext_lines.specs.ByteOrder.{bytes_cmp};
     ghost use Rattle.ext_release.specs.Release.{map_of};
 
     ghost Value = { map.FinMap bytes_cmp (List ℕ) };
@@ -59,7 +59,7 @@ impl Release {
     /// The words of a key's value: the longest runs without a space or a tab. A key that has no value has none.
     ///
     /// # Errors
-    /// Want of memory alone.
+    /// `OutOfMemory` alone.
     pub fn words(&self, key: &str) -> Result<Lines, OutOfMemory>
         ensures { IfOk result (λ words. words ≡ words_of (unwrap_or (map.get self.now key.now) [])) }
     {
@@ -80,7 +80,7 @@ impl Release {
         }
     }
 
-    // The memory that its texts are kept in.
+    // The allocator that its texts are made with.
     pub(crate) fn allocator(&self) -> Global {
         self.alloc
     }
@@ -94,6 +94,22 @@ impl Release {
             return Ok(());
         }
         put(self.alloc, &mut self.values, key, value)
+    }
+}
+
+// Adds the words of a text at the end.
+fn append_words(alloc: Global, words: &mut Lines, text: &[u8]) -> Result<(), OutOfMemory>
+    ensures { OnOk result (words.new ≡ words.old ++ words_of text.now) }
+{
+    let mut rest = text;
+    'words: loop {
+        match next_word(rest) {
+            None => return Ok(()),
+            Some((word, after)) => {
+                words.push(Text::from_bytes(alloc, word)?)?;
+                rest = after;
+            }
+        }
     }
 }
 

@@ -1,98 +1,110 @@
-use crate::{Release, ReleaseErr, read_release};
+use crate::{
+    Release, ReleaseErr, a_file_has_a_release_or_a_faulty_line, a_file_has_one_release,
+    quoted_texts_are_read_back, read_release,
+};
 use std::alloc::Global;
-use std::process::Abort;
-use std::test::Fail;
 
-// What a key has in a file; an empty text stands for no value.
-const VALUES: [(&[u8], &str, &str); 49] = [
-    (ROW, "ID", "debian"),
-    (ROW, "VERSION_ID", "1.3"),
-    (ROW, "id", ""),
+// What holds of a file.
+#[derive(Clone, Copy)]
+enum Case {
+    // The key has the value; an empty text stands for none.
+    HasValue(&'static [u8], &'static str, &'static str),
+    // The first faulty line.
+    HasFault(&'static [u8], u64),
+    // In `LISTS` the key has these words; neither the last text nor the empty one is a word of it.
+    HasWords(&'static str, &'static [&'static str], &'static str),
+}
+
+use Case::{HasFault, HasValue, HasWords};
+
+const VALUES: [Case; 49] = [
+    HasValue(FOUR_LINES, "ID", "debian"),
+    HasValue(FOUR_LINES, "VERSION_ID", "1.3"),
+    HasValue(FOUR_LINES, "id", ""),
     // lines
-    (b"", "A", ""),
-    (b"A=1", "A", "1"),
-    (b"A=1\nB=2", "B", "2"),
-    (b"A=1\r\nB=2\r", "A", "1"),
-    (b"A=1\r\nB=2\r", "B", "2"),
-    (b"\r\n \t\r\nA=1", "A", "1"),
-    (b" \tA=1 \t", "A", "1"),
-    (b"A= \t1", "A", "1"),
-    (b"A =1", "A", ""),
-    (b"# A=1\n#A=2\n\n\n", "A", ""),
-    (b" #A=1", "A", ""),
-    (b"A\nB=1", "A", ""),
-    (b"A\nB=1", "B", "1"),
+    HasValue(b"", "A", ""),
+    HasValue(b"A=1", "A", "1"),
+    HasValue(b"A=1\nB=2", "B", "2"),
+    HasValue(b"A=1\r\nB=2\r", "A", "1"),
+    HasValue(b"A=1\r\nB=2\r", "B", "2"),
+    HasValue(b"\r\n \t\r\nA=1", "A", "1"),
+    HasValue(b" \tA=1 \t", "A", "1"),
+    HasValue(b"A= \t1", "A", "1"),
+    HasValue(b"A =1", "A", ""),
+    HasValue(b"# A=1\n#A=2\n\n\n", "A", ""),
+    HasValue(b" #A=1", "A", ""),
+    HasValue(b"A\nB=1", "A", ""),
+    HasValue(b"A\nB=1", "B", "1"),
     // keys
-    (b"Aa=1", "Aa", ""),
-    (b"a=1", "a", ""),
-    (b"1A=1", "1A", ""),
-    (b"=1", "", ""),
-    (b"A-B=1", "A-B", ""),
-    (b"_=1", "_", "1"),
-    (b"A_9Z=1", "A_9Z", "1"),
-    (b"a=\"x\n1='\nA=1", "A", "1"),
+    HasValue(b"Aa=1", "Aa", ""),
+    HasValue(b"a=1", "a", ""),
+    HasValue(b"1A=1", "1A", ""),
+    HasValue(b"=1", "", ""),
+    HasValue(b"A-B=1", "A-B", ""),
+    HasValue(b"_=1", "_", "1"),
+    HasValue(b"A_9Z=1", "A_9Z", "1"),
+    HasValue(b"a=\"x\n1='\nA=1", "A", "1"),
     // double quotes
-    (b"A=\"a b\"", "A", "a b"),
-    (b"A= \" a\t\" ", "A", " a\t"),
-    (b"A=\"\\\"\\$\\`\\\\\"", "A", "\"$`\\"),
-    (b"A=\"\\a\\'\\ \"", "A", "\\a\\'\\ "),
-    (b"A=\"\\\xc3\xa9\\\\\\\\\"", "A", "\\\u{e9}\\\\"),
-    (b"A=\"'#=\"", "A", "'#="),
+    HasValue(b"A=\"a b\"", "A", "a b"),
+    HasValue(b"A= \" a\t\" ", "A", " a\t"),
+    HasValue(b"A=\"\\\"\\$\\`\\\\\"", "A", "\"$`\\"),
+    HasValue(b"A=\"\\a\\'\\ \"", "A", "\\a\\'\\ "),
+    HasValue(b"A=\"\\\xc3\xa9\\\\\\\\\"", "A", "\\\u{e9}\\\\"),
+    HasValue(b"A=\"'#=\"", "A", "'#="),
     // single quotes
-    (b"A='a b'", "A", "a b"),
-    (b"A='\\\"\\$a\\'", "A", "\\\"\\$a\\"),
-    (b"A='\xc3\xa9'", "A", "\u{e9}"),
+    HasValue(b"A='a b'", "A", "a b"),
+    HasValue(b"A='\\\"\\$a\\'", "A", "\\\"\\$a\\"),
+    HasValue(b"A='\xc3\xa9'", "A", "\u{e9}"),
     // no quotes
-    (b"A=a\\b\\\\c", "A", "ab\\c"),
-    (b"A=\\\"a\\\"", "A", "\"a\""),
-    (b"A=a\\", "A", "a"),
-    (b"A=a\\ ", "A", "a"),
-    (b"A=\\\\\\\\", "A", "\\\\"),
-    (b"A=\\\xc3\xa9\\", "A", "\u{e9}"),
-    (b"A=a\"b\"='c", "A", "a\"b\"='c"),
-    (b"A=a b#c", "A", "a b#c"),
-    (b"A=a\tb", "A", "a\tb"),
+    HasValue(b"A=a\\b\\\\c", "A", "ab\\c"),
+    HasValue(b"A=\\\"a\\\"", "A", "\"a\""),
+    HasValue(b"A=a\\", "A", "a"),
+    HasValue(b"A=a\\ ", "A", "a"),
+    HasValue(b"A=\\\\\\\\", "A", "\\\\"),
+    HasValue(b"A=\\\xc3\xa9\\", "A", "\u{e9}"),
+    HasValue(b"A=a\"b\"='c", "A", "a\"b\"='c"),
+    HasValue(b"A=a b#c", "A", "a b#c"),
+    HasValue(b"A=a\tb", "A", "a\tb"),
     // the last assignment
-    (b"A=1\nB=3\nA=2", "A", "2"),
-    (b"A=1\nA=", "A", ""),
-    (b"A=1\nA=\"\"\n", "A", ""),
-    (b"A=1\nA=\\", "A", ""),
-    (b"A=\nA=1", "A", "1"),
-    (b"A=1\nA=\nA=2", "A", "2"),
-    (b"A=1\nA", "A", "1"),
+    HasValue(b"A=1\nB=3\nA=2", "A", "2"),
+    HasValue(b"A=1\nA=", "A", ""),
+    HasValue(b"A=1\nA=\"\"\n", "A", ""),
+    HasValue(b"A=1\nA=\\", "A", ""),
+    HasValue(b"A=\nA=1", "A", "1"),
+    HasValue(b"A=1\nA=\nA=2", "A", "2"),
+    HasValue(b"A=1\nA", "A", "1"),
 ];
 
-const ROW: &[u8] = b"ID=debian\nVERSION_ID='1.2'\nid=x\nVERSION_ID=1\\.3";
+const FOUR_LINES: &[u8] = b"ID=debian\nVERSION_ID='1.2'\nid=x\nVERSION_ID=1\\.3";
 
-// The first line that is faulty.
-const FAULTS: [(&[u8], u64); 23] = [
-    (b"ID=\"a", 1),
-    (b"A=1\nID=\"a\"b", 2),
+const FAULTS: [Case; 23] = [
+    HasFault(b"ID=\"a", 1),
+    HasFault(b"A=1\nID=\"a\"b", 2),
     // carriage returns
-    (b"A=1\r\r\n", 1),
-    (b"A=1\nB=1\r ", 2),
-    (b"A=1\rB=1", 1),
+    HasFault(b"A=1\r\r\n", 1),
+    HasFault(b"A=1\nB=1\r ", 2),
+    HasFault(b"A=1\rB=1", 1),
     // quotes
-    (b"A=\"", 1),
-    (b"A='", 1),
-    (b"A='a\nB='", 1),
-    (b"A=\"a\\\"", 1),
-    (b"A=\"a\\", 1),
-    (b"A='a\\''", 1),
-    (b"A='a'b", 1),
-    (b"A='a' 'b'", 1),
-    (b"A=\"a\" #", 1),
-    (b"A=\"a\"\"b\"", 1),
+    HasFault(b"A=\"", 1),
+    HasFault(b"A='", 1),
+    HasFault(b"A='a\nB='", 1),
+    HasFault(b"A=\"a\\\"", 1),
+    HasFault(b"A=\"a\\", 1),
+    HasFault(b"A='a\\''", 1),
+    HasFault(b"A='a'b", 1),
+    HasFault(b"A='a' 'b'", 1),
+    HasFault(b"A=\"a\" #", 1),
+    HasFault(b"A=\"a\"\"b\"", 1),
     // control bytes and bytes that are no text
-    (b"A=\x01", 1),
-    (b"\n#\x7f\n", 2),
-    (b"a=1\n\n\x00", 3),
-    (b"A=\x1f", 1),
-    (b"#\n#\xff\n", 2),
-    (b"A=\xc3\nA=1", 1),
+    HasFault(b"A=\x01", 1),
+    HasFault(b"\n#\x7f\n", 2),
+    HasFault(b"a=1\n\n\x00", 3),
+    HasFault(b"A=\x1f", 1),
+    HasFault(b"#\n#\xff\n", 2),
+    HasFault(b"A=\xc3\nA=1", 1),
     // the first of two
-    (b"A=1\nA='\nA=\"\n", 2),
-    (b"#\x0b\nA=\"\n", 1),
+    HasFault(b"A=1\nA='\nA=\"\n", 2),
+    HasFault(b"#\x0b\nA=\"\n", 1),
 ];
 
 // What a distribution hands out.
@@ -108,94 +120,105 @@ BUG_REPORT_URL=\"https://bugs.debian.org/\"
 ";
 
 // What a shell that has read it says.
-const DEBIAN_VALUES: [(&str, &str); 10] = [
-    ("PRETTY_NAME", "Debian GNU/Linux 12 (bookworm)"),
-    ("NAME", "Debian GNU/Linux"),
-    ("VERSION_ID", "12"),
-    ("VERSION", "12 (bookworm)"),
-    ("VERSION_CODENAME", "bookworm"),
-    ("ID", "debian"),
-    ("ID_LIKE", ""),
-    ("HOME_URL", "https://www.debian.org/"),
-    ("SUPPORT_URL", "https://www.debian.org/support"),
-    ("BUG_REPORT_URL", "https://bugs.debian.org/"),
+const DEBIAN_VALUES: [Case; 10] = [
+    HasValue(DEBIAN, "PRETTY_NAME", "Debian GNU/Linux 12 (bookworm)"),
+    HasValue(DEBIAN, "NAME", "Debian GNU/Linux"),
+    HasValue(DEBIAN, "VERSION_ID", "12"),
+    HasValue(DEBIAN, "VERSION", "12 (bookworm)"),
+    HasValue(DEBIAN, "VERSION_CODENAME", "bookworm"),
+    HasValue(DEBIAN, "ID", "debian"),
+    HasValue(DEBIAN, "ID_LIKE", ""),
+    HasValue(DEBIAN, "HOME_URL", "https://www.debian.org/"),
+    HasValue(DEBIAN, "SUPPORT_URL", "https://www.debian.org/support"),
+    HasValue(DEBIAN, "BUG_REPORT_URL", "https://bugs.debian.org/"),
 ];
 
 const LISTS: &[u8] =
     b"PORTABLE_PREFIXES=\"a b\"\nMANY=' \t one\t\ttwo  three \t'\nBLANK=\" \"\nONE=one\n";
 
-// The words of a key's value; the last is a word that is not among them.
-const WORDS: [(&str, &[&str], &str); 5] = [
-    ("PORTABLE_PREFIXES", &["a", "b"], "a b"),
-    ("MANY", &["one", "two", "three"], "on"),
-    ("BLANK", &[], ""),
-    ("ONE", &["one"], "one "),
-    ("NONE", &[], "one"),
+const WORDS: [Case; 5] = [
+    HasWords("PORTABLE_PREFIXES", &["a", "b"], "a b"),
+    HasWords("MANY", &["one", "two", "three"], "on"),
+    HasWords("BLANK", &[], " "),
+    HasWords("ONE", &["one"], "one "),
+    HasWords("NONE", &[], "one"),
 ];
 
-fn check_value(rt: &impl Abort, release: &Release, key: &str, value: &str) {
-    if value.is_empty() {
-        assert!(rt; release.value(key).is_none(), "{key} has a value");
-    } else {
-        assert_eq!(rt; release.value(key), Some(value));
+// The first case that doesn't hold.
+fn first_wrong(alloc: Global, cases: &[Case]) -> Option<usize> {
+    for (index, case) in cases.iter().enumerate() {
+        if !holds(alloc, *case) {
+            return Some(index);
+        }
+    }
+    None
+}
+
+fn holds(alloc: Global, case: Case) -> bool {
+    match case {
+        HasValue(file, key, value) => has_value(alloc, file, key, value),
+        HasFault(file, line) => has_fault(alloc, file, line),
+        HasWords(key, words, other) => has_words(alloc, key, words, other),
     }
 }
 
-fn check_words(
-    rt: &impl Abort,
-    release: &Release,
-    key: &str,
-    expected: &[&str],
-) -> Result<(), Fail> {
-    let words = release.words(key)?;
-    assert_eq!(rt; words.len(), expected.len());
+fn has_value(alloc: Global, file: &[u8], key: &str, value: &str) -> bool {
+    match read_release(alloc, file) {
+        Ok(release) => release.value(key).unwrap_or("") == value,
+        Err(_) => false,
+    }
+}
+
+fn has_fault(alloc: Global, file: &[u8], line: u64) -> bool {
+    match read_release(alloc, file) {
+        Ok(_) => false,
+        Err(err) => err == ReleaseErr::BadRelease { line },
+    }
+}
+
+fn has_words(alloc: Global, key: &str, expected: &[&str], other: &str) -> bool {
+    match read_release(alloc, LISTS) {
+        Ok(release) => {
+            are_words(&release, key, expected)
+                && !release.has_word(key, other)
+                && !release.has_word(key, "")
+        }
+        Err(_) => false,
+    }
+}
+
+// Whether the key's words are these, as a list and one by one.
+fn are_words(release: &Release, key: &str, expected: &[&str]) -> bool {
+    let Ok(words) = release.words(key) else {
+        return false;
+    };
     for (word, text) in words.as_slice().iter().zip(expected) {
-        assert_eq!(rt; word.bytes(), text.as_bytes());
-        assert!(rt; release.has_word(key, text));
+        if word.bytes() != text.as_bytes() || !release.has_word(key, text) {
+            return false;
+        }
     }
-    Ok(())
-}
-
-fn fault(alloc: Global, file: &[u8]) -> Option<ReleaseErr> {
-    read_release(alloc, file).err()
+    words.len() == expected.len()
 }
 
 #[test]
-fn values_are_read_by_the_rules_of_lines_and_quotes(rt: HostRuntime) -> Result<(), Fail> {
-    for (file, key, value) in VALUES {
-        let release = read_release(rt.alloc(), file)?;
-        check_value(&rt, &release, key, value);
-    }
-    Ok(())
+fn values_are_read_by_the_rules_of_lines_and_quotes(rt: HostRuntime) {
+    assert_eq!(rt; first_wrong(rt.alloc(), &VALUES), None);
+    quoted_texts_are_read_back();
+    a_file_has_one_release();
+}
+
+#[test]
+fn a_distribution_reads_as_in_a_shell(rt: HostRuntime) {
+    assert_eq!(rt; first_wrong(rt.alloc(), &DEBIAN_VALUES), None);
 }
 
 #[test]
 fn the_first_faulty_line_is_told(rt: HostRuntime) {
-    for (file, line) in FAULTS {
-        assert_eq!(rt;
-            fault(rt.alloc(), file),
-            Some(ReleaseErr::BadRelease { line }),
-            "{file:?}"
-        );
-    }
+    assert_eq!(rt; first_wrong(rt.alloc(), &FAULTS), None);
+    a_file_has_a_release_or_a_faulty_line();
 }
 
 #[test]
-fn a_distribution_reads_as_in_a_shell(rt: HostRuntime) -> Result<(), Fail> {
-    let release = read_release(rt.alloc(), DEBIAN)?;
-    for (key, value) in DEBIAN_VALUES {
-        check_value(&rt, &release, key, value);
-    }
-    Ok(())
-}
-
-#[test]
-fn words_stand_between_blanks(rt: HostRuntime) -> Result<(), Fail> {
-    let release = read_release(rt.alloc(), LISTS)?;
-    for (key, expected, other) in WORDS {
-        check_words(&rt, &release, key, expected)?;
-        assert!(rt; !release.has_word(key, other));
-        assert!(rt; !release.has_word(key, ""));
-    }
-    Ok(())
+fn words_stand_between_blanks(rt: HostRuntime) {
+    assert_eq!(rt; first_wrong(rt.alloc(), &WORDS), None);
 }

@@ -2,7 +2,7 @@
 
 -- a test as a proposition, and which ordering a test of orderings tells
 pub use Rattle.ext_text.proofs.OrderLemmas.{true_from_T, is_less, is_equal, is_greater}
--- what holds of each element of two lists holds of both in a row, of the first, and of the second
+-- what holds of each element of two lists holds of both, one after the other, and of each of them
 pub use Rattle.ext_text.proofs.ListLemmas.{all_append, all_prefix, all_back}
 -- two facts of each element, and a weaker one
 pub use Rattle.ext_text.proofs.ListLemmas.{all_both, all_weaker}
@@ -26,6 +26,8 @@ pub use Rattle.ext_text.proofs.PrefixLemmas.{same_path, tied_path}
 pub use Rattle.ext_text.proofs.PrefixLemmas.{some_name}
 -- prefixes: of itself, of a prefix, of each other, and of so many names
 pub use Rattle.ext_text.proofs.PrefixLemmas.{prefix_self, prefix_trans, prefix_both, prefix_take, take_prefix}
+-- a prefix is the first names, a proper one those and shorter than the whole
+pub use Rattle.ext_text.proofs.PrefixLemmas.{prefix_first, proper_first}
 -- how long a prefix is; one as long as the whole is the whole
 pub use Rattle.ext_text.proofs.PrefixLemmas.{prefix_short, prefix_whole, prefix_shorter}
 -- prefixes in path order: each before the whole, and between a prefix and a path all begin with the prefix

@@ -5,8 +5,7 @@ use Rattle.std.proofs.lemmas.List.{append-nil, length-drop, length-take, take-ap
 use Rattle.std.specs.List.{flat_map, AllByRecursion, AllPass, slice_split, count_by}
 use Rattle.std.proofs.lemmas.Bool.{and_parts}
 use Rattle.std.proofs.lemmas.List.Elements.{All-weaker}
-use Rattle.std.proofs.lemmas.Bool.{eq-eqb}
-use Rattle.std.proofs.lemmas.List.Splits.{slice_split_none, slice_split_at, join_with_byte-slice_split, length-slice_split}
+use Rattle.std.proofs.lemmas.List.Splits.{join_with_byte-slice_split, length-slice_split}
 use Rattle.std.proofs.lemmas.List.Sums.{sum_by-append, sum_by-cons, sum_by-take-drop}
 use Rattle.std.proofs.lemmas.List.Concat.{flat_map-append}
 use Rattle.ext_lines.specs.Prefix.{AppendsPrefix}
@@ -51,7 +50,7 @@ below_stops old between new ns i n lt is whole part =
     let below : List (List ℕ) → List ℕ = λ ms. flat_map (λ (m : List ℕ). 47 ∷ m) ms in
     let here : drop i ns ≡ n ∷ drop (suc i) ns = drop-cons ns i n lt ∙ ap (λ (m : List ℕ). m ∷ drop (suc i) ns) (sym is) in
     let split : below ns ≡ below (take i ns) ++ ((47 ∷ n) ++ below (drop (suc i) ns)) =
-      ap below (sym (take-append-drop i ns)) ∙ flat_map-append (λ (m : List ℕ). 47 ∷ m) (take i ns) (drop i ns) ∙ ap (λ (ms : List (List ℕ)). below (take i ns) ++ below ms) here in
+    ap below (sym (take-append-drop i ns)) ∙ flat_map-append (λ (m : List ℕ). 47 ∷ m) (take i ns) (drop i ns) ∙ ap (λ (ms : List (List ℕ)). below (take i ns) ++ below ms) here in
     subst (AppendsPrefix old new) (sym split) (appends_after old between new (below (take i ns)) ((47 ∷ n) ++ below (drop (suc i) ns)) whole (appends_more between new (47 ∷ n) (below (drop (suc i) ns)) part))
 
 -- names below the first that were not added whole, after the first

@@ -1,8 +1,8 @@
 -- Prefixes of paths: what a path begins with, where it stands in path order, and a path's parent.
-use Rattle.std.proofs.Common.{◌≡◌, ◌≢◌, ℕ, zero, suc, ◌+◌, ◌-◌, ◌<◌, ◌≤◌, ◌&&◌, true, false, List, [], ◌∷◌, length, take, refl, sym, ap, ◌∙◌, subst, arith, length-take}
+use Rattle.std.proofs.Common.{not, ◌≡◌, ◌≢◌, ℕ, zero, suc, ◌+◌, ◌-◌, ◌<◌, ◌≤◌, ◌&&◌, true, false, List, [], ◌∷◌, length, take, refl, sym, ap, ◌∙◌, subst, arith, length-take}
 use mathlib.Core.Logic.{inl, inr}
-use Rattle.std.proofs.lemmas.Bool.{false≢true, true≢false, and_parts, and_from, cases_lt}
-use Rattle.std.specs.Prelude.{nat_eq}
+use Rattle.std.proofs.lemmas.Bool.{false≢true, true≢false, and_parts, and_from, cases_lt, false_from_ne_true, not-true}
+use Rattle.std.specs.Prelude.{◌↔◌, nat_eq}
 use Rattle.std.specs.declared.cmp.Ordering.{Ordering}
 use Rattle.std.specs.declared.cmp.Ordering.TheVariants.{Less, Equal, Greater}
 use Rattle.std.specs.Ordering.{is_lt, is_gt, is_eq, ordering_then, ordering_reverse, eq_by_cmp}
@@ -10,7 +10,7 @@ use Rattle.std.specs.Cmp.{IsTotalOrder, tied_itself}
 use Rattle.std.specs.Cmp.Lexicographic.{pointwise, texts_ties, nat_list_cmp_total}
 use Rattle.std.specs.FinMap.{IsAntisymmetric, slice_cmp-IsAntisymmetric, nat_cmp-IsAntisymmetric}
 use Rattle.ext_lines.specs.ByteOrder.{bytes_cmp}
-use Rattle.ext_text.specs.Path.{path_cmp, parent, is_prefix}
+use Rattle.ext_text.specs.Path.{path_cmp, parent, is_prefix, is_proper_prefix}
 use Rattle.ext_text.specs.Order.{paths_total, paths_exact}
 use Rattle.ext_text.proofs.OrderLemmas.{is_equal}
 
@@ -170,3 +170,32 @@ parent_less p some = prefix_less (parent p) p (parent_prefix p) (omega (arith, l
 -- only the root is its own parent
 pub parent_other : (p : List (List ℕ)) → 0 < length p → parent p ≢ p
 parent_other p some same = absurd (omega (arith, length-parent p some, ap length same))
+
+-- ---- prefixes as the first names
+
+prefix_is_first : (p q : List (List ℕ)) → is_prefix p q ≡ true → p ≡ take (length p) q
+prefix_is_first p q prefix =
+    let short : length p ≤ length q = prefix_short p q prefix in
+    prefix_whole p (take (length p) q) (prefix_take (length p) p q prefix (omega arith)) (omega (arith, length-take (length p) q))
+
+first_is_prefix : (p q : List (List ℕ)) → p ≡ take (length p) q → is_prefix p q ≡ true
+first_is_prefix p q first = subst (λ r. is_prefix r q ≡ true) (sym first) (take_prefix (length p) q)
+
+pub prefix_first : (p q : List (List ℕ)) → (is_prefix p q ≡ true) ↔ (p ≡ take (length p) q)
+prefix_first p q = (prefix_is_first p q, first_is_prefix p q)
+
+proper_shorter : (p q : List (List ℕ)) → is_proper_prefix p q ≡ true → length p < length q
+proper_shorter p q proper =
+    let parts = and_parts (is_prefix p q) (not (is_prefix q p)) proper in
+    prefix_shorter p q parts.0 (λ same. true≢false (sym (subst (λ r. is_prefix r p ≡ true) same (prefix_self p)) ∙ not-true (is_prefix q p) parts.1))
+
+shorter_proper : (p q : List (List ℕ)) → is_prefix p q ≡ true → length p < length q → is_proper_prefix p q ≡ true
+shorter_proper p q prefix short =
+    and_from _ _ prefix (ap not (false_from_ne_true (is_prefix q p) (λ back. absurd (omega (arith, prefix_short q p back)))))
+
+-- a proper prefix is the first names, and shorter than the whole
+pub proper_first : (p q : List (List ℕ)) → (is_proper_prefix p q ≡ true) ↔ ((p ≡ take (length p) q) × (length p < length q))
+proper_first p q = (
+  λ proper. (prefix_is_first p q (and_parts (is_prefix p q) (not (is_prefix q p)) proper).0, proper_shorter p q proper),
+  λ first. shorter_proper p q (first_is_prefix p q first.0) first.1,
+)

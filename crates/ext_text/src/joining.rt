@@ -28,11 +28,7 @@ impl Path {
     pub fn join(&self, other: &Path) -> Result<Path, PathErr>
         ensures { Lengthens (self.now ++ other.now) result }
     {
-        joined(
-            self.allocator(),
-            self.names(),
-            other.names(),
-        )
+        joined(self.allocator(), self.names(), other.names())
     }
 }
 

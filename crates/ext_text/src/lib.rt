@@ -2,14 +2,15 @@
 //! and classes of images.
 //!
 //! A value of one of these types has been read: a [`Name`] is a name by the rule of names, a [`Path`] is within its
-//! limits, a [`Mode`] is one. Contracts see each as its bytes, its names or its number. Every crate of the repository
-//! stands on this one.
+//! limits, a [`Mode`] is one. Contracts see each as its bytes, its names or its number. Every crate that speaks of files,
+//! trees, hosts or commands stands on this one.
 #![tactic(auto)]
 
 mod arch;
 mod class;
 mod digest;
 mod joining;
+pub mod laws;
 mod list;
 mod mode;
 mod name;

@@ -1,13 +1,14 @@
 -- The reply to a source is one.
 use Rattle.std.proofs.Common.{◌≡◌, ◌<◌, ◌≤◌, ℕ, List, length, refl, sym, ap, ◌∙◌, subst, arith, inl, inr}
-use Rattle.std.specs.Prelude.{◌⊎◌, reverse, Some, None}
+use Rattle.std.specs.Prelude.{◌⊎◌, reverse, None}
 use Rattle.ext_text.specs.declared.which.Which.TheVariants as limits
 use Rattle.ext_tree.specs.Tree.{Entries, most_entries}
 use Rattle.ext_tree.specs.TreeText.{tree_text}
 use Rattle.ext_tree.specs.FirstFault.{IsFirstFault, AtLeastOne}
-use Rattle.ext_tree.specs.TextLaws.{OneListOfSequence, NoFaultInSequence, OneFirstFault}
+use Rattle.ext_tree.specs.Laws.{OneListOfSequence, NoFaultInSequence, OneFirstFault}
 use Rattle.ext_tree.specs.declared.stamp.Stamp.{Stamp}
 use Rattle.ext_layer.specs.Layered.{IsLayered}
+use Rattle.ext_layer.specs.Laws.{OneLayeredTree}
 use Rattle.ext_top.specs.Layer.{LayersOf, RefusesSource, LayerComes}
 use Rattle.ext_top.specs.Words.{Command, Layer, Compare}
 use Rattle.ext_top.specs.Outcome.{status_of, reply_of}
@@ -23,7 +24,7 @@ pub record Below : Type 0 where
   pub one_list : OneListOfSequence
   pub no_fault : NoFaultInSequence
   pub one_fault : OneFirstFault AtLeastOne
-  pub one_tree : (layers : List (Entries Stamp)) (a b : Entries Stamp) → IsLayered layers a → IsLayered layers b → a ≡ b
+  pub one_tree : OneLayeredTree Stamp
 
 -- bytes have one layered tree
 one_layered : (below : Below) (bytes : List ℕ) (a b : Entries Stamp) → LayersOf bytes a → LayersOf bytes b → a ≡ b

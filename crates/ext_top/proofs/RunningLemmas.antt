@@ -1,16 +1,13 @@
 -- How a run ends, over any command: by what it came to, and where it meets no fault.
-use Rattle.std.proofs.Common.{◌≡◌, ◌≤◌, ◌+◌, ℕ, Bool, true, false, List, ◌++◌, [], ◌∷◌, length, refl, sym, ◌∙◌, subst, rules, arith, inl, inr, append_assoc, append-nil}
+use Rattle.std.proofs.Common.{◌≡◌, ◌≤◌, ◌+◌, ℕ, Bool, true, false, List, ◌++◌, [], ◌∷◌, refl, sym, ◌∙◌, subst, rules, arith, inl, inr, append_assoc, append-nil}
 use Rattle.std.proofs.lemmas.List.{length-append}
-use Rattle.std.specs.Prelude.{Some, IsTrue}
-use Rattle.std.specs.Io.KnownBytes.{Consumes}
-use Rattle.ext_text.specs.Causes.{Rose}
+use Rattle.std.specs.Prelude.{IsTrue}
 use Rattle.ext_io.specs.SourceState.{SourceState}
 use Rattle.ext_io.specs.SinkState.{SinkState}
-use Rattle.ext_io.specs.Whole.{ReadsAll, Took}
 use Rattle.ext_top.specs.Words.{Command, IsStuck, command_words}
-use Rattle.ext_top.specs.Step.{Comes, Replies, reads_source, takes_memory}
+use Rattle.ext_top.specs.Step.{Comes, reads_source, takes_memory}
 use Rattle.ext_top.specs.Outcome.{status_of, reply_of}
-use Rattle.ext_top.specs.Running.{Streams, TakesAll, TakesSome, TookOnly, Replied, Wrote, Ends, Runs, RunsWords, TellsWithin, Completes, CompletesCommand, WritesReply, WritesOutcome, streams, most_source}
+use Rattle.ext_top.specs.Running.{Streams, TakesAll, TakesSome, Replied, Ends, Runs, RunsWords, TellsWithin, Completes, CompletesCommand, WritesReply, WritesOutcome, streams, most_source}
 use Rattle.ext_top.specs.declared.outcome.Outcome.{Outcome}
 use Rattle.ext_top.specs.declared.outcome.Outcome.TheVariants.{Gives, Refuses}
 use Rattle.ext_top.specs.declared.status.Status.{Status}

@@ -1,5 +1,5 @@
 -- Reading the words of a command gives that command; and the places at which words are none.
-use Rattle.std.proofs.Common.{◌≡◌, ◌≢◌, ◌<◌, ◌≤◌, ℕ, List, [], ◌∷◌, ◌++◌, length, codes, refl, sym, ap, ◌∙◌, arith}
+use Rattle.std.proofs.Common.{◌≡◌, ◌≢◌, ◌<◌, ◌≤◌, ℕ, List, [], ◌∷◌, length, codes, refl, sym, ap, ◌∙◌, arith}
 use Rattle.std.specs.Prelude.{Some}
 use Rattle.ext_top.specs.Keyword.{keyword_text}
 use Rattle.ext_top.specs.Words.{Command, Layer, Compare, IsCommand, BeginsCommand, IsUsage, command_words, read_command}

@@ -9,7 +9,7 @@ abbrev pub keyword_text : Keyword → List ℕ
 keyword_text Layer = codes "layer"
 keyword_text Compare = codes "compare"
 
--- what reading a text answers: the keyword of this text, or that it is none
+-- what reading a text gives: the keyword of this text, or that it is none
 abbrev pub ReadsKeyword : List ℕ → Option Keyword → Type 0
 ReadsKeyword text (Some keyword) = text ≡ keyword_text keyword
 ReadsKeyword text None = (keyword : Keyword) → text ≢ keyword_text keyword

@@ -1,5 +1,5 @@
 -- The command `layer`. Its source is a sequence of tree texts, the host first, each later tree above the earlier ones.
-use Rattle.std.specs.Prelude.{◌≡◌, ℕ, ◌<◌, ◌≤◌, List, [], ◌∷◌, length, reverse, codes, Some, None}
+use Rattle.std.specs.Prelude.{◌≡◌, ℕ, ◌<◌, ◌≤◌, List, [], ◌∷◌, length, reverse, codes, None}
 use Rattle.ext_text.specs.declared.which.Which.TheVariants as limits
 use Rattle.ext_tree.specs.Tree.{Entries, most_entries}
 use Rattle.ext_tree.specs.TreeText.{IsSequence, tree_text}

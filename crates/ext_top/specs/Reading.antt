@@ -9,7 +9,7 @@ abbrev pub command_of : Command → grammar.Command
 command_of Layer = grammar.Layer
 command_of (Compare a b) = grammar.Compare a.now b.now
 
--- what reading words answers: the command that they are, or the place of their first fault
+-- what reading words gives: the command that they are, or the place of their first fault
 abbrev pub ReadsWords : List (List ℕ) → Result Command UsageErr → Type 0
 ReadsWords words (Ok command) = words ≡ grammar.command_words (command_of command)
 ReadsWords words (Err usage) = grammar.IsUsage words usage.place

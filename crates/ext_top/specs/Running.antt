@@ -1,12 +1,11 @@
 -- How a run ends, by its status: what it took from the source, what it wrote, and which fault it may blame. All of it is
 -- said over the step of any command.
-use Rattle.std.specs.Prelude.{◌≡◌, ℕ, ◌+◌, ◌≤◌, ◌⊎◌, Bool, true, false, IsTrue, List, [], length, Option, Some}
+use Rattle.std.specs.Prelude.{◌≡◌, ℕ, ◌+◌, ◌≤◌, ◌⊎◌, Bool, true, false, IsTrue, List, [], length, Some}
 use Rattle.std.specs.Io.KnownBytes.{Appends}
 use Rattle.ext_text.specs.Causes.{Rose}
 use Rattle.ext_io.specs.SourceState.{SourceState}
 use Rattle.ext_io.specs.SinkState.{SinkState}
-use Rattle.ext_io.specs.Whole.{ReadsAll, Took}
-use Rattle.ext_io.specs.ProperPrefix.{AppendsProperPrefix}
+use Rattle.ext_io.specs.Whole.{ReadsAll, Took, AppendsProperPrefix}
 use Rattle.ext_top.specs.Words.{Command, IsUsage, command_words}
 use Rattle.ext_top.specs.Step.{Replies, reads_source, takes_memory}
 use Rattle.ext_top.specs.Outcome.{status_of, reply_of}

@@ -15,6 +15,7 @@ use std::alloc::Global;
 ///
 /// # Errors
 /// The place of the first fault, exactly where they are others.
+#[tactic(auto, using(crate::proofs::WordsLemmas::layer_more))]
 pub fn read_layer<'a>(more: &'a [Text]) -> Result<Command<'a>, UsageErr>
     ensures { ReadsWords (codes "layer" ∷ more.now) result }
 {

@@ -21,9 +21,10 @@ const MOST_SOURCE: usize = 16_777_216;
 /// Runs the command that the words are, over a source and a sink.
 ///
 /// `layer`: the source is a sequence of tree texts, the host first, and the text of the layered tree is written, each
-/// later tree above the earlier ones. The source is read to its end first, and for 16,777,217 bytes at the most. A source
-/// that is no such sequence, or whose layered tree has more than 262,144 entries, is refused, and the refusal's line is
-/// written. Where no count rose and the source is within its limit, it ends with `Done`, `Refused` or `OutOfMemory`.
+/// later tree above the earlier ones. The source is read to its end first; where it tells its bytes, at most 16,777,217 of
+/// them are taken. A source that is no such sequence, or whose layered tree has more than 262,144 entries, is refused, and
+/// the refusal's line is written. Where no count rose, and the source tells its bytes and is within its limit, it ends with
+/// `Done`, `Refused` or `OutOfMemory`.
 ///
 /// `compare TEXT TEXT`: `less`, `equal` or `greater` is written, and a newline, as the first text is against the second
 /// in the order of versions. The source is left alone. Where the sink's count didn't rise, it ends with `Done`.

@@ -22,7 +22,7 @@ use Rattle.ext_lines.specs.Numbers.{octal}
 use Rattle.ext_tree.specs.EntryLine.{entry_fields}
 use Rattle.ext_tree.specs.TreeText.{HasTreeLine, stamp_form, tree_line}
 use Rattle.ext_tree.specs.declared.entry.Entry.{Entry}
-use Rattle.ext_tree.specs.declared.entry.Entry.TheVariants.{Dir, File, Link}
+use Rattle.ext_tree.specs.declared.entry.Entry.TheVariants.{Dir, Opaque, File, Link, Hide}
 use Rattle.ext_tree.specs.declared.stamp.Stamp.{Stamp}
 use Rattle.ext_tree.proofs.FieldsLemmas.{spaced-append}
 
@@ -163,6 +163,9 @@ line_at e line = elim (rest_of (spaced (entry_fields stamp_form e) []) line) [
 dir_line : (line : List ℕ) → Decided ((m : ℕ) × (m < 4096) × LineAt (Dir m) line)
 dir_line line = first_below (λ m. LineAt (Dir m) line) (λ m. line_at (Dir m) line) 4096
 
+opaque_line : (line : List ℕ) → Decided ((m : ℕ) × (m < 4096) × LineAt (Opaque m) line)
+opaque_line line = first_below (λ m. LineAt (Opaque m) line) (λ m. line_at (Opaque m) line) 4096
+
 -- a link whose target has so many bytes
 abbrev LinkLine : List ℕ → ℕ → Type 0
 LinkLine line n = (t : List ℕ) × ((length t ≡ n) × (IsTarget t × LineAt (Link t) line))
@@ -225,38 +228,70 @@ file_of line m size = elim (rest_of (spaced (codes "f" ∷ octal m ∷ decimal s
 file_line : (line : List ℕ) → Decided ((m : ℕ) × (m < 4096) × ((n : ℕ) × (n < 1073741825) × FileLine line m n))
 file_line line = first_below (λ m. (n : ℕ) × (n < 1073741825) × FileLine line m n) (λ m. first_below (FileLine line m) (file_of line m) 1073741825) 4096
 
+at_most : (n most : ℕ) → n < suc most → n ≤ most
+at_most n most below = omega arith
+
+below : (n most : ℕ) → n ≤ most → n < suc most
+below n most within = omega arith
+
+-- an entry of this line
+abbrev pub EntryOf : List ℕ → Type 0
+EntryOf line = (x : List (List ℕ) × Entry Stamp) × (HasTreeLine x × (line ≡ tree_line x))
+
+dir_entry : (line : List ℕ) → ((m : ℕ) × (m < 4096) × LineAt (Dir m) line) → EntryOf line
+dir_entry line d = ((d.2.0, Dir d.0), (record { path = d.2.1.0; non_empty = d.2.1.1.0; writable = at_most d.0 4095 d.1 }, d.2.1.1.1))
+
+opaque_entry : (line : List ℕ) → ((m : ℕ) × (m < 4096) × LineAt (Opaque m) line) → EntryOf line
+opaque_entry line d = ((d.2.0, Opaque d.0), (record { path = d.2.1.0; non_empty = d.2.1.1.0; writable = at_most d.0 4095 d.1 }, d.2.1.1.1))
+
+hide_entry : (line : List ℕ) → LineAt Hide line → EntryOf line
+hide_entry line d = ((d.0, Hide), (record { path = d.1.0; non_empty = d.1.1.0; writable = tt }, d.1.1.1))
+
+link_entry : (line : List ℕ) → ((n : ℕ) × (n < 4097) × LinkLine line n) → EntryOf line
+link_entry line l =
+    let at : LineAt (Link l.2.0) line = l.2.1.1.1 in
+    ((at.0, Link l.2.0), (record { path = at.1.0; non_empty = at.1.1.0; writable = l.2.1.1.0 }, at.1.1.1))
+
+file_entry : (line : List ℕ) → ((m : ℕ) × (m < 4096) × ((n : ℕ) × (n < 1073741825) × FileLine line m n)) → EntryOf line
+file_entry line f =
+    let file : FileLine line f.0 f.2.0 = f.2.2 in
+    let at : LineAt (File f.0 (stamp f.2.0 file.0)) line = file.1.1 in (
+      (at.0, File f.0 (stamp f.2.0 file.0)),
+      (
+        record {
+          path = at.1.0;
+          non_empty = at.1.1.0;
+          writable = (at_most f.0 4095 f.1, record { size = at_most f.2.0 1073741824 f.2.1; digest = file.1.0 });
+        },
+        at.1.1.1,
+      ),
+    )
+
 -- the entry of this line, or that no entry has it
-pub entry_of : (line : List ℕ) → Decided ((x : List (List ℕ) × Entry Stamp) × (HasTreeLine x × (line ≡ tree_line x)))
+pub entry_of : (line : List ℕ) → Decided (EntryOf line)
 entry_of line = elim (dir_line line) [
-  | inl d ↦ inl ((d.2.0, Dir d.0), (record { path = d.2.1.0; non_empty = d.2.1.1.0; writable = at_most d.0 4095 d.1 }, d.2.1.1.1))
-  | inr no_dir ↦ elim (link_line line) [
-    | inl l ↦
-        let at : LineAt (Link l.2.0) line = l.2.1.1.1 in
-        inl ((at.0, Link l.2.0), (record { path = at.1.0; non_empty = at.1.1.0; writable = l.2.1.1.0 }, at.1.1.1))
-    | inr no_link ↦ elim (file_line line) [
-      | inl f ↦
-          let file : FileLine line f.0 f.2.0 = f.2.2 in
-          let at : LineAt (File f.0 (stamp f.2.0 file.0)) line = file.1.1 in
-          inl ((at.0, File f.0 (stamp f.2.0 file.0)), (record {
-            path = at.1.0;
-            non_empty = at.1.1.0;
-            writable = (at_most f.0 4095 f.1, record { size = at_most f.2.0 1073741824 f.2.1; digest = file.1.0 });
-          }, at.1.1.1))
-      | inr no_file ↦ inr (λ found. none no_dir no_link no_file found.0 found.1.0 found.1.1)
+  | inl d ↦ inl (dir_entry line d)
+  | inr no_dir ↦ elim (opaque_line line) [
+    | inl o ↦ inl (opaque_entry line o)
+    | inr no_opaque ↦ elim (line_at Hide line) [
+      | inl w ↦ inl (hide_entry line w)
+      | inr no_hide ↦ elim (link_line line) [
+        | inl l ↦ inl (link_entry line l)
+        | inr no_link ↦ elim (file_line line) [
+          | inl f ↦ inl (file_entry line f)
+          | inr no_file ↦ inr (λ found. none no_dir no_opaque no_hide no_link no_file found.0 found.1.0 found.1.1)
+        ]
+      ]
     ]
   ]
 ]
   where
-    at_most : (n most : ℕ) → n < suc most → n ≤ most
-    at_most n most below = omega arith
-
-    below : (n most : ℕ) → n ≤ most → n < suc most
-    below n most within = omega arith
-
-    none : (((m : ℕ) × (m < 4096) × LineAt (Dir m) line) → ⊥) → (((n : ℕ) × (n < 4097) × LinkLine line n) → ⊥) → (((m : ℕ) × (m < 4096) × ((n : ℕ) × (n < 1073741825) × FileLine line m n)) → ⊥)
-        → (x : List (List ℕ) × Entry Stamp) → HasTreeLine x → line ≡ tree_line x → ⊥
-    none no_dir no_link no_file (p, Dir m) has is = no_dir (m, below m 4095 has.writable, (p, (has.path, (has.non_empty, is))))
-    none no_dir no_link no_file (p, Link t) has is =
+    none : (((m : ℕ) × (m < 4096) × LineAt (Dir m) line) → ⊥) → (((m : ℕ) × (m < 4096) × LineAt (Opaque m) line) → ⊥) → (LineAt Hide line → ⊥) → (((n : ℕ) × (n < 4097) × LinkLine line n) → ⊥)
+        → (((m : ℕ) × (m < 4096) × ((n : ℕ) × (n < 1073741825) × FileLine line m n)) → ⊥) → (x : List (List ℕ) × Entry Stamp) → HasTreeLine x → line ≡ tree_line x → ⊥
+    none no_dir no_opaque no_hide no_link no_file (p, Dir m) has is = no_dir (m, below m 4095 has.writable, (p, (has.path, (has.non_empty, is))))
+    none no_dir no_opaque no_hide no_link no_file (p, Opaque m) has is = no_opaque (m, below m 4095 has.writable, (p, (has.path, (has.non_empty, is))))
+    none no_dir no_opaque no_hide no_link no_file (p, Hide) has is = no_hide (p, (has.path, (has.non_empty, is)))
+    none no_dir no_opaque no_hide no_link no_file (p, Link t) has is =
         no_link (length t, below (length t) 4096 has.writable.at_most_4096, (t, (refl, (has.writable, (p, (has.path, (has.non_empty, is)))))))
-    none no_dir no_link no_file (p, File m s) has is =
+    none no_dir no_opaque no_hide no_link no_file (p, File m s) has is =
         no_file (m, below m 4095 has.writable.0, (s.size, below s.size 1073741824 has.writable.1.size, (s.digest.0, (has.writable.1.digest, (p, (has.path, (has.non_empty, is)))))))

@@ -1,8 +1,8 @@
 -- Where no text goes on is the first faulty line, and there the bytes are no sequence of texts.
-use Rattle.std.proofs.Common.{◌≡◌, ◌≢◌, ℕ, suc, ◌+◌, ◌-◌, not, eqb, List, [], ◌∷◌, ◌++◌, length, take, refl, sym, ap, ◌∙◌, subst, arith, append_assoc, length-append}
-use Rattle.std.specs.Prelude.{codes, map}
+use Rattle.std.proofs.Common.{◌≡◌, ◌≢◌, ℕ, suc, Bool, true, false, ◌+◌, ◌-◌, not, eqb, List, [], ◌∷◌, ◌++◌, length, take, refl, sym, ap, ◌∙◌, subst, arith, append_assoc, length-append}
+use Rattle.std.specs.Prelude.{◌⊎◌, codes, map}
 use mathlib.Core.Logic.{inl, inr}
-use Rattle.std.proofs.lemmas.List.{append-nil, append_cancel_left}
+use Rattle.std.proofs.lemmas.List.{append-nil, append_cancel_left, take-append-le}
 use Rattle.std.proofs.lemmas.List.Sums.{AllPass-from_list_all}
 use Rattle.std.specs.List.{AllByRecursion, flat_map}
 use Rattle.ext_lines.specs.Split.{Lacks, IsSplit}
@@ -10,17 +10,19 @@ use Rattle.ext_lines.proofs.ForCallers.{split_or_lacks, lacks_nil, whole_lines-t
 use Rattle.ext_text.proofs.ForCallers.{all_append}
 use Rattle.ext_tree.specs.declared.stamp.Stamp.{Stamp}
 use Rattle.ext_tree.specs.Tree.{Entries}
-use Rattle.ext_tree.specs.TreeText.{HasTreeLine, HasText, tree_line, tree_lines, tree_text}
+use Rattle.ext_tree.specs.TreeText.{HasTreeLine, HasText, header, need_version_2, tree_line, tree_lines, tree_text}
 use Rattle.ext_lines.specs.Lines.{lines_text, whole_lines}
-use Rattle.ext_tree.specs.FirstFault.{Begins, IsFirstFault}
-use Rattle.ext_tree.specs.Reading.{NoneNext}
+use Rattle.ext_tree.specs.FirstFault.{Begins, EndsIdle, IsFirstFault}
+use Rattle.ext_tree.proofs.IdleLemmas.{none_ends_idle}
+use Rattle.ext_tree.proofs.SequenceLemmas.{loosely, loosely_each, loosely_lines, loosely_trees}
 use Rattle.ext_tree.proofs.TreeLineLemmas.{line_lacks}
 use Rattle.ext_tree.proofs.TreeTextLemmas.{lines_of}
 
 -- ---- the lines of texts
 
-pub header_lacks : Lacks 10 (codes "hostext-tree 1")
-header_lacks = AllPass-from_list_all (λ b. not (eqb b 10)) (codes "hostext-tree 1") refl
+pub header_lacks : (two : Bool) → Lacks 10 (header two)
+header_lacks true = AllPass-from_list_all (λ b. not (eqb b 10)) (header true) refl
+header_lacks false = AllPass-from_list_all (λ b. not (eqb b 10)) (header false) refl
 
 pub entries_lack : (es : Entries Stamp) → AllByRecursion HasTreeLine es → AllByRecursion (Lacks 10) (map tree_line es)
 entries_lack [] lines = tt
@@ -28,7 +30,7 @@ entries_lack (x ∷ es) lines = (line_lacks x lines.0, entries_lack es lines.1)
 
 -- no line of a sequence holds a newline
 pub tree_lacks : (es : Entries Stamp) → HasText es → AllByRecursion (Lacks 10) (tree_lines es)
-tree_lacks es text = (header_lacks, all_append (Lacks 10) (map tree_line es) (codes "end" ∷ []) (entries_lack es (lines_of es text)) (AllPass-from_list_all (λ b. not (eqb b 10)) (codes "end") refl, tt))
+tree_lacks es text = (header_lacks (need_version_2 es), all_append (Lacks 10) (map tree_line es) (codes "end" ∷ []) (entries_lack es (lines_of es text)) (AllPass-from_list_all (λ b. not (eqb b 10)) (codes "end") refl, tt))
 
 pub sequence_lacks : (trees : List (Entries Stamp)) → AllByRecursion HasText trees → AllByRecursion (Lacks 10) (flat_map tree_lines trees)
 sequence_lacks [] each = tt
@@ -49,13 +51,14 @@ sequence_lines bytes trees each text =
 
 -- ---- where no text goes on
 
--- the bytes are lines with which sequences begin, and a rest: no sequence begins with these lines and the rest's first one, and the
--- lines are no sequence, unless something follows
+-- the bytes are lines with which sequences begin, and a rest: where it has a first line, that is faulty; and the lines are
+-- no sequence, unless something follows
 pub record IsStuck (wanted : List (Entries Stamp) → Type 0) (bytes : List ℕ) (lines : List (List ℕ)) (rest : List ℕ) : Type 0 where
   pub text : bytes ≡ lines_text lines ++ rest
   pub lacks : AllByRecursion (Lacks 10) lines
   pub before : Begins wanted lines
-  pub stop : NoneNext (λ l. Begins wanted (lines ++ l ∷ [])) rest
+  pub not_before : (k : ℕ) → EndsIdle (take k lines) → ⊥
+  pub stop : (l more : List ℕ) → IsSplit 10 rest l more → EndsIdle (lines ++ l ∷ []) ⊎ (Begins wanted (lines ++ l ∷ []) → ⊥)
   pub unended : (trees : List (Entries Stamp)) → wanted trees → AllByRecursion HasText trees → lines ≡ flat_map tree_lines trees → rest ≢ []
 
 take_lines : (lines : List (List ℕ)) (l : List ℕ) (more : List (List ℕ)) (n : ℕ) → n ≡ length lines → take n (lines ++ l ∷ more) ≡ lines
@@ -82,6 +85,7 @@ early_end wanted bytes lines rest stuck lacks =
       stop = inr (record {
         after = ap (λ xs. length xs + 1) (sym seen);
         before = subst (Begins wanted) (sym seen) stuck.before;
+        not_before = λ k _ idle. stuck.not_before k (subst EndsIdle (ap (take k) seen) idle);
       });
     }
 
@@ -89,19 +93,29 @@ faulty_line : (wanted : List (Entries Stamp) → Type 0) (bytes : List ℕ) (lin
 faulty_line wanted bytes lines rest l more stuck split =
     let after : lines ++ whole_lines rest ≡ lines ++ l ∷ whole_lines more = ap (λ xs. lines ++ xs) (whole_lines-split rest l more split) in
     let seen : whole_lines bytes ≡ lines ++ l ∷ whole_lines more = ap whole_lines stuck.text ∙ whole_lines-text lines rest stuck.lacks ∙ after in
+    let one_more : take (length lines + 1) (whole_lines bytes) ≡ lines ++ l ∷ [] = ap (take (length lines + 1)) seen ∙ take_more lines l (whole_lines more) (length lines + 1) (omega arith) in
     record {
-      none = λ trees as_many is. stuck.stop l more split (record {
-        trees = trees;
-        more = whole_lines more;
-        as_many = as_many;
-        each = is.each;
-        text = append_assoc lines (l ∷ []) (whole_lines more) ∙ sym after ∙ whole_sequence wanted bytes lines rest stuck trees is.each is.text;
-      });
+      none = λ trees as_many is.
+          let whole : lines ++ l ∷ whole_lines more ≡ flat_map tree_lines trees = sym after ∙ whole_sequence wanted bytes lines rest stuck trees is.each is.text in
+          elim (stuck.stop l more split) [
+            | inl idle ↦ none_ends_idle trees [] is.each tt (length lines + 1) (subst EndsIdle (sym (ap (take (length lines + 1)) (append-nil (flat_map tree_lines trees) ∙ sym whole) ∙ take_more lines l (whole_lines more) (length lines + 1) (omega arith))) idle)
+            | inr not_begun ↦ not_begun (record {
+              texts = map loosely trees;
+              more = whole_lines more;
+              as_many = subst wanted (sym (loosely_trees trees)) as_many;
+              each = loosely_each trees is.each;
+              text = append_assoc lines (l ∷ []) (whole_lines more) ∙ whole ∙ sym (loosely_lines trees);
+            })
+          ];
       stop = inl (record {
         counted = omega arith;
         there = omega (arith, ap length seen, length-append lines (l ∷ whole_lines more));
         before = subst (Begins wanted) (sym (ap (take (length lines + 1 - 1)) seen ∙ take_lines lines l (whole_lines more) (length lines + 1 - 1) (omega arith))) stuck.before;
-        faulty = λ begins. stuck.stop l more split (subst (Begins wanted) (ap (take (length lines + 1)) seen ∙ take_more lines l (whole_lines more) (length lines + 1) (omega arith)) begins);
+        not_before = λ k less idle. stuck.not_before k (subst EndsIdle (ap (take k) seen ∙ take-append-le k lines (l ∷ whole_lines more) (omega (arith, less))) idle);
+        faulty = elim (stuck.stop l more split) [
+          | inl idle ↦ inl (subst EndsIdle (sym one_more) idle)
+          | inr not_begun ↦ inr (λ begins. not_begun (subst (Begins wanted) one_more begins))
+        ];
       });
     }
 

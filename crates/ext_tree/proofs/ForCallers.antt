@@ -14,7 +14,6 @@ pub use Rattle.ext_tree.proofs.OrderLemmas.{find-join, sorted_prefix, prefix_bel
 pub use Rattle.ext_tree.proofs.OrderLemmas.{sorted_push, all_below, find_above, found_below}
 -- what holds of each key that is found holds of each entry's key
 pub use Rattle.ext_tree.proofs.OrderLemmas.{each_found}
-
 -- ---- trees
 
 -- the root is no entry's path; each shorter prefix of an entry's path is a directory or the root
@@ -25,7 +24,6 @@ pub use Rattle.ext_tree.proofs.PrefixLemmas.{some_dir, directory_dir, dir_direct
 pub use Rattle.ext_tree.proofs.FollowingLemmas.{empty_tree, push_tree, pop_tree}
 -- a tree with one entry more at its insertion point
 pub use Rattle.ext_tree.proofs.TreeLemmas.{put_at, tree_put_at}
-
 -- ---- lines of entries, for any content
 
 -- a field, its space and what follows are read in one way
@@ -38,7 +36,6 @@ pub use Rattle.ext_tree.proofs.EntryLineLemmas.{fields_once, line_injective}
 pub use Rattle.ext_tree.proofs.EntryLineLemmas.{line_not_end, line_lacks, fields_lack}
 -- where what follows the fields is no path's text, no entry has the line
 pub use Rattle.ext_tree.proofs.EntryLineLemmas.{no_path_after}
-
 -- ---- tree texts
 
 -- the empty tree has a text, and so has a tree without its last entries

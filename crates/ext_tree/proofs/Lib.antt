@@ -5,12 +5,14 @@ pub mod OrderLemmas
 pub mod FollowingLemmas
 pub mod StandsAfterLemmas
 pub mod WritingLemmas
+pub mod AppendLemmas
 pub mod FieldsLemmas
 pub mod EntryLineLemmas
 pub mod TreeLineLemmas
 pub mod TreeTextLemmas
 pub mod ReadingLemmas
 pub mod SequenceLemmas
+pub mod IdleLemmas
 pub mod FirstFaultLemmas
 pub mod StopLemmas
 pub mod LawsLemmas

@@ -1,6 +1,6 @@
 -- Bytes have one first faulty line at most, and bytes that are texts have none.
 use Rattle.std.proofs.Common.{◌≡◌, ℕ, ◌-◌, ◌<◌, ◌≤◌, List, [], ◌∷◌, ◌++◌, length, take, drop, take-append-drop, sym, ap, ◌∙◌, subst, arith, append_assoc}
-use Rattle.std.specs.Prelude.{◌⊎◌}
+use Rattle.std.specs.Prelude.{◌⊎◌, map}
 use mathlib.Core.Logic.{inl, inr}
 use Rattle.std.proofs.lemmas.Bool.{cases_lt}
 use Rattle.std.proofs.lemmas.List.{append-nil, take_all, take-take}
@@ -8,9 +8,11 @@ use Rattle.std.specs.List.{flat_map}
 use Rattle.ext_tree.specs.declared.stamp.Stamp.{Stamp}
 use Rattle.ext_tree.specs.Tree.{Entries}
 use Rattle.ext_tree.specs.TreeText.{IsSequence, IsTreeText, tree_lines, tree_text}
-use Rattle.ext_tree.specs.FirstFault.{Begins, IsFaultyLine, IsEarlyEnd}
+use Rattle.ext_tree.specs.FirstFault.{AtLeastOne, Begins, EndsIdle, IsFaultyLine, IsEarlyEnd}
 use Rattle.ext_lines.specs.Lines.{whole_lines}
 use Rattle.ext_tree.specs.Laws.{NoFaultInText, NoFaultInSequence, PrefixesBegin, OneFirstFault}
+use Rattle.ext_tree.proofs.IdleLemmas.{none_ends_idle}
+use Rattle.ext_tree.proofs.SequenceLemmas.{loosely, loosely_each, loosely_lines, loosely_trees}
 use Rattle.ext_tree.proofs.FirstFaultLemmas.{sequence_lines}
 
 -- one text is a sequence
@@ -25,21 +27,23 @@ no_fault_in_sequence bytes trees line is fault = fault.none trees is.non_empty i
 
 pub prefixes_begin : PrefixesBegin
 prefixes_begin bytes trees line sequence =
-    let lines : whole_lines bytes ≡ flat_map tree_lines trees = sequence_lines bytes trees sequence.each sequence.text in
-    record {
-      trees = trees;
-      more = drop line (whole_lines bytes);
-      as_many = sequence.non_empty;
-      each = sequence.each;
-      text = take-append-drop line (whole_lines bytes) ∙ lines;
-    }
+    let lines : whole_lines bytes ≡ flat_map tree_lines trees = sequence_lines bytes trees sequence.each sequence.text in (
+      record {
+        texts = map loosely trees;
+        more = drop line (whole_lines bytes);
+        as_many = subst AtLeastOne (sym (loosely_trees trees)) sequence.non_empty;
+        each = loosely_each trees sequence.each;
+        text = take-append-drop line (whole_lines bytes) ∙ lines ∙ sym (loosely_lines trees);
+      },
+      λ idle. none_ends_idle trees [] sequence.each tt line (subst (λ xs. EndsIdle (take line xs)) (lines ∙ sym (append-nil (flat_map tree_lines trees))) idle),
+    )
 
 -- ---- at most one
 
 -- what begins with lines begins with fewer of them
 fewer_begin : (wanted : List (Entries Stamp) → Type 0) (lines : List (List ℕ)) (n k : ℕ) → n ≤ k → Begins wanted (take k lines) → Begins wanted (take n lines)
 fewer_begin wanted lines n k fewer begins = record {
-  trees = begins.trees;
+  texts = begins.texts;
   more = drop n (take k lines) ++ begins.more;
   as_many = begins.as_many;
   each = begins.each;
@@ -50,11 +54,16 @@ fewer_begin wanted lines n k fewer begins = record {
 }
 
 faulty_apart : (wanted : List (Entries Stamp) → Type 0) (lines : List (List ℕ)) (k l : ℕ) → IsFaultyLine wanted lines k → IsFaultyLine wanted lines l → k < l → ⊥
-faulty_apart wanted lines k l first second less = first.faulty (fewer_begin wanted lines k (l - 1) (omega arith) second.before)
+faulty_apart wanted lines k l first second less = elim first.faulty [
+  | inl idle ↦ second.not_before k less idle
+  | inr not_begun ↦ not_begun (fewer_begin wanted lines k (l - 1) (omega arith) second.before)
+]
 
 not_early : (wanted : List (Entries Stamp) → Type 0) (lines : List (List ℕ)) (k l : ℕ) → IsFaultyLine wanted lines k → IsEarlyEnd wanted lines l → ⊥
-not_early wanted lines k l faulty early =
-    faulty.faulty (fewer_begin wanted lines k (length lines) faulty.there (subst (Begins wanted) (sym (take_all (length lines) lines (omega arith))) early.before))
+not_early wanted lines k l faulty early = elim faulty.faulty [
+  | inl idle ↦ early.not_before k (omega (arith, faulty.there, early.after)) idle
+  | inr not_begun ↦ not_begun (fewer_begin wanted lines k (length lines) faulty.there (subst (Begins wanted) (sym (take_all (length lines) lines (omega arith))) early.before))
+]
 
 one_stop : (wanted : List (Entries Stamp) → Type 0) (lines : List (List ℕ)) (k l : ℕ) → IsFaultyLine wanted lines k ⊎ IsEarlyEnd wanted lines k → IsFaultyLine wanted lines l ⊎ IsEarlyEnd wanted lines l → k ≡ l
 one_stop wanted lines k l (inl first) (inl second) = elim (cases_lt k l) [

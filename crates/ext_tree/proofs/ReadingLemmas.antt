@@ -1,20 +1,20 @@
 -- Reading the lines of one text: what a line more makes of the bytes read so far, and where the reading stops.
-use Rattle.std.proofs.Common.{◌≡◌, ◌≢◌, ℕ, ◌+◌, ◌≤◌, List, [], ◌∷◌, ◌++◌, length, refl, sym, ap, ◌∙◌, subst, arith, append_assoc, length-append}
+use Rattle.std.proofs.Common.{◌≡◌, ℕ, ◌+◌, ◌≤◌, Bool, true, List, [], ◌∷◌, ◌++◌, length, refl, sym, ap, ◌∙◌, subst, arith, append_assoc, length-append}
 use Rattle.std.specs.Prelude.{codes, map, Result, Ok, Err, MatchResult}
 use mathlib.Core.Logic.{inl, inr}
 use Rattle.std.proofs.lemmas.List.{map-append, length-map}
 use Rattle.ext_lines.specs.Split.{Lacks, IsSplit}
-use Rattle.ext_lines.proofs.ForCallers.{split_once, split_none, lines_text-push}
+use Rattle.ext_lines.proofs.ForCallers.{split_once, split_none, lines_text-append, lines_text-push}
 use Rattle.ext_tree.specs.declared.entry.Entry.{Entry}
 use Rattle.ext_tree.specs.declared.stamp.Stamp.{Stamp}
 use Rattle.ext_tree.specs.Tree.{Entries}
-use Rattle.ext_tree.specs.TreeText.{HasText, tree_line, tree_lines}
+use Rattle.ext_tree.specs.TreeText.{HasText, header, need_version_2, needs_version_2, text_lines, tree_line}
 use Rattle.ext_lines.specs.Lines.{lines_text}
-use Rattle.ext_tree.specs.Reading.{MayStand, Judges, NoneNext, BodyFault, BeginsBody, BeginsText, StopsText, TextFault}
+use Rattle.ext_tree.specs.Reading.{MayStand, Judges, NoneNext, BodyFault, BeginsBody, BeginsText, IsHeader, StopsText, TextFault}
 use Rattle.ext_tree.specs.declared.reading.TreeTextErr.{TreeTextErr}
 use Rattle.ext_tree.specs.declared.reading.TreeTextErr.TheVariants.{OutOfMemory, BadTree}
 use Rattle.ext_tree.specs.declared.reading.Line.{Line}
-use Rattle.ext_tree.specs.declared.reading.Line.TheVariants.{Item, Fault}
+use Rattle.ext_tree.specs.declared.reading.Line.TheVariants.{End, Item, Fault}
 
 -- after a line there are fewer bytes
 pub split_short : (bytes line more : List ℕ) → IsSplit 10 bytes line more → length more + 1 ≤ length bytes
@@ -43,39 +43,45 @@ none_lacks May bytes lacks = λ l m split _. split_none 10 bytes l m lacks split
 
 -- ---- what a line was judged to be
 
-pub judged_item : (slice es longer : Entries Stamp) (line : List ℕ) (j : Line) (p : List (List ℕ)) (e : Entry Stamp) → slice ≡ es → Judges slice line j → j ≡ Item p e → longer ≡ es ++ (p, e) ∷ [] → HasText longer × (line ≡ tree_line (p, e))
-judged_item slice es longer line j p e same judged is grown =
-    let found : Judges es line (Item p e) = subst (λ i. Judges es line i) is (subst (λ xs. Judges xs line j) same judged) in
-    (subst HasText (sym grown) found.0, found.1)
+pub judged_item : (two : Bool) (slice es longer : Entries Stamp) (line : List ℕ) (j : Line) (p : List (List ℕ)) (e : Entry Stamp) → slice ≡ es → Judges two slice line j → j ≡ Item p e → longer ≡ es ++ (p, e) ∷ []
+    → HasText longer × ((needs_version_2 e ≡ true → two ≡ true) × (line ≡ tree_line (p, e)))
+judged_item two slice es longer line j p e same judged is grown =
+    let found : Judges two es line (Item p e) = subst (λ i. Judges two es line i) is (subst (λ xs. Judges two xs line j) same judged) in
+    (subst HasText (sym grown) found.0.longer, (found.0.version, found.1))
 
-pub judged_fault : (slice es : Entries Stamp) (line : List ℕ) (j : Line) → slice ≡ es → Judges slice line j → j ≡ Fault → ¬ MayStand es line
-judged_fault slice es line j same judged is = subst (λ i. Judges es line i) is (subst (λ xs. Judges xs line j) same judged)
+pub judged_end : (two : Bool) (slice es : Entries Stamp) (line : List ℕ) (j : Line) → slice ≡ es → Judges two slice line j → j ≡ End → (line ≡ codes "end") × (need_version_2 es ≡ two)
+judged_end two slice es line j same judged is = subst (λ i. Judges two es line i) is (subst (λ xs. Judges two xs line j) same judged)
+
+pub judged_fault : (two : Bool) (slice es : Entries Stamp) (line : List ℕ) (j : Line) → slice ≡ es → Judges two slice line j → j ≡ Fault → ¬ MayStand two es line
+judged_fault two slice es line j same judged is = subst (λ i. Judges two es line i) is (subst (λ xs. Judges two xs line j) same judged)
 
 -- ---- a header and a body are a text
 
-pub length-tree_lines : (es : Entries Stamp) → length (tree_lines es) ≡ length es + 2
-length-tree_lines es = omega (arith, length-append (map tree_line es) (codes "end" ∷ []), length-map es tree_line)
+pub length-text_lines : (two : Bool) (es : Entries Stamp) → length (text_lines two es) ≡ length es + 2
+length-text_lines two es = omega (arith, length-append (map tree_line es) (codes "end" ∷ []), length-map es tree_line)
 
-pub text_begins : (bytes body : List ℕ) (first : ℕ) (es : Entries Stamp) (rest : List ℕ) (next : ℕ) → IsSplit 10 bytes (codes "hostext-tree 1") body → BeginsBody body (first + 1) es rest next → BeginsText bytes first es rest next
-text_begins bytes body first es rest next split begins = record {
+pub text_begins : (two : Bool) (bytes body : List ℕ) (first : ℕ) (es : Entries Stamp) (rest : List ℕ) (next : ℕ) → IsSplit 10 bytes (header two) body → BeginsBody two body (first + 1) es rest next → BeginsText bytes first es rest next
+text_begins two bytes body first es rest next split begins = record {
   tree = begins.tree;
-  text = line_more bytes [] bytes (codes "hostext-tree 1") body refl split ∙ ap (λ xs. lines_text (codes "hostext-tree 1" ∷ []) ++ xs) begins.text
-      ∙ sym (append_assoc (lines_text (codes "hostext-tree 1" ∷ [])) (lines_text (map tree_line es ++ codes "end" ∷ [])) rest);
-  counted = omega (arith, begins.counted, length-tree_lines es);
+  text = line_more bytes [] bytes (header two) body refl split ∙ ap (λ xs. lines_text (header two ∷ []) ++ xs) begins.text
+      ∙ sym (append_assoc (lines_text (header two ∷ [])) (lines_text (map tree_line es ++ codes "end" ∷ [])) rest)
+      ∙ ap (λ t. t ++ rest) (sym (lines_text-append (header two ∷ []) (map tree_line es ++ codes "end" ∷ [])))
+      ∙ ap (λ v. lines_text (text_lines v es) ++ rest) (sym begins.version);
+  counted = omega (arith, begins.counted, length-text_lines (need_version_2 es) es);
 }
 
-text_fault : (bytes body : List ℕ) (first : ℕ) (e : TreeTextErr) → IsSplit 10 bytes (codes "hostext-tree 1") body → BodyFault body (first + 1) e → TextFault bytes first e
-text_fault bytes body first OutOfMemory split fault = fault
-text_fault bytes body first (BadTree line) split fault = inr (body, split, fault)
+text_fault : (two : Bool) (bytes body : List ℕ) (first : ℕ) (e : TreeTextErr) → IsSplit 10 bytes (header two) body → BodyFault two body (first + 1) e → TextFault bytes first e
+text_fault two bytes body first OutOfMemory split fault = fault
+text_fault two bytes body first (BadTree line) split fault = inr (two, body, split, fault)
 
-pub text_read : {T : Type 0} (entries : T → Entries Stamp) (rest : T → List ℕ) (next : T → ℕ) (r : Result T TreeTextErr) (bytes body header : List ℕ) (first : ℕ) → IsSplit 10 bytes header body → header ≡ codes "hostext-tree 1"
-    → MatchResult r (λ t. BeginsBody body (first + 1) (entries t) (rest t) (next t)) (BodyFault body (first + 1)) → MatchResult r (λ t. BeginsText bytes first (entries t) (rest t) (next t)) (TextFault bytes first)
-text_read entries rest next (Ok t) bytes body header first split is begins = text_begins bytes body first (entries t) (rest t) (next t) (subst (λ h. IsSplit 10 bytes h body) is split) begins
-text_read entries rest next (Err e) bytes body header first split is fault = text_fault bytes body first e (subst (λ h. IsSplit 10 bytes h body) is split) fault
+pub text_read : {T : Type 0} (entries : T → Entries Stamp) (rest : T → List ℕ) (next : T → ℕ) (r : Result T TreeTextErr) (two : Bool) (bytes body line : List ℕ) (first : ℕ) → IsSplit 10 bytes line body → line ≡ header two
+    → MatchResult r (λ t. BeginsBody two body (first + 1) (entries t) (rest t) (next t)) (BodyFault two body (first + 1)) → MatchResult r (λ t. BeginsText bytes first (entries t) (rest t) (next t)) (TextFault bytes first)
+text_read entries rest next (Ok t) two bytes body line first split is begins = text_begins two bytes body first (entries t) (rest t) (next t) (subst (λ h. IsSplit 10 bytes h body) is split) begins
+text_read entries rest next (Err e) two bytes body line first split is fault = text_fault two bytes body first e (subst (λ h. IsSplit 10 bytes h body) is split) fault
 
 -- no header
-pub no_header : (bytes line more : List ℕ) (first : ℕ) → IsSplit 10 bytes line more → (line ≢ codes "hostext-tree 1") → StopsText bytes first first
-no_header bytes line more first split other = inl (refl, none_split (λ l. l ≡ codes "hostext-tree 1") bytes line more split other)
+pub no_header : (bytes line more : List ℕ) (first : ℕ) → IsSplit 10 bytes line more → (IsHeader line → ⊥) → StopsText bytes first first
+no_header bytes line more first split other = inl (refl, none_split IsHeader bytes line more split other)
 
 pub no_line : (bytes : List ℕ) (first : ℕ) → Lacks 10 bytes → StopsText bytes first first
-no_line bytes first lacks = inl (refl, none_lacks (λ l. l ≡ codes "hostext-tree 1") bytes lacks)
+no_line bytes first lacks = inl (refl, none_lacks IsHeader bytes lacks)

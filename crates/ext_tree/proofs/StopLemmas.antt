@@ -1,5 +1,5 @@
 -- Where the reading of a text stops, no sequence goes on: what the readers give there.
-use Rattle.std.proofs.Common.{◌≡◌, ◌≢◌, ℕ, ◌+◌, ◌<◌, ◌≤◌, Bool, true, false, eqb, List, [], ◌∷◌, ◌++◌, length, refl, sym, ap, ◌∙◌, subst, arith, append_assoc, length-append}
+use Rattle.std.proofs.Common.{◌≡◌, ◌≢◌, ℕ, ◌+◌, ◌<◌, ◌≤◌, Bool, true, false, eqb, List, [], ◌∷◌, ◌++◌, length, take, refl, sym, ap, ◌∙◌, subst, arith, append_assoc, length-append}
 use Rattle.std.proofs.lemmas.List.{append-nil, length-map}
 use Rattle.std.specs.Prelude.{codes, map, ◌⊎◌, Err}
 use mathlib.Core.Logic.{inl, inr}
@@ -12,85 +12,96 @@ use Rattle.ext_tree.specs.declared.stamp.Stamp.{Stamp}
 use Rattle.ext_tree.specs.declared.reading.TreeTextErr.{TreeTextErr}
 use Rattle.ext_tree.specs.declared.reading.TreeTextErr.TheVariants.{OutOfMemory, BadTree}
 use Rattle.ext_tree.specs.Tree.{Entries}
-use Rattle.ext_tree.specs.TreeText.{HasText, IsSequence, tree_line, tree_lines, tree_text}
+use Rattle.ext_tree.specs.TreeText.{HasText, IsLoose, IsSequence, header, loose_lines, need_version_2, text_lines, tree_line, tree_lines, tree_text}
 use Rattle.ext_lines.specs.Lines.{lines_text}
-use Rattle.ext_tree.specs.FirstFault.{IsFirstFault, IsOne, AtLeastOne, ReadsTree, ReadsSequence}
-use Rattle.ext_tree.specs.Reading.{MayStand, NoneNext, StopsBody, StopsText, BeginsText, TextFault}
+use Rattle.ext_tree.specs.FirstFault.{Begins, EndsIdle, IsFirstFault, IsOne, AtLeastOne, ReadsTree, ReadsSequence}
+use Rattle.ext_tree.specs.Reading.{IsHeader, MayStand, NoneNext, StopsBody, StopsText, BeginsText, TextFault}
 use Rattle.ext_tree.proofs.TreeTextLemmas.{lines_of, empty_text}
 use Rattle.ext_lines.proofs.ForCallers.{lines_text-append}
-use Rattle.ext_tree.proofs.ReadingLemmas.{line_more, length-tree_lines}
-use Rattle.ext_tree.proofs.SequenceLemmas.{next_line, open_body, sequence_peeled, ended}
+use Rattle.ext_tree.proofs.ReadingLemmas.{line_more, length-text_lines}
+use Rattle.ext_tree.proofs.SequenceLemmas.{Next, ended, head_of, loosely, loosely_each, loosely_lines, loosely_peeled, loosely_push, next_line, open_body, sequence_peeled}
+use Rattle.ext_tree.proofs.IdleLemmas.{none_ends_idle, open_unended}
+use Rattle.ext_tree.proofs.TreeLineLemmas.{one_version}
+use Rattle.ext_tree.proofs.DecisionLemmas.{same_text}
 use Rattle.ext_tree.proofs.FirstFaultLemmas.{IsStuck, stuck_fault, sequence_text, sequence_lacks, tree_lacks, header_lacks, entries_lack}
 
 -- ---- sequences of trees and the lines that begin one more
 
-one_more : (done : List (Entries Stamp)) (t : Entries Stamp) → flat_map tree_lines (done ++ t ∷ []) ≡ flat_map tree_lines done ++ tree_lines t
-one_more done t = flat_map-append tree_lines done (t ∷ []) ∙ ap (λ xs. flat_map tree_lines done ++ xs) (append-nil (tree_lines t))
+one_more : (done : List (Entries Stamp)) (t : Bool × Entries Stamp) → flat_map loose_lines (map loosely done ++ t ∷ []) ≡ flat_map tree_lines done ++ loose_lines t
+one_more done t =
+    flat_map-append loose_lines (map loosely done) (t ∷ []) ∙ ap (λ xs. xs ++ flat_map loose_lines (t ∷ [])) (loosely_lines done)
+    ∙ ap (λ xs. flat_map tree_lines done ++ xs) (append-nil (loose_lines t))
+
+-- the lines of trees, and of texts of which some versions may not fit
+peeled : (done : List (Entries Stamp)) (texts : List (Bool × Entries Stamp)) (a : List (List ℕ)) → AllByRecursion HasText done → AllByRecursion IsLoose texts → flat_map tree_lines done ++ a ≡ flat_map loose_lines texts
+    → (more : List (Bool × Entries Stamp)) × (texts ≡ map loosely done ++ more) × (a ≡ flat_map loose_lines more) × AllByRecursion IsLoose more
+peeled done texts a hd ht same = loosely_peeled (map loosely done) texts a (loosely_each done hd) ht (ap (λ xs. xs ++ a) (loosely_lines done) ∙ same)
 
 -- what follows whole trees in a sequence is a header, or nothing
-next_header : (done trees : List (Entries Stamp)) (l : List ℕ) (a : List (List ℕ)) → AllByRecursion HasText done → AllByRecursion HasText trees → (flat_map tree_lines done ++ l ∷ []) ++ a ≡ flat_map tree_lines trees → l ≡ codes "hostext-tree 1"
-next_header done trees l a hd ht same =
-    let peeled = sequence_peeled done trees (l ∷ a) hd ht (sym (append_assoc (flat_map tree_lines done) (l ∷ []) a) ∙ same) in
-    header_of peeled.0 peeled.2
+next_header : (done : List (Entries Stamp)) (texts : List (Bool × Entries Stamp)) (l : List ℕ) (a : List (List ℕ)) → AllByRecursion HasText done → AllByRecursion IsLoose texts → (flat_map tree_lines done ++ l ∷ []) ++ a ≡ flat_map loose_lines texts → IsHeader l
+next_header done texts l a hd ht same =
+    let rest = peeled done texts (l ∷ a) hd ht (sym (append_assoc (flat_map tree_lines done) (l ∷ []) a) ∙ same) in
+    header_of rest.0 rest.2
   where
-    header_of : (more : List (Entries Stamp)) → l ∷ a ≡ flat_map tree_lines more → l ≡ codes "hostext-tree 1"
+    header_of : (more : List (Bool × Entries Stamp)) → l ∷ a ≡ flat_map loose_lines more → IsHeader l
     header_of [] is = absurd (cc)
-    header_of (t ∷ more) is = head (sym (ended t (flat_map tree_lines more)) ∙ sym is)
+    header_of (t ∷ more) is = (t.0, head (sym (ended t.0 t.1 (flat_map loose_lines more)) ∙ sym is))
       where
-        head : codes "hostext-tree 1" ∷ (map tree_line t ++ codes "end" ∷ flat_map tree_lines more) ≡ l ∷ a → l ≡ codes "hostext-tree 1"
+        head : header t.0 ∷ (map tree_line t.1 ++ codes "end" ∷ flat_map loose_lines more) ≡ l ∷ a → l ≡ header t.0
         head both = cc
 
 -- the lines of whole trees, and those of a tree that has not ended
-abbrev open_lines : List (Entries Stamp) → Entries Stamp → List (List ℕ)
-open_lines done es = flat_map tree_lines done ++ codes "hostext-tree 1" ∷ map tree_line es
+abbrev open_lines : List (Entries Stamp) → Bool → Entries Stamp → List (List ℕ)
+open_lines done two es = flat_map tree_lines done ++ header two ∷ map tree_line es
 
 -- what follows a header and entries
-next_entry : (done trees : List (Entries Stamp)) (es : Entries Stamp) (l : List ℕ) (a : List (List ℕ)) → AllByRecursion HasText done → AllByRecursion HasText trees → HasText es → (open_lines done es ++ l ∷ []) ++ a ≡ flat_map tree_lines trees → MayStand es l
-next_entry done trees es l a hd ht text same =
-    let peeled = sequence_peeled done trees (codes "hostext-tree 1" ∷ (map tree_line es ++ l ∷ a)) hd ht (sym regrouped ∙ same) in
-    entry_of peeled.0 peeled.3 peeled.2
+next_entry : (done : List (Entries Stamp)) (texts : List (Bool × Entries Stamp)) (two : Bool) (es : Entries Stamp) (l : List ℕ) (a : List (List ℕ)) → AllByRecursion HasText done → AllByRecursion IsLoose texts → HasText es
+    → (open_lines done two es ++ l ∷ []) ++ a ≡ flat_map loose_lines texts → Next two es l
+next_entry done texts two es l a hd ht text same =
+    let rest = peeled done texts (header two ∷ (map tree_line es ++ l ∷ a)) hd ht (sym regrouped ∙ same) in
+    entry_of rest.0 rest.3 rest.2
   where
-    regrouped : (open_lines done es ++ l ∷ []) ++ a ≡ flat_map tree_lines done ++ (codes "hostext-tree 1" ∷ (map tree_line es ++ l ∷ a))
+    regrouped : (open_lines done two es ++ l ∷ []) ++ a ≡ flat_map tree_lines done ++ (header two ∷ (map tree_line es ++ l ∷ a))
     regrouped =
-        ap (λ xs. xs ++ a) (append_assoc (flat_map tree_lines done) (codes "hostext-tree 1" ∷ map tree_line es) (l ∷ []))
-        ∙ append_assoc (flat_map tree_lines done) (codes "hostext-tree 1" ∷ (map tree_line es ++ l ∷ [])) a
-        ∙ ap (λ xs. flat_map tree_lines done ++ (codes "hostext-tree 1" ∷ xs)) (append_assoc (map tree_line es) (l ∷ []) a)
+        ap (λ xs. xs ++ a) (append_assoc (flat_map tree_lines done) (header two ∷ map tree_line es) (l ∷ []))
+        ∙ append_assoc (flat_map tree_lines done) (header two ∷ (map tree_line es ++ l ∷ [])) a
+        ∙ ap (λ xs. flat_map tree_lines done ++ (header two ∷ xs)) (append_assoc (map tree_line es) (l ∷ []) a)
 
-    entry_of : (more : List (Entries Stamp)) → AllByRecursion HasText more → codes "hostext-tree 1" ∷ (map tree_line es ++ l ∷ a) ≡ flat_map tree_lines more → MayStand es l
+    entry_of : (more : List (Bool × Entries Stamp)) → AllByRecursion IsLoose more → header two ∷ (map tree_line es ++ l ∷ a) ≡ flat_map loose_lines more → Next two es l
     entry_of [] hm is = absurd (cc)
     entry_of (u ∷ more) hm is =
-        let whole : codes "hostext-tree 1" ∷ (map tree_line es ++ l ∷ a) ≡ codes "hostext-tree 1" ∷ (map tree_line u ++ codes "end" ∷ flat_map tree_lines more) = is ∙ ended u (flat_map tree_lines more) in
-        let bodies : map tree_line es ++ l ∷ a ≡ map tree_line u ++ codes "end" ∷ flat_map tree_lines more = cc in
-        next_line [] es u l a (flat_map tree_lines more) (lines_of es text) (lines_of u hm.0) hm.0 bodies
+        let parts = head_of (header two) (header u.0) (map tree_line es ++ l ∷ a) (map tree_line u.1 ++ codes "end" ∷ flat_map loose_lines more) (is ∙ ended u.0 u.1 (flat_map loose_lines more)) in
+        let version : u.0 ≡ two = sym (one_version two u.0 parts.0) in
+        next_line two [] es u.1 l a (flat_map loose_lines more) (lines_of es text) (lines_of u.1 hm.0.tree) hm.0.tree (λ needs. sym version ∙ hm.0.version needs) parts.1
 
 -- a header and entries are no whole tree
-unended_entries : (done trees : List (Entries Stamp)) (es : Entries Stamp) → AllByRecursion HasText done → AllByRecursion HasText trees → open_lines done es ≡ flat_map tree_lines trees → ⊥
-unended_entries done trees es hd ht same =
-    let peeled = sequence_peeled done trees (codes "hostext-tree 1" ∷ map tree_line es) hd ht same in
-    never peeled.0 peeled.2
+unended_entries : (done trees : List (Entries Stamp)) (two : Bool) (es : Entries Stamp) → AllByRecursion HasText done → AllByRecursion HasText trees → open_lines done two es ≡ flat_map tree_lines trees → ⊥
+unended_entries done trees two es hd ht same =
+    let rest = sequence_peeled done trees (header two ∷ map tree_line es) hd ht same in
+    never rest.0 rest.2
   where
-    never : (more : List (Entries Stamp)) → codes "hostext-tree 1" ∷ map tree_line es ≡ flat_map tree_lines more → ⊥
+    never : (more : List (Entries Stamp)) → header two ∷ map tree_line es ≡ flat_map tree_lines more → ⊥
     never [] is = cc
     never (u ∷ more) is =
-        let whole : codes "hostext-tree 1" ∷ map tree_line es ≡ codes "hostext-tree 1" ∷ (map tree_line u ++ codes "end" ∷ flat_map tree_lines more) = is ∙ ended u (flat_map tree_lines more) in
-        let bodies : map tree_line es ≡ map tree_line u ++ codes "end" ∷ flat_map tree_lines more = cc in
-        open_body es u (flat_map tree_lines more) bodies
+        let parts = head_of (header two) (header (need_version_2 u)) (map tree_line es) (map tree_line u ++ codes "end" ∷ flat_map tree_lines more) (is ∙ ended (need_version_2 u) u (flat_map tree_lines more)) in
+        open_body es u (flat_map tree_lines more) parts.1
 
 -- ---- stuck in a sequence
 
 stuck_header : (wanted : List (Entries Stamp) → Type 0) (bytes : List ℕ) (done : List (Entries Stamp)) (rest : List ℕ) → AllByRecursion HasText done → ((t : Entries Stamp) → wanted (done ++ t ∷ [])) → (wanted [] → ⊥) → bytes ≡ flat_map tree_text done ++ rest
-    → (done ≡ []) ⊎ (0 < length rest) → NoneNext (λ l. l ≡ codes "hostext-tree 1") rest → IsStuck wanted bytes (flat_map tree_lines done) rest
+    → (done ≡ []) ⊎ (0 < length rest) → NoneNext IsHeader rest → IsStuck wanted bytes (flat_map tree_lines done) rest
 stuck_header wanted bytes done rest hd longer none text unended stop = record {
   text = text ∙ ap (λ xs. xs ++ rest) (sequence_text done);
   lacks = sequence_lacks done hd;
   before = record {
-    trees = done ++ [] ∷ [];
-    more = tree_lines [];
-    as_many = longer [];
-    each = all_append HasText done ([] ∷ []) hd (empty_text, tt);
-    text = sym (one_more done []);
+    texts = map loosely done ++ (false, []) ∷ [];
+    more = text_lines false [];
+    as_many = subst wanted (sym (loosely_push done (false, []))) (longer []);
+    each = all_append IsLoose (map loosely done) ((false, []) ∷ []) (loosely_each done hd) (record { tree = empty_text; version = λ needs. needs }, tt);
+    text = sym (one_more done (false, []));
   };
-  stop = λ l more split begins. stop l more split (next_header done begins.trees l begins.more hd begins.each begins.text);
+  not_before = λ k idle. none_ends_idle done [] hd tt k (subst (λ xs. EndsIdle (take k xs)) (sym (append-nil (flat_map tree_lines done))) idle);
+  stop = λ l more split. inr (λ begins. stop l more split (next_header done begins.texts l begins.more hd begins.each begins.text));
   unended = λ trees as_many each same empty. elim unended [
     | inl first ↦ none (subst wanted (no_trees trees (sym same ∙ ap (flat_map tree_lines) first)) as_many)
     | inr some ↦ nothing rest empty some
@@ -104,29 +115,57 @@ stuck_header wanted bytes done rest hd longer none text unended stop = record {
     no_trees [] is = refl
     no_trees (t ∷ trees) is = absurd (cc)
 
-stuck_entries : (wanted : List (Entries Stamp) → Type 0) (bytes : List ℕ) (done : List (Entries Stamp)) (rest body : List ℕ) (first line : ℕ) → AllByRecursion HasText done → ((t : Entries Stamp) → wanted (done ++ t ∷ [])) → bytes ≡ flat_map tree_text done ++ rest
-    → IsSplit 10 rest (codes "hostext-tree 1") body → (stops : StopsBody body first line) → IsStuck wanted bytes (open_lines done stops.entries) stops.rest
-stuck_entries wanted bytes done rest body first line hd longer text split stops = record {
+-- where the version and the entries do not fit, it is 2 and no entry needs it
+version_gap : (needs v : Bool) → (needs ≡ true → v ≡ true) → (needs ≡ v → ⊥) → (needs ≡ false) × (v ≡ true)
+version_gap true v fits other = absurd (other (sym (fits refl)))
+version_gap false true fits other = (refl, refl)
+version_gap false false fits other = absurd (other refl)
+
+-- where the next line may not stand, it ends a text of version 2 that needs none, or nothing begins so
+stuck_line : (wanted : List (Entries Stamp) → Type 0) (done : List (Entries Stamp)) (two : Bool) (es : Entries Stamp) (l : List ℕ) → AllByRecursion HasText done → HasText es → (need_version_2 es ≡ true → two ≡ true) → (MayStand two es l → ⊥)
+    → EndsIdle (open_lines done two es ++ l ∷ []) ⊎ (Begins wanted (open_lines done two es ++ l ∷ []) → ⊥)
+stuck_line wanted done two es l hd text version stop = elim (same_text l (codes "end")) [
+  | inl end ↦
+      let gap = version_gap (need_version_2 es) two version (λ same. stop (inl (end, same))) in
+      inl (record {
+        before = flat_map tree_lines done;
+        entries = es;
+        tree = text;
+        none = gap.0;
+        text = append_assoc (flat_map tree_lines done) (header two ∷ map tree_line es) (l ∷ [])
+            ∙ ap (λ x. flat_map tree_lines done ++ (header two ∷ (map tree_line es ++ x ∷ []))) end
+            ∙ ap (λ v. flat_map tree_lines done ++ text_lines v es) gap.1;
+      })
+  | inr not_end ↦ inr (λ begins. elim (next_entry done begins.texts two es l begins.more hd begins.each text begins.text) [
+    | inl end ↦ not_end end
+    | inr found ↦ stop (inr found)
+  ])
+]
+
+stuck_entries : (wanted : List (Entries Stamp) → Type 0) (bytes : List ℕ) (done : List (Entries Stamp)) (rest body : List ℕ) (two : Bool) (first line : ℕ) → AllByRecursion HasText done → ((t : Entries Stamp) → wanted (done ++ t ∷ [])) → bytes ≡ flat_map tree_text done ++ rest
+    → IsSplit 10 rest (header two) body → (stops : StopsBody two body first line) → IsStuck wanted bytes (open_lines done two stops.entries) stops.rest
+stuck_entries wanted bytes done rest body two first line hd longer text split stops = record {
   text = read;
-  lacks = all_append (Lacks 10) (flat_map tree_lines done) (codes "hostext-tree 1" ∷ map tree_line stops.entries) (sequence_lacks done hd) (header_lacks, entries_lack stops.entries (lines_of stops.entries stops.tree));
+  lacks = all_append (Lacks 10) (flat_map tree_lines done) (header two ∷ map tree_line stops.entries) (sequence_lacks done hd) (header_lacks two, entries_lack stops.entries (lines_of stops.entries stops.tree));
   before = record {
-    trees = done ++ stops.entries ∷ [];
+    texts = map loosely done ++ (two, stops.entries) ∷ [];
     more = codes "end" ∷ [];
-    as_many = longer stops.entries;
-    each = all_append HasText done (stops.entries ∷ []) hd (stops.tree, tt);
-    text = append_assoc (flat_map tree_lines done) (codes "hostext-tree 1" ∷ map tree_line stops.entries) (codes "end" ∷ []) ∙ sym (one_more done stops.entries);
+    as_many = subst wanted (sym (loosely_push done (two, stops.entries))) (longer stops.entries);
+    each = all_append IsLoose (map loosely done) ((two, stops.entries) ∷ []) (loosely_each done hd) (record { tree = stops.tree; version = stops.version }, tt);
+    text = append_assoc (flat_map tree_lines done) (header two ∷ map tree_line stops.entries) (codes "end" ∷ []) ∙ sym (one_more done (two, stops.entries));
   };
-  stop = λ l more end begins. stops.stop l more end (next_entry done begins.trees stops.entries l begins.more hd begins.each stops.tree begins.text);
-  unended = λ trees as_many each same _. unended_entries done trees stops.entries hd each same;
+  not_before = none_ends_idle done (header two ∷ map tree_line stops.entries) hd (open_unended two stops.entries);
+  stop = λ l more end. stuck_line wanted done two stops.entries l hd stops.tree stops.version (stops.stop l more end);
+  unended = λ trees as_many each same _. unended_entries done trees two stops.entries hd each same;
 }
   where
-    read : bytes ≡ lines_text (open_lines done stops.entries) ++ stops.rest
+    read : bytes ≡ lines_text (open_lines done two stops.entries) ++ stops.rest
     read =
-        line_more bytes (flat_map tree_lines done) rest (codes "hostext-tree 1") body (text ∙ ap (λ xs. xs ++ rest) (sequence_text done)) split
-        ∙ ap (λ xs. lines_text (flat_map tree_lines done ++ codes "hostext-tree 1" ∷ []) ++ xs) stops.text
-        ∙ sym (append_assoc (lines_text (flat_map tree_lines done ++ codes "hostext-tree 1" ∷ [])) (lines_text (map tree_line stops.entries)) stops.rest)
-        ∙ ap (λ xs. xs ++ stops.rest) (sym (lines_text-append (flat_map tree_lines done ++ codes "hostext-tree 1" ∷ []) (map tree_line stops.entries)))
-        ∙ ap (λ ls. lines_text ls ++ stops.rest) (append_assoc (flat_map tree_lines done) (codes "hostext-tree 1" ∷ []) (map tree_line stops.entries))
+        line_more bytes (flat_map tree_lines done) rest (header two) body (text ∙ ap (λ xs. xs ++ rest) (sequence_text done)) split
+        ∙ ap (λ xs. lines_text (flat_map tree_lines done ++ header two ∷ []) ++ xs) stops.text
+        ∙ sym (append_assoc (lines_text (flat_map tree_lines done ++ header two ∷ [])) (lines_text (map tree_line stops.entries)) stops.rest)
+        ∙ ap (λ xs. xs ++ stops.rest) (sym (lines_text-append (flat_map tree_lines done ++ header two ∷ []) (map tree_line stops.entries)))
+        ∙ ap (λ ls. lines_text ls ++ stops.rest) (append_assoc (flat_map tree_lines done) (header two ∷ []) (map tree_line stops.entries))
 
 -- ---- what the readers give
 
@@ -134,9 +173,9 @@ sequence_stops : (wanted : List (Entries Stamp) → Type 0) (bytes : List ℕ) (
     → (done ≡ []) ⊎ (0 < length rest) → StopsText rest (1 + length (flat_map tree_lines done)) line → IsFirstFault wanted bytes line
 sequence_stops wanted bytes done rest line hd longer none text unended (inl (is, stop)) =
     stuck_fault wanted bytes (flat_map tree_lines done) rest line (stuck_header wanted bytes done rest hd longer none text unended stop) (omega (arith, is))
-sequence_stops wanted bytes done rest line hd longer none text unended (inr (body, split, stops)) =
-    stuck_fault wanted bytes (open_lines done stops.entries) stops.rest line (stuck_entries wanted bytes done rest body (1 + length (flat_map tree_lines done) + 1) line hd longer text split stops)
-    (omega (arith, stops.counted, length-append (flat_map tree_lines done) (codes "hostext-tree 1" ∷ map tree_line stops.entries), length-map stops.entries tree_line))
+sequence_stops wanted bytes done rest line hd longer none text unended (inr (two, body, split, stops)) =
+    stuck_fault wanted bytes (open_lines done two stops.entries) stops.rest line (stuck_entries wanted bytes done rest body two (1 + length (flat_map tree_lines done) + 1) line hd longer text split stops)
+    (omega (arith, stops.counted, length-append (flat_map tree_lines done) (header two ∷ map tree_line stops.entries), length-map stops.entries tree_line))
 
 -- what `read_tree` gives where no text goes on
 pub tree_err : (bytes : List ℕ) (e : TreeTextErr) → TextFault bytes 1 e → ReadsTree bytes (Err e)
@@ -149,19 +188,21 @@ tree_more bytes es rest next begins some =
     stuck_fault IsOne bytes (tree_lines es) rest next (record {
       text = begins.text;
       lacks = tree_lacks es begins.tree;
-      before = record { trees = es ∷ []; more = []; as_many = omega arith; each = (begins.tree, tt); text = refl };
-      stop = λ l more split b. one_more_line b.trees l b.more b.as_many b.each b.text;
+      before = record { texts = loosely es ∷ []; more = []; as_many = omega arith; each = (record { tree = begins.tree; version = λ needs. needs }, tt); text = refl };
+      not_before = λ k idle. none_ends_idle (es ∷ []) [] (begins.tree, tt) tt k
+          (subst (λ xs. EndsIdle (take k xs)) (sym (append-nil (tree_lines es ++ []) ∙ append-nil (tree_lines es))) idle);
+      stop = λ l more split. inr (λ b. one_more_line b.texts l b.more b.as_many b.each b.text);
       unended = λ trees one each same. some;
     }) (omega (arith, begins.counted))
   where
     -- after the lines of one tree there is none
-    one_more_line : (trees : List (Entries Stamp)) (l : List ℕ) (a : List (List ℕ)) → length trees ≡ 1 → AllByRecursion HasText trees → (tree_lines es ++ l ∷ []) ++ a ≡ flat_map tree_lines trees → ⊥
-    one_more_line trees l a one each same =
-        let peeled = sequence_peeled (es ∷ []) trees (l ∷ a) (begins.tree, tt) each
+    one_more_line : (texts : List (Bool × Entries Stamp)) (l : List ℕ) (a : List (List ℕ)) → length (map (λ t. t.1) texts) ≡ 1 → AllByRecursion IsLoose texts → (tree_lines es ++ l ∷ []) ++ a ≡ flat_map loose_lines texts → ⊥
+    one_more_line texts l a one each same =
+        let found = peeled (es ∷ []) texts (l ∷ a) (begins.tree, tt) each
         (ap (λ xs. xs ++ l ∷ a) (append-nil (tree_lines es)) ∙ sym (append_assoc (tree_lines es) (l ∷ []) a) ∙ same) in
-        alone peeled.0 (omega (arith, ap length peeled.1)) peeled.2
+        alone found.0 (omega (arith, one, length-map texts (λ t. t.1), ap length found.1)) found.2
       where
-        alone : (more : List (Entries Stamp)) → length more ≡ 0 → l ∷ a ≡ flat_map tree_lines more → ⊥
+        alone : (more : List (Bool × Entries Stamp)) → length more ≡ 0 → l ∷ a ≡ flat_map loose_lines more → ⊥
         alone [] none is = cc
         alone (t ∷ more) none is = omega arith
 
@@ -173,6 +214,9 @@ sequence_err bytes done rest first (BadTree line) each text counted unended stop
     sequence_stops AtLeastOne bytes done rest line each (λ t. omega (arith, length-append done (t ∷ []))) (λ some. omega arith) text unended (subst (λ n. StopsText rest n line) counted stops)
 
 -- ---- one more text
+
+one_tree_more : (done : List (Entries Stamp)) (t : Entries Stamp) → flat_map tree_lines (done ++ t ∷ []) ≡ flat_map tree_lines done ++ tree_lines t
+one_tree_more done t = flat_map-append tree_lines done (t ∷ []) ∙ ap (λ xs. flat_map tree_lines done ++ xs) (append-nil (tree_lines t))
 
 -- the list with one more item, which is the tree
 pub grown_by : (done longer : List (Entries Stamp)) (item t : Entries Stamp) → longer ≡ done ++ item ∷ [] → item ≡ t → longer ≡ done ++ t ∷ []
@@ -193,7 +237,7 @@ each_more done longer t each text grown = subst (AllByRecursion HasText) (sym gr
 pub counted_more : (done longer : List (Entries Stamp)) (t : Entries Stamp) (rest : List ℕ) (first : ℕ) (after : List ℕ) (next : ℕ) → first ≡ 1 + length (flat_map tree_lines done) → BeginsText rest first t after next → longer ≡ done ++ t ∷ [] → next ≡ 1 + length (flat_map tree_lines longer)
 counted_more done longer t rest first after next counted begins grown =
     let lines : length (flat_map tree_lines longer) ≡ length (flat_map tree_lines done) + length (tree_lines t) =
-    ap (λ ts. length (flat_map tree_lines ts)) grown ∙ ap length (one_more done t) ∙ length-append (flat_map tree_lines done) (tree_lines t) in
+    ap (λ ts. length (flat_map tree_lines ts)) grown ∙ ap length (one_tree_more done t) ∙ length-append (flat_map tree_lines done) (tree_lines t) in
     omega (arith, begins.counted)
 
 -- no more lines than bytes
@@ -206,7 +250,7 @@ text_room rest first t after next begins =
     omega (arith, begins.counted, lines_short (tree_lines t), ap length begins.text, length-append (tree_text t) after)
 
 pub text_next : (rest : List ℕ) (first : ℕ) (t : Entries Stamp) (after : List ℕ) (next : ℕ) → BeginsText rest first t after next → first + 2 ≤ next
-text_next rest first t after next begins = omega (arith, begins.counted, length-tree_lines t)
+text_next rest first t after next begins = omega (arith, begins.counted, length-text_lines (need_version_2 t) t)
 
 -- ---- the last text
 

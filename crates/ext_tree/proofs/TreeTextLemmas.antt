@@ -1,10 +1,11 @@
 -- Trees that have a text: their entries have lines, their prefixes have texts, and which entry may be added.
-use Rattle.std.proofs.Common.{◌≡◌, ◌≢◌, ℕ, ◌<◌, Bool, false, List, [], ◌∷◌, ◌++◌, length, Option, Some, None, sym, ◌∙◌, subst, arith, append_assoc, length-append}
+use Rattle.std.proofs.Common.{◌≡◌, ◌≢◌, ℕ, ◌<◌, Bool, true, false, ◌||◌, List, [], ◌∷◌, ◌++◌, length, Option, Some, None, refl, sym, ap, ◌∙◌, subst, arith, append_assoc, length-append}
 use Rattle.std.specs.Prelude.{codes, IsTrue, ◌↔◌}
 use mathlib.Core.Logic.{inl, inr}
-use Rattle.std.proofs.lemmas.Bool.{false≢true}
+use Rattle.std.proofs.lemmas.Bool.{false≢true, or_cases}
 use Rattle.std.specs.List.{AllByRecursion}
 use Rattle.std.proofs.lemmas.List.{append-nil}
+use Rattle.std.proofs.lemmas.List.Folds.{list_any-append}
 use Rattle.ext_text.specs.Order.{paths_total}
 use Rattle.ext_text.specs.Path.{IsPath, path_cmp}
 use Rattle.ext_text.proofs.ForCallers.{all_append, all_prefix, all_back, all_both, all_weaker}
@@ -12,7 +13,7 @@ use Rattle.ext_tree.specs.declared.entry.Entry.{Entry}
 use Rattle.ext_tree.specs.declared.stamp.Stamp.{Stamp}
 use Rattle.ext_tree.specs.Tree.{Entries, IsTree}
 use Rattle.ext_tree.specs.EntryLine.{IsWritable, ReadsLine}
-use Rattle.ext_tree.specs.TreeText.{HasTreeLine, HasText, stamp_form}
+use Rattle.ext_tree.specs.TreeText.{HasTreeLine, HasText, need_version_2, needs_version_2, stamp_form}
 use Rattle.ext_tree.specs.Reading.{MayStand}
 use Rattle.ext_tree.proofs.TreeLineLemmas.{line_injective, line_not_end}
 use Rattle.ext_tree.proofs.OrderLemmas.{each_found}
@@ -75,21 +76,61 @@ adds es p follows text room tree e line = (
 
 -- ---- lines that may not stand after the entries
 
+-- the last line where the entries and the version do not fit
+pub not_ended : (two needs : Bool) (es : Entries Stamp) (line : List ℕ) → line ≡ codes "end" → needs ≡ need_version_2 es → (two ≡ needs → ⊥) → MayStand two es line → ⊥
+not_ended two needs es line end is other (inl last) = other (sym last.1 ∙ sym is)
+not_ended two needs es line end is other (inr (x, add, same)) = line_not_end x (sym same ∙ end)
+
 -- a line that is neither the last one nor an entry's
-pub no_entry : (es : Entries Stamp) (line : List ℕ) (found : Option (List (List ℕ) × Entry Stamp)) → (line ≢ codes "end") → ReadsLine stamp_form line found → found ≡ None → MayStand es line → ⊥
-no_entry es line (Some y) not_end read none is = absurd (cc)
-no_entry es line None not_end none is (inl end) = not_end end
-no_entry es line None not_end none is (inr (x, text, same)) = none x (last_line es x text) same
+pub no_entry : (two : Bool) (es : Entries Stamp) (line : List ℕ) (found : Option (List (List ℕ) × Entry Stamp)) → (line ≢ codes "end") → ReadsLine stamp_form line found → found ≡ None → MayStand two es line → ⊥
+no_entry two es line (Some y) not_end read none is = absurd (cc)
+no_entry two es line None not_end none is (inl end) = not_end end.0
+no_entry two es line None not_end none is (inr (x, add, same)) = none x (last_line es x add.longer) same
 
 -- the line of an entry that may not be added
-pub not_added : (es : Entries Stamp) (line : List ℕ) (found : Option (List (List ℕ) × Entry Stamp)) (p : List (List ℕ)) (e : Entry Stamp) (test : Bool) → ReadsLine stamp_form line found → found ≡ Some (p, e)
-    → ((x : Entry Stamp) → HasTreeLine (p, x) → (IsTrue test ↔ HasText (es ++ (p, x) ∷ []))) → test ≡ false → MayStand es line → ⊥
-not_added es line found p e test read is adds refused may =
+pub not_added : (two : Bool) (es : Entries Stamp) (line : List ℕ) (found : Option (List (List ℕ) × Entry Stamp)) (p : List (List ℕ)) (e : Entry Stamp) (test : Bool) → ReadsLine stamp_form line found → found ≡ Some (p, e)
+    → ((x : Entry Stamp) → HasTreeLine (p, x) → (IsTrue test ↔ HasText (es ++ (p, x) ∷ []))) → test ≡ false → MayStand two es line → ⊥
+not_added two es line found p e test read is adds failed may =
     let line_read : ReadsLine stamp_form line (Some (p, e)) = subst (ReadsLine stamp_form line) is read in
     not_longer line_read may
   where
-    not_longer : ReadsLine stamp_form line (Some (p, e)) → MayStand es line → ⊥
-    not_longer read (inl end) = line_not_end (p, e) (sym read.1 ∙ end)
-    not_longer read (inr (y, text, same)) =
-        let longer : HasText (es ++ (p, e) ∷ []) = subst (λ z. HasText (es ++ z ∷ [])) (line_injective y (p, e) (last_line es y text) read.0 (sym same ∙ read.1)) text in
-        false≢true (sym refused ∙ (adds e read.0).1 longer)
+    not_longer : ReadsLine stamp_form line (Some (p, e)) → MayStand two es line → ⊥
+    not_longer read (inl end) = line_not_end (p, e) (sym read.1 ∙ end.0)
+    not_longer read (inr (y, add, same)) =
+        let longer : HasText (es ++ (p, e) ∷ []) = subst (λ z. HasText (es ++ z ∷ [])) (line_injective y (p, e) (last_line es y add.longer) read.0 (sym same ∙ read.1)) add.longer in
+        false≢true (sym failed ∙ (adds e read.0).1 longer)
+
+-- the line of an entry that the version has no line for
+pub not_of_version : (two : Bool) (es : Entries Stamp) (line : List ℕ) (found : Option (List (List ℕ) × Entry Stamp)) (p : List (List ℕ)) (e : Entry Stamp) (test : Bool) → ReadsLine stamp_form line found → found ≡ Some (p, e)
+    → (IsTrue test ↔ (needs_version_2 e ≡ true → two ≡ true)) → test ≡ false → MayStand two es line → ⊥
+not_of_version two es line found p e test read is fits failed may =
+    let line_read : ReadsLine stamp_form line (Some (p, e)) = subst (ReadsLine stamp_form line) is read in
+    not_fitting line_read may
+  where
+    not_fitting : ReadsLine stamp_form line (Some (p, e)) → MayStand two es line → ⊥
+    not_fitting read (inl end) = line_not_end (p, e) (sym read.1 ∙ end.0)
+    not_fitting read (inr (y, add, same)) =
+        let entry : y ≡ (p, e) = line_injective y (p, e) (last_line es y add.longer) read.0 (sym same ∙ read.1) in
+        false≢true (sym failed ∙ fits.1 (subst (λ z. needs_version_2 z.1 ≡ true → two ≡ true) entry add.version))
+
+-- ---- one entry more
+
+-- whether some entry needs version 2
+pub needs_more : (es longer : Entries Stamp) (x : List (List ℕ) × Entry Stamp) (needs more : Bool) → needs ≡ need_version_2 es → more ≡ (needs || needs_version_2 x.1) → longer ≡ es ++ x ∷ [] → more ≡ need_version_2 longer
+needs_more es longer x needs more is grown_by grown =
+    grown_by ∙ ap (λ b. b || needs_version_2 x.1) is ∙ ap (λ b. need_version_2 es || b) (sym (or_nothing (needs_version_2 x.1)))
+    ∙ sym (list_any-append (λ y. needs_version_2 y.1) es (x ∷ [])) ∙ ap need_version_2 (sym grown)
+  where
+    or_nothing : (b : Bool) → (b || false) ≡ b
+    or_nothing true = refl
+    or_nothing false = refl
+
+pub version_more : (two : Bool) (es longer : Entries Stamp) (x : List (List ℕ) × Entry Stamp) → (need_version_2 es ≡ true → two ≡ true) → (needs_version_2 x.1 ≡ true → two ≡ true) → longer ≡ es ++ x ∷ [] → need_version_2 longer ≡ true → two ≡ true
+version_more two es longer x first one grown needs =
+    elim (or_cases (need_version_2 es) (need_version_2 (x ∷ [])) (sym (list_any-append (λ y. needs_version_2 y.1) es (x ∷ [])) ∙ ap need_version_2 (sym grown) ∙ needs)) [
+      | inl before ↦ first before
+      | inr last ↦ elim (or_cases (needs_version_2 x.1) false last) [
+        | inl needed ↦ one needed
+        | inr never ↦ absurd (false≢true never)
+      ]
+    ]

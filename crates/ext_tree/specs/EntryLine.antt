@@ -1,8 +1,10 @@
 -- The line of an entry: fields, a space after each, and the path, which is the rest of the line.
 --
 --     d MODE PATH
+--     o MODE PATH
 --     f MODE CONTENT.. PATH
 --     l LENGTH TARGET PATH
+--     w PATH
 --
 -- MODE is octal and LENGTH decimal, both without leading zeros; LENGTH is the number of bytes of TARGET, which may hold
 -- spaces. What a file's line holds of its content is a matter of the format that the line stands in: the fields of a
@@ -15,7 +17,7 @@ use Rattle.ext_text.specs.Path.{IsPath, path_text}
 use Rattle.ext_tree.specs.Fields.{IsTarget, spaced}
 use Rattle.ext_lines.specs.Numbers.{octal}
 use Rattle.ext_tree.specs.declared.entry.Entry.{Entry}
-use Rattle.ext_tree.specs.declared.entry.Entry.TheVariants.{Dir, File, Link}
+use Rattle.ext_tree.specs.declared.entry.Entry.TheVariants.{Dir, Opaque, File, Link, Hide}
 
 -- which contents a line holds, and as which fields
 pub record LineForm (C : Type 0) : Type 1 where
@@ -25,8 +27,10 @@ pub record LineForm (C : Type 0) : Type 1 where
 -- an entry's fields
 abbrev pub entry_fields : {C : Type 0} → LineForm C → Entry C → List (List ℕ)
 entry_fields form (Dir mode) = codes "d" ∷ octal mode ∷ []
+entry_fields form (Opaque mode) = codes "o" ∷ octal mode ∷ []
 entry_fields form (File mode content) = codes "f" ∷ octal mode ∷ form.fields content
 entry_fields form (Link target) = codes "l" ∷ decimal (length target) ∷ target ∷ []
+entry_fields form Hide = codes "w" ∷ []
 
 -- an entry's line, without its newline
 abbrev pub entry_line : {C : Type 0} → LineForm C → List (List ℕ) × Entry C → List ℕ
@@ -35,8 +39,10 @@ entry_line form x = spaced (entry_fields form x.1) (path_text x.0)
 -- the entry is in the ranges of a line
 abbrev pub IsWritable : {C : Type 0} → LineForm C → Entry C → Type 0
 IsWritable form (Dir mode) = mode ≤ 4095
+IsWritable form (Opaque mode) = mode ≤ 4095
 IsWritable form (File mode content) = (mode ≤ 4095) × form.writable content
 IsWritable form (Link target) = IsTarget target
+IsWritable form Hide = Unit {0}
 
 -- an entry that has a line
 pub record HasLine {C : Type 0} (form : LineForm C) (x : List (List ℕ) × Entry C) : Type 0 where

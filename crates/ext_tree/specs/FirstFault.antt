@@ -1,12 +1,13 @@
 -- The first faulty line of bytes that are no tree text, or no sequence of tree texts. Lines are counted from 1. A line is
--- faulty where some text begins with the lines before it and none with that line too; a text that stops early is faulty
--- at the line after its last whole line, also where that line has begun. Bytes that are such a text or sequence have no
--- faulty line.
-use Rattle.std.specs.Prelude.{◌≡◌, ℕ, ◌+◌, ◌-◌, ◌<◌, ◌≤◌, ◌⊎◌, List, ◌++◌, length, take, Result, Ok, Err}
+-- faulty where it ends a text of version 2 that has no line `o` or `w`, or where no sequence of texts that the format
+-- allows apart from that rule begins with the lines up to it. The first faulty line is the least one; a text that stops
+-- early is faulty at the line after its last whole line, also where that line has begun. Bytes that are such a text or
+-- sequence have no faulty line.
+use Rattle.std.specs.Prelude.{◌≡◌, ℕ, ◌+◌, ◌-◌, ◌<◌, ◌≤◌, Bool, true, false, ◌⊎◌, List, ◌++◌, length, map, take, Result, Ok, Err}
 use Rattle.std.specs.List.{AllByRecursion, flat_map}
 use Rattle.ext_lines.specs.Lines.{whole_lines}
 use Rattle.ext_tree.specs.Tree.{Entries}
-use Rattle.ext_tree.specs.TreeText.{HasText, IsTreeText, IsSequence, tree_lines}
+use Rattle.ext_tree.specs.TreeText.{HasText, IsLoose, IsTreeText, IsSequence, loose_lines, need_version_2, text_lines}
 use Rattle.ext_tree.specs.declared.stamp.Stamp.{Stamp}
 use Rattle.ext_tree.specs.declared.reading.TreeTextErr.{TreeTextErr}
 use Rattle.ext_tree.specs.declared.reading.TreeTextErr.TheVariants.{OutOfMemory, BadTree}
@@ -18,25 +19,35 @@ IsOne trees = length trees ≡ 1
 abbrev pub AtLeastOne : List (Entries Stamp) → Type 0
 AtLeastOne trees = 0 < length trees
 
--- some sequence of as many texts begins with these lines
+-- some sequence of as many texts begins with these lines, apart from the rule on lines `o` and `w` of version 2
 pub record Begins (wanted : List (Entries Stamp) → Type 0) (lines : List (List ℕ)) : Type 0 where
-  pub trees : List (Entries Stamp)
+  pub texts : List (Bool × Entries Stamp)
   pub more : List (List ℕ)
-  pub as_many : wanted trees
-  pub each : AllByRecursion HasText trees
-  pub text : lines ++ more ≡ flat_map tree_lines trees
+  pub as_many : wanted (map (λ t. t.1) texts)
+  pub each : AllByRecursion IsLoose texts
+  pub text : lines ++ more ≡ flat_map loose_lines texts
 
--- the least line with which none begins
+-- these lines end with a text of version 2 that has no line `o` or `w`
+pub record EndsIdle (lines : List (List ℕ)) : Type 0 where
+  pub before : List (List ℕ)
+  pub entries : Entries Stamp
+  pub tree : HasText entries
+  pub none : need_version_2 entries ≡ false
+  pub text : lines ≡ before ++ text_lines true entries
+
+-- the least faulty line
 pub record IsFaultyLine (wanted : List (Entries Stamp) → Type 0) (lines : List (List ℕ)) (line : ℕ) : Type 0 where
   pub counted : 0 < line
   pub there : line ≤ length lines
   pub before : Begins wanted (take (line - 1) lines)
-  pub faulty : ¬ Begins wanted (take line lines)
+  pub not_before : (k : ℕ) → k < line → ¬ EndsIdle (take k lines)
+  pub faulty : EndsIdle (take line lines) ⊎ (¬ Begins wanted (take line lines))
 
 -- the text stops where it might have gone on
 pub record IsEarlyEnd (wanted : List (Entries Stamp) → Type 0) (lines : List (List ℕ)) (line : ℕ) : Type 0 where
   pub after : line ≡ length lines + 1
   pub before : Begins wanted lines
+  pub not_before : (k : ℕ) → k < line → ¬ EndsIdle (take k lines)
 
 -- the bytes are no sequence of as many texts
 abbrev pub IsNoSequence : (List (Entries Stamp) → Type 0) → List ℕ → Type 0

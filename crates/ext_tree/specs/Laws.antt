@@ -4,7 +4,7 @@ use Rattle.ext_lines.specs.Lines.{whole_lines}
 use Rattle.ext_text.specs.Path.{is_proper_prefix, parent}
 use Rattle.ext_tree.specs.Tree.{Entries, IsTree, lookup, is_directory_at, is_directory_or_root}
 use Rattle.ext_tree.specs.TreeText.{IsTreeText, IsSequence}
-use Rattle.ext_tree.specs.FirstFault.{Begins, IsFirstFault, IsOne, AtLeastOne}
+use Rattle.ext_tree.specs.FirstFault.{Begins, EndsIdle, IsFirstFault, IsOne, AtLeastOne}
 use Rattle.ext_tree.specs.declared.stamp.Stamp.{Stamp}
 
 -- ---- what follows for the prefixes of a path from the rule that an entry stands directly in a directory or in the root
@@ -47,9 +47,9 @@ NoFaultInText = (bytes : List ℕ) (tree : Entries Stamp) (line : ℕ) → IsTre
 abbrev pub NoFaultInSequence : Type 0
 NoFaultInSequence = (bytes : List ℕ) (trees : List (Entries Stamp)) (line : ℕ) → IsSequence bytes trees → ¬ IsFirstFault AtLeastOne bytes line
 
--- with each prefix of the lines of a sequence a sequence begins
+-- with each prefix of the lines of a sequence a sequence begins, and none ends with a text of version 2 without its lines
 abbrev pub PrefixesBegin : Type 0
-PrefixesBegin = (bytes : List ℕ) (trees : List (Entries Stamp)) (line : ℕ) → IsSequence bytes trees → Begins AtLeastOne (take line (whole_lines bytes))
+PrefixesBegin = (bytes : List ℕ) (trees : List (Entries Stamp)) (line : ℕ) → IsSequence bytes trees → Begins AtLeastOne (take line (whole_lines bytes)) × ¬ EndsIdle (take line (whole_lines bytes))
 
 -- bytes that are no tree text have a first faulty line
 abbrev pub FaultOfNoText : Type 0

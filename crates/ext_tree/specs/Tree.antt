@@ -1,10 +1,11 @@
 -- Trees: finite maps from the paths of entries to entries. A tree is seen as the list of its entries in path order, and
 -- what it has at a path is a look-up in that list.
-use Rattle.std.specs.Prelude.{◌≡◌, ℕ, ◌≤◌, Bool, true, false, List, [], ◌∷◌, length, IsTrue, Option, Some, None, is_some}
+use Rattle.std.specs.Prelude.{◌≡◌, ℕ, ◌≤◌, Bool, true, false, List, [], ◌∷◌, length, IsTrue, Option, Some, None, is_some, map}
+use Rattle.std.specs.Borrow.{Bor}
 use Rattle.std.specs.FinMap.{find, is_sorted}
 use Rattle.ext_text.specs.Path.{IsPath, path_cmp, parent}
 use Rattle.ext_tree.specs.declared.entry.Entry.{Entry}
-use Rattle.ext_tree.specs.declared.entry.Entry.TheVariants.{Dir, File, Link}
+use Rattle.ext_tree.specs.declared.entry.Entry.TheVariants.{Dir, Opaque, File, Link, Hide}
 
 -- paths with what stands there
 abbrev pub Entries : Type 0 → Type 0
@@ -17,14 +18,46 @@ lookup es p = find path_cmp p es
 -- what other entries may stand in
 abbrev pub is_directory : {C : Type 0} → Entry C → Bool
 is_directory (Dir mode) = true
+is_directory (Opaque mode) = true
 is_directory (File mode content) = false
 is_directory (Link target) = false
+is_directory Hide = false
 
 -- what has bytes
 abbrev pub is_file : {C : Type 0} → Entry C → Bool
 is_file (Dir mode) = false
+is_file (Opaque mode) = false
 is_file (File mode content) = true
 is_file (Link target) = false
+is_file Hide = false
+
+-- a directory below which nothing of a lower layer shows
+abbrev pub is_opaque : {C : Type 0} → Entry C → Bool
+is_opaque (Dir mode) = false
+is_opaque (Opaque mode) = true
+is_opaque (File mode content) = false
+is_opaque (Link target) = false
+is_opaque Hide = false
+
+-- a whiteout: what a lower layer has at its path does not show
+abbrev pub is_hide : {C : Type 0} → Entry C → Bool
+is_hide (Dir mode) = false
+is_hide (Opaque mode) = false
+is_hide (File mode content) = false
+is_hide (Link target) = false
+is_hide Hide = true
+
+-- the entry as it shows: an opaque directory is a directory like others
+abbrev pub as_shown : {C : Type 0} → Entry C → Entry C
+as_shown (Dir mode) = Dir mode
+as_shown (Opaque mode) = Dir mode
+as_shown (File mode content) = File mode content
+as_shown (Link target) = Link target
+as_shown Hide = Hide
+
+-- borrowed entries as they show
+abbrev pub all_shown : {C : Type 0} → List (Bor (List (List ℕ) × Entry C)) → Entries C
+all_shown es = map (λ x. (x.now.0, as_shown x.now.1)) es
 
 -- a directory stands there
 abbrev pub is_directory_at : {C : Type 0} → Option (Entry C) → Bool

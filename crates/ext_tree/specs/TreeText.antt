@@ -1,17 +1,20 @@
 -- The text of a tree, this project's own format: a header, a line for each entry in path order, and `end`.
 --
---     hostext-tree 1
+--     hostext-tree VERSION
 --     d MODE PATH
+--     o MODE PATH
 --     f MODE SIZE HEX PATH
 --     l LENGTH TARGET PATH
+--     w PATH
 --     end
 --
--- A file's line holds its stamp. The grammar is by printing: a text is what some tree is printed as.
-use Rattle.std.specs.Prelude.{◌≡◌, ℕ, ◌<◌, List, [], ◌∷◌, ◌++◌, length, map, codes}
-use Rattle.std.specs.List.{AllByRecursion, flat_map}
+-- A file's line holds its stamp. The version is 2 where the tree has an opaque directory or a whiteout, lines `o` and `w`,
+-- and 1 where it has none. The grammar is by printing: a text is what some tree is printed as.
+use Rattle.std.specs.Prelude.{◌≡◌, ℕ, ◌<◌, Bool, true, ◌||◌, if◌then◌else◌, List, [], ◌∷◌, ◌++◌, length, map, codes}
+use Rattle.std.specs.List.{AllByRecursion, flat_map, list_any}
 use Rattle.ext_lines.specs.Lines.{lines_text}
 use Rattle.ext_tree.specs.Fields.{IsStamp, stamp_fields}
-use Rattle.ext_tree.specs.Tree.{Entries, IsTreeWithin}
+use Rattle.ext_tree.specs.Tree.{Entries, IsTreeWithin, is_hide, is_opaque}
 use Rattle.ext_tree.specs.EntryLine.{HasLine, IsWritable, LineForm, entry_line}
 use Rattle.ext_tree.specs.declared.entry.Entry.{Entry}
 use Rattle.ext_tree.specs.declared.stamp.Stamp.{Stamp}
@@ -28,9 +31,25 @@ tree_line x = entry_line stamp_form x
 abbrev pub HasTreeLine : List (List ℕ) × Entry Stamp → Type 0
 HasTreeLine x = HasLine stamp_form x
 
+-- the entry has a line that only version 2 has
+abbrev pub needs_version_2 : {C : Type 0} → Entry C → Bool
+needs_version_2 e = is_opaque e || is_hide e
+
+-- some entry has one
+abbrev pub need_version_2 : {C : Type 0} → Entries C → Bool
+need_version_2 es = list_any (λ x. needs_version_2 x.1) es
+
+-- the first line of a text
+abbrev pub header : Bool → List ℕ
+header two = if two then codes "hostext-tree 2" else codes "hostext-tree 1"
+
+-- the lines of a text with this header
+abbrev pub text_lines : Bool → Entries Stamp → List (List ℕ)
+text_lines two es = header two ∷ map tree_line es ++ codes "end" ∷ []
+
 -- the lines of a tree's text
 abbrev pub tree_lines : Entries Stamp → List (List ℕ)
-tree_lines es = codes "hostext-tree 1" ∷ map tree_line es ++ codes "end" ∷ []
+tree_lines es = text_lines (need_version_2 es) es
 
 abbrev pub tree_text : Entries Stamp → List ℕ
 tree_text es = lines_text (tree_lines es)
@@ -54,3 +73,12 @@ pub record IsSequence (bytes : List ℕ) (trees : List (Entries Stamp)) : Type 0
   pub non_empty : 0 < length trees
   pub each : AllByRecursion HasText trees
   pub text : bytes ≡ flat_map tree_text trees
+
+-- a version and a tree with a text that the format allows, apart from the rule that version 2 has a line `o` or `w`
+pub record IsLoose (t : Bool × Entries Stamp) : Type 0 where
+  pub tree : HasText t.1
+  pub version : need_version_2 t.1 ≡ true → t.0 ≡ true
+
+-- its lines
+abbrev pub loose_lines : Bool × Entries Stamp → List (List ℕ)
+loose_lines t = text_lines t.0 t.1

@@ -1,17 +1,16 @@
 // The line of an entry, whatever it holds of a file's content: read back exactly, and printed.
-ghost use Rattle.std.specs.Prelude.{◌≡◌, ◌≢◌, ◌<◌, ℕ, List, [], ◌∷◌, ◌++◌, length, IfOk, MatchOption, OnOk};
+ghost use Rattle.std.specs.Prelude.{◌≡◌, ◌≢◌, ◌<◌, ℕ, List, [], ◌∷◌, ◌++◌, length, decimal, IfOk, MatchOption, OnErr, OnOk};
+ghost use Rattle.ext_lines.specs.Numbers.{octal};
+ghost use Rattle.ext_lines.specs.Prefix.{AppendsPrefix};
 ghost use Rattle.ext_text.specs.Path.{IsPath, path_text};
 ghost use Rattle.ext_tree.specs.Fields.{spaced};
 ghost use Rattle.ext_tree.specs.EntryLine.{LineForm, FieldsOnce, FieldsLack, ReadsFields, ReadsLine, entry_fields, entry_line};
 
 use crate::entry::Entry;
-use crate::fields::{append_mode, append_target, split_mode, split_target};
+use crate::fields::{append_bytes, append_mode, append_target, split_mode, split_target};
 use ext_lines::OutOfMemory;
-use ext_text::{Path, PathErr, Text};
+use ext_text::{Mode, Path, PathErr, Text};
 use std::alloc::Global;
-
-#[cfg(test)]
-mod tests;
 
 /// Contents of files that a line holds.
 pub trait LineContent: Sized {
@@ -28,12 +27,15 @@ pub trait LineContent: Sized {
     /// Adds the fields to a text, a space after each.
     ///
     /// # Errors
-    /// Out of memory alone.
+    /// `OutOfMemory`; a prefix of these bytes may have been added.
     fn append_to(&self, text: &mut Vec<u8>) -> Result<(), OutOfMemory>
-        ensures { OnOk result (text.new.items ≡ text.old.items ++ spaced (form.fields self.now) []) };
+        ensures ok { OnOk result (text.new.items ≡ text.old.items ++ spaced (form.fields self.now) []) }
+        ensures err { OnErr result (AppendsPrefix text.old.items text.new.items (spaced (form.fields self.now) [])) };
 
+    /// The fields of a content tell the content, and where they end.
     ghost once: { FieldsOnce form };
 
+    /// No field of a content that a line holds has a newline.
     ghost lacks: { FieldsLack form };
 }
 
@@ -69,8 +71,10 @@ pub fn fields_of<C: LineContent>(
 {
     match text {
         [b'd', b' ', fields @ ..] => Ok(dir_of(fields)),
+        [b'o', b' ', fields @ ..] => Ok(opaque_of(fields)),
         [b'f', b' ', fields @ ..] => Ok(file_of(fields)),
         [b'l', b' ', fields @ ..] => link_of(alloc, fields),
+        [b'w', b' ', rest @ ..] => Ok(Some((Entry::Hide, rest))),
         _ => Ok(None),
     }
 }
@@ -83,6 +87,16 @@ fn dir_of<C: LineContent>(fields: &[u8]) -> Option<(Entry<C>, &[u8])>
         return None;
     };
     Some((Entry::Dir(mode), rest))
+}
+
+// The opaque directory whose fields these are after the kind.
+fn opaque_of<C: LineContent>(fields: &[u8]) -> Option<(Entry<C>, &[u8])>
+    ensures { ReadsFields C.form (111 ∷ 32 ∷ fields.now) result }
+{
+    let Some((mode, rest)) = split_mode(fields) else {
+        return None;
+    };
+    Some((Entry::Opaque(mode), rest))
 }
 
 // The file whose fields these are after the kind.
@@ -137,42 +151,66 @@ pub fn path_of(alloc: Global, text: &[u8]) -> Result<Option<Path>, OutOfMemory>
 /// Adds an entry's line to a text, without a newline.
 ///
 /// # Errors
-/// Out of memory alone.
+/// `OutOfMemory`; a prefix of the line may have been added.
 pub fn append_line<C: LineContent>(
     text: &mut Vec<u8>,
     path: &Path,
     entry: &Entry<C>,
 ) -> Result<(), OutOfMemory>
-    ensures { OnOk result (text.new.items ≡ text.old.items ++ entry_line C.form (path.now, entry.now)) }
+    ensures ok { OnOk result (text.new.items ≡ text.old.items ++ entry_line C.form (path.now, entry.now)) }
+    ensures err { OnErr result (AppendsPrefix text.old.items text.new.items (entry_line C.form (path.now, entry.now))) }
 {
     append_fields(text, entry)?;
-    path.append_to(text)?;
-    Ok(())
+    path.append_to(text)
 }
 
 /// Adds the fields of an entry's line to a text, a space after each.
 ///
 /// # Errors
-/// Out of memory alone.
+/// `OutOfMemory`; a prefix of these bytes may have been added.
 pub fn append_fields<C: LineContent>(
     text: &mut Vec<u8>,
     entry: &Entry<C>,
 ) -> Result<(), OutOfMemory>
-    ensures { OnOk result (text.new.items ≡ text.old.items ++ spaced (entry_fields C.form entry.now) []) }
+    ensures ok { OnOk result (text.new.items ≡ text.old.items ++ spaced (entry_fields C.form entry.now) []) }
+    ensures err { OnErr result (AppendsPrefix text.old.items text.new.items (spaced (entry_fields C.form entry.now) [])) }
 {
     match entry {
-        Entry::Dir(mode) => {
-            text.extend_from_slice(b"d ")?;
-            append_mode(text, *mode)
-        }
-        Entry::File(mode, content) => {
-            text.extend_from_slice(b"f ")?;
-            append_mode(text, *mode)?;
-            content.append_to(text)
-        }
-        Entry::Link(target) => {
-            text.extend_from_slice(b"l ")?;
-            append_target(text, target.bytes())
-        }
+        Entry::Dir(mode) => append_kind_and_mode(text, b"d ", *mode),
+        Entry::Opaque(mode) => append_kind_and_mode(text, b"o ", *mode),
+        Entry::File(mode, content) => append_file(text, *mode, content),
+        Entry::Link(target) => append_link(text, target.bytes()),
+        Entry::Hide => append_bytes(text, b"w "),
     }
+}
+
+// Adds a kind with its space, a mode and a space.
+fn append_kind_and_mode(text: &mut Vec<u8>, kind: &[u8], mode: Mode) -> Result<(), OutOfMemory>
+    ensures ok { OnOk result (text.new.items ≡ text.old.items ++ (kind.now ++ (octal mode ++ 32 ∷ []))) }
+    ensures err { OnErr result (AppendsPrefix text.old.items text.new.items (kind.now ++ (octal mode ++ 32 ∷ []))) }
+{
+    append_bytes(text, kind)?;
+    append_mode(text, mode)
+}
+
+// Adds the fields of a file.
+fn append_file<C: LineContent>(
+    text: &mut Vec<u8>,
+    mode: Mode,
+    content: &C,
+) -> Result<(), OutOfMemory>
+    ensures ok { OnOk result (text.new.items ≡ text.old.items ++ (102 ∷ 32 ∷ (octal mode ++ 32 ∷ spaced (C.form.fields content.now) []))) }
+    ensures err { OnErr result (AppendsPrefix text.old.items text.new.items (102 ∷ 32 ∷ (octal mode ++ 32 ∷ spaced (C.form.fields content.now) []))) }
+{
+    append_kind_and_mode(text, b"f ", mode)?;
+    content.append_to(text)
+}
+
+// Adds the fields of a link.
+fn append_link(text: &mut Vec<u8>, target: &[u8]) -> Result<(), OutOfMemory>
+    ensures ok { OnOk result (text.new.items ≡ text.old.items ++ (108 ∷ 32 ∷ spaced (decimal (length target.now) ∷ target.now ∷ []) [])) }
+    ensures err { OnErr result (AppendsPrefix text.old.items text.new.items (108 ∷ 32 ∷ spaced (decimal (length target.now) ∷ target.now ∷ []) [])) }
+{
+    append_bytes(text, b"l ")?;
+    append_target(text, target)
 }

@@ -1,8 +1,9 @@
 // The fields of lines, each read back exactly and printed with one space after it: what a reader takes is what is
 // printed, and where it takes nothing, no value is printed so.
-ghost use Rattle.std.specs.Prelude.{◌≡◌, ◌≢◌, ◌<◌, ◌≤◌, ◌↔◌, ◌++◌, [], ◌∷◌, ℕ, List, length, decimal, IsTrue, MatchOption, OnOk};
+ghost use Rattle.std.specs.Prelude.{◌≡◌, ◌≢◌, ◌<◌, ◌≤◌, ◌↔◌, ◌++◌, [], ◌∷◌, ℕ, List, length, decimal, IsTrue, MatchOption, OnErr, OnOk};
 ghost use Rattle.hex.specs.Hex.{encode_lower};
 ghost use Rattle.ext_lines.specs.Numbers.{octal};
+ghost use Rattle.ext_lines.specs.Prefix.{AppendsPrefix};
 ghost use Rattle.ext_text.specs.Digest.{IsDigest};
 ghost use Rattle.ext_tree.specs.Fields.{IsStamp, IsTarget, spaced, stamp_fields};
 ghost use Rattle.ext_tree.specs.declared.stamp.Stamp.{Stamp};
@@ -123,45 +124,45 @@ pub(crate) fn split_target(text: &[u8]) -> Option<(&[u8], &[u8])>
 /// Adds a mode to a text, in octal digits, and a space.
 ///
 /// # Errors
-/// Out of memory alone.
+/// `OutOfMemory`; a prefix of these bytes may have been added.
 pub fn append_mode(text: &mut Vec<u8>, mode: Mode) -> Result<(), OutOfMemory>
-    ensures { OnOk result (text.new.items ≡ text.old.items ++ (octal mode ++ 32 ∷ [])) }
+    ensures ok { OnOk result (text.new.items ≡ text.old.items ++ (octal mode ++ 32 ∷ [])) }
+    ensures err { OnErr result (AppendsPrefix text.old.items text.new.items (octal mode ++ 32 ∷ [])) }
 {
     append_octal(text, u64::from(mode.bits()))?;
-    text.push(b' ')?;
-    Ok(())
+    append_bytes(text, b" ")
 }
 
 /// Adds a number to a text, in decimal digits, and a space.
 ///
 /// # Errors
-/// Out of memory alone.
+/// `OutOfMemory`; a prefix of these bytes may have been added.
 pub fn append_number(text: &mut Vec<u8>, number: u64) -> Result<(), OutOfMemory>
-    ensures { OnOk result (text.new.items ≡ text.old.items ++ (decimal number ++ 32 ∷ [])) }
+    ensures ok { OnOk result (text.new.items ≡ text.old.items ++ (decimal number ++ 32 ∷ [])) }
+    ensures err { OnErr result (AppendsPrefix text.old.items text.new.items (decimal number ++ 32 ∷ [])) }
 {
     append_decimal(text, number)?;
-    text.push(b' ')?;
-    Ok(())
+    append_bytes(text, b" ")
 }
 
 /// Adds a digest to a text, in lower-case hexadecimal digits, and a space.
 ///
 /// # Errors
-/// Out of memory alone.
+/// `OutOfMemory`; a prefix of these bytes may have been added.
 pub fn append_digest(text: &mut Vec<u8>, digest: &Digest) -> Result<(), OutOfMemory>
-    ensures { OnOk result (text.new.items ≡ text.old.items ++ (encode_lower digest.now.0 ++ 32 ∷ [])) }
+    ensures ok { OnOk result (text.new.items ≡ text.old.items ++ (encode_lower digest.now.0 ++ 32 ∷ [])) }
+    ensures err { OnErr result (AppendsPrefix text.old.items text.new.items (encode_lower digest.now.0 ++ 32 ∷ [])) }
 {
-    text.extend_from_slice(&digest.digits())?;
-    text.push(b' ')?;
-    Ok(())
+    append_field(text, &digest.digits())
 }
 
 /// Adds the fields of a stamp to a text, a space after each.
 ///
 /// # Errors
-/// Out of memory alone.
+/// `OutOfMemory`; a prefix of these bytes may have been added.
 pub fn append_stamp(text: &mut Vec<u8>, stamp: &Stamp) -> Result<(), OutOfMemory>
-    ensures { OnOk result (text.new.items ≡ text.old.items ++ spaced (stamp_fields stamp.now) []) }
+    ensures ok { OnOk result (text.new.items ≡ text.old.items ++ spaced (stamp_fields stamp.now) []) }
+    ensures err { OnErr result (AppendsPrefix text.old.items text.new.items (spaced (stamp_fields stamp.now) [])) }
 {
     append_number(text, stamp.size)?;
     append_digest(text, &stamp.digest)
@@ -169,10 +170,27 @@ pub fn append_stamp(text: &mut Vec<u8>, stamp: &Stamp) -> Result<(), OutOfMemory
 
 // Adds the length of a target and the target, a space after each.
 pub(crate) fn append_target(text: &mut Vec<u8>, target: &[u8]) -> Result<(), OutOfMemory>
-    ensures { OnOk result (text.new.items ≡ text.old.items ++ spaced (decimal (length target.now) ∷ target.now ∷ []) []) }
+    ensures ok { OnOk result (text.new.items ≡ text.old.items ++ spaced (decimal (length target.now) ∷ target.now ∷ []) []) }
+    ensures err { OnErr result (AppendsPrefix text.old.items text.new.items (spaced (decimal (length target.now) ∷ target.now ∷ []) [])) }
 {
     append_number(text, target.len() as u64)?;
-    text.extend_from_slice(target)?;
-    text.push(b' ')?;
+    append_field(text, target)
+}
+
+// Adds a field and a space.
+fn append_field(text: &mut Vec<u8>, field: &[u8]) -> Result<(), OutOfMemory>
+    ensures ok { OnOk result (text.new.items ≡ text.old.items ++ (field.now ++ 32 ∷ [])) }
+    ensures err { OnErr result (AppendsPrefix text.old.items text.new.items (field.now ++ 32 ∷ [])) }
+{
+    append_bytes(text, field)?;
+    append_bytes(text, b" ")
+}
+
+// Adds bytes, or nothing.
+pub(crate) fn append_bytes(text: &mut Vec<u8>, bytes: &[u8]) -> Result<(), OutOfMemory>
+    ensures ok { OnOk result (text.new.items ≡ text.old.items ++ bytes.now) }
+    ensures err { OnErr result (AppendsPrefix text.old.items text.new.items bytes.now) }
+{
+    text.extend_from_slice(bytes)?;
     Ok(())
 }

@@ -1,16 +1,17 @@
 //! Trees of entries, and their text.
 //!
-//! A [`Tree`] is a finite map from paths to entries in which each non-empty proper prefix of a path is a directory. A tree text
-//! is read into its tree and a tree is printed as its one text; bytes that are no text are refused at their first faulty line.
-//! The crates that layer, search and change trees stand on this one.
+//! A [`Tree`] is a finite map from paths to entries in which each non-empty proper prefix of a path is a directory. A tree
+//! text is read into its tree and a tree is printed as its one text; bytes that are no text are refused at their first
+//! faulty line. The lines of entries are read and printed for any content of a file ([`LineContent`]). The crates that
+//! layer, search and change trees stand on this one.
 #![tactic(auto)]
 
 mod entry;
 mod entry_line;
 mod fields;
 mod following;
-pub mod laws;
 mod insertion_point;
+pub mod laws;
 mod reading;
 mod stamp;
 #[cfg(test)]
@@ -20,7 +21,10 @@ mod writing;
 
 pub use entry::{Entry, Held1};
 pub use entry_line::{LineContent, append_fields, append_line, entry_of_line, fields_of, path_of};
-pub use fields::{append_digest, append_mode, append_number, append_stamp, split_digest, split_mode, split_number, split_stamp};
+pub use fields::{
+    append_digest, append_mode, append_number, append_stamp, split_digest, split_mode,
+    split_number, split_stamp,
+};
 pub use following::may_follow;
 pub use reading::{TreeTextErr, read_tree, read_trees};
 pub use stamp::Stamp;

@@ -1,16 +1,16 @@
 // Reads tree texts line by line. What was read so far is known to be the start of a text, so each line is judged by the
 // entries before it alone, and the first line that may not stand there is the first faulty one.
-ghost use Rattle.std.specs.Prelude.{◌≡◌, ◌+◌, ◌<◌, ◌≤◌, ◌^◌, ◌↔◌, [], ◌∷◌, ◌++◌, length, MatchResult, IfOk, IsTrue, OnOk};
+ghost use Rattle.std.specs.Prelude.{◌≡◌, ◌+◌, ◌<◌, ◌≤◌, ◌^◌, ◌↔◌, [], ◌∷◌, ◌++◌, length, true, ◌||◌, MatchOption, MatchResult, IfOk, IsTrue, OnOk};
 ghost use Rattle.ext_tree.specs.declared.entry.Entry.{Entry};
 ghost use Rattle.ext_tree.specs.declared.stamp.Stamp.{Stamp};
 ghost use Rattle.ext_tree.specs.FirstFault.{ReadsTree, ReadsSequence};
-ghost use Rattle.ext_tree.specs.TreeText.{HasTreeLine, HasText};
-ghost use Rattle.ext_tree.specs.Reading.{Judges, BeginsBody, BodyFault, BeginsText, TextFault};
+ghost use Rattle.ext_tree.specs.TreeText.{HasTreeLine, HasText, header, need_version_2, needs_version_2};
+ghost use Rattle.ext_tree.specs.Reading.{Judges, BeginsBody, BodyFault, BeginsText, IsHeader, TextFault};
 
 use crate::Trees;
 use crate::entry::Entry;
-use crate::following::may_follow;
 use crate::entry_line::entry_of_line;
+use crate::following::may_follow;
 use crate::stamp::Stamp;
 use crate::tree::{MOST_ENTRIES, Tree};
 use ext_lines::{OutOfMemory, split_at_byte};
@@ -18,8 +18,11 @@ use ext_text::{ListOf, Path};
 use std::alloc::Global;
 use thiserror::Error;
 
-/// The first line of a tree text.
-const HEADER: &[u8] = b"hostext-tree 1";
+/// The first line of a text without lines `o` and `w`.
+const HEADER_1: &[u8] = b"hostext-tree 1";
+
+/// The first line of a text with some.
+const HEADER_2: &[u8] = b"hostext-tree 2";
 
 /// The last line of a tree text.
 const END: &[u8] = b"end";
@@ -74,8 +77,8 @@ struct Body<'a> {
 ///
 /// # Errors
 /// `BadTree` exactly where the bytes are no tree text. Its line, counted from 1, is the first with which no tree text
-/// begins; where the bytes stop early, it is the line after their last newline, also where that line has begun.
-/// `OutOfMemory` may come at any time.
+/// begins, or the `end` line of a text of version 2 without lines `o` and `w`; where the bytes stop early, it is the line
+/// after their last newline, also where that line has begun. `OutOfMemory` may come at any time.
 pub fn read_tree(alloc: Global, bytes: &[u8]) -> Result<Tree<Stamp>, TreeTextErr>
     ensures { ReadsTree bytes.now result }
 {
@@ -90,8 +93,8 @@ pub fn read_tree(alloc: Global, bytes: &[u8]) -> Result<Tree<Stamp>, TreeTextErr
 /// The trees of a sequence of tree texts, of one at least, in their order.
 ///
 /// # Errors
-/// `BadTree` exactly where the bytes are no such sequence; the empty bytes are none. Its line is as for `read_tree`, and the
-/// lines are counted through all the texts. `OutOfMemory` may come at any time.
+/// `BadTree` exactly where the bytes are no such sequence; the empty bytes are none. Its line is as for `read_tree`, and
+/// the lines are counted through all the texts. `OutOfMemory` may come at any time.
 pub fn read_trees(alloc: Global, bytes: &[u8]) -> Result<Trees, TreeTextErr>
     ensures { ReadsSequence bytes.now result }
 {
@@ -116,28 +119,39 @@ fn read_text(alloc: Global, bytes: &[u8], line: u64) -> Result<Body, TreeTextErr
 {
     match split_at_byte(bytes, b'\n') {
         None => Err(TreeTextErr::BadTree { line }),
-        Some((header, body)) => {
-            if header == HEADER {
-                read_body(alloc, body, line + 1)
-            } else {
-                Err(TreeTextErr::BadTree { line })
-            }
-        }
+        Some((header, body)) => match version_of(header) {
+            None => Err(TreeTextErr::BadTree { line }),
+            Some(two) => read_body(alloc, body, line + 1, two),
+        },
+    }
+}
+
+// Whether the version that a header tells is 2.
+fn version_of(line: &[u8]) -> Option<bool>
+    ensures { MatchOption result (¬ IsHeader line.now) (λ two. line.now ≡ header two) }
+{
+    if line == HEADER_1 {
+        Some(false)
+    } else if line == HEADER_2 {
+        Some(true)
+    } else {
+        None
     }
 }
 
 // The entries and the last line of a text at the start of the bytes; their first line has this number.
-fn read_body(alloc: Global, bytes: &[u8], first: u64) -> Result<Body, TreeTextErr>
+fn read_body(alloc: Global, bytes: &[u8], first: u64, two: bool) -> Result<Body, TreeTextErr>
     requires { first + length bytes.now < 2 ^ 64 }
-    ensures { MatchResult result (λ body. BeginsBody bytes.now first body.entries.items body.rest.now body.line) (BodyFault bytes.now first) }
+    ensures { MatchResult result (λ body. BeginsBody two bytes.now first body.entries.items body.rest.now body.line) (BodyFault two bytes.now first) }
 {
     let mut entries = Vec::new(alloc);
+    let mut needs = false;
     let mut rest = bytes;
     let mut line = first;
     'lines: loop {
         match split_at_byte(rest, b'\n') {
             None => return Err(TreeTextErr::BadTree { line }),
-            Some((text, after)) => match judge(alloc, entries.as_slice(), text)? {
+            Some((text, after)) => match judge(alloc, entries.as_slice(), text, two, needs)? {
                 Line::Fault => return Err(TreeTextErr::BadTree { line }),
                 Line::End => {
                     // A sequence may hold very many small trees.
@@ -149,6 +163,8 @@ fn read_body(alloc: Global, bytes: &[u8], first: u64) -> Result<Body, TreeTextEr
                     });
                 }
                 Line::Item(path, entry) => {
+                    let still = needs_either(needs, &entry);
+                    needs = still;
                     push(&mut entries, (path, entry))?;
                     rest = after;
                     line += 1;
@@ -158,17 +174,30 @@ fn read_body(alloc: Global, bytes: &[u8], first: u64) -> Result<Body, TreeTextEr
     }
 }
 
-// What the line is after the lines of the entries.
-fn judge(alloc: Global, entries: &[(Path, Entry<Stamp>)], line: &[u8]) -> Result<Line, OutOfMemory>
-    requires { HasText entries.now }
-    ensures { IfOk result (Judges entries.now line.now) }
+// What the line is after the lines of the entries, of which some need version 2 or none.
+fn judge(
+    alloc: Global,
+    entries: &[(Path, Entry<Stamp>)],
+    line: &[u8],
+    two: bool,
+    needs: bool,
+) -> Result<Line, OutOfMemory>
+    requires text { HasText entries.now }
+    requires needs { needs ≡ need_version_2 entries.now }
+    ensures { IfOk result (Judges two entries.now line.now) }
 {
     if line == END {
+        if two != needs {
+            return Ok(Line::Fault);
+        }
         return Ok(Line::End);
     }
     match entry_of_line(alloc, line)? {
         None => Ok(Line::Fault),
         Some((path, entry)) => {
+            if !has_line(&entry, two) {
+                return Ok(Line::Fault);
+            }
             if may_add(entries, &path) {
                 Ok(Line::Item(path, entry))
             } else {
@@ -176,6 +205,20 @@ fn judge(alloc: Global, entries: &[(Path, Entry<Stamp>)], line: &[u8]) -> Result
             }
         }
     }
+}
+
+// Whether some entries or one more need version 2.
+fn needs_either(needs: bool, entry: &Entry<Stamp>) -> bool
+    ensures { result ≡ (needs || needs_version_2 entry.now) }
+{
+    needs || entry.needs_version_2()
+}
+
+// Whether the version has a line for the entry.
+fn has_line(entry: &Entry<Stamp>, two: bool) -> bool
+    ensures { IsTrue result ↔ (needs_version_2 entry.now ≡ true → two ≡ true) }
+{
+    two || !entry.needs_version_2()
 }
 
 // Whether the entries with one more at this path still have a text.

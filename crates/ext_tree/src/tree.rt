@@ -8,7 +8,7 @@ ghost use Rattle.ext_tree.specs.InsertionPoint.{insertion_point};
 ghost use Rattle.ext_tree.specs.Refusals.{Refuses, insert_refusal};
 
 use crate::entry::Entry;
-use crate::insertion_point::{entry_at, entry_of, is_directory_or_root, insertion_point_of};
+use crate::insertion_point::{entry_at, entry_of, insertion_point_of, is_directory_or_root};
 use ext_lines::OutOfMemory;
 use ext_text::Path;
 use std::alloc::Global;

@@ -1,5 +1,7 @@
-ghost use Rattle.std.specs.Prelude.{◌≡◌, [], ◌∷◌, ◌++◌, map, IfOk, OnOk};
-ghost use Rattle.ext_tree.specs.TreeText.{AreWritable, HasText, IsTreeText, tree_line, tree_text};
+ghost use Rattle.std.specs.Prelude.{◌≡◌, [], ◌∷◌, ◌++◌, IfOk, OnOk};
+ghost use Rattle.std.specs.List.{list_any};
+ghost use Rattle.ext_tree.specs.Tree.{all_shown, as_shown, is_hide};
+ghost use Rattle.ext_tree.specs.TreeText.{AreWritable, HasText, IsTreeText, header, need_version_2, tree_line, tree_text};
 
 use crate::entry::Entry;
 use crate::entry_line;
@@ -9,8 +11,10 @@ use ext_lines::OutOfMemory;
 use ext_text::{Path, Text};
 use std::alloc::Global;
 
-// The first line of a text.
-const HEADER: &[u8] = b"hostext-tree 1\n";
+// The first line of a text without lines `o` and `w`, and that of a text with some.
+const HEADER_1: &[u8] = b"hostext-tree 1\n";
+
+const HEADER_2: &[u8] = b"hostext-tree 2\n";
 
 // The last one.
 const END: &[u8] = b"end\n";
@@ -26,7 +30,7 @@ pub fn write_tree(alloc: Global, tree: &Tree<Stamp>) -> Result<Text, OutOfMemory
     ensures printed { IfOk result (λ text. text ≡ tree_text tree.now) }
     ensures text { AreWritable tree.now → IfOk result (λ text. IsTreeText text tree.now) }
 {
-    let mut text = Vec::from_slice(alloc, HEADER)?;
+    let mut text = Vec::from_slice(alloc, header(need_version_2(tree.pairs())))?;
     for (path, entry) in tree.pairs() {
         append_line(&mut text, path, entry)?;
     }
@@ -34,13 +38,14 @@ pub fn write_tree(alloc: Global, tree: &Tree<Stamp>) -> Result<Text, OutOfMemory
     Ok(Text::from_vec(text))
 }
 
-/// The text of borrowed entries, in their order. Where they are those of a tree that has a text, it is that text.
+/// The text of borrowed entries as they show, in their order: an opaque directory is a directory like others. Where they
+/// are those of a tree that has a text, it is that text.
 ///
 /// # Errors
 /// Out of memory alone.
 pub fn write_entries(alloc: Global, entries: &[&(Path, Entry<Stamp>)]) -> Result<Text, OutOfMemory>
-    ensures printed { IfOk result (λ text. text ≡ tree_text (map (λ x. x.now) entries.now)) }
-    ensures text { HasText (map (λ x. x.now) entries.now) → IfOk result (λ text. IsTreeText text (map (λ x. x.now) entries.now)) }
+    ensures printed { IfOk result (λ text. text ≡ tree_text (all_shown entries.now)) }
+    ensures text { HasText (all_shown entries.now) → IfOk result (λ text. IsTreeText text (all_shown entries.now)) }
 {
     write_entries_into(Text::new(alloc), entries)
 }
@@ -53,17 +58,58 @@ pub fn write_entries_into(
     buffer: Text,
     entries: &[&(Path, Entry<Stamp>)],
 ) -> Result<Text, OutOfMemory>
-    ensures printed { IfOk result (λ text. text ≡ tree_text (map (λ x. x.now) entries.now)) }
-    ensures text { HasText (map (λ x. x.now) entries.now) → IfOk result (λ text. IsTreeText text (map (λ x. x.now) entries.now)) }
+    ensures printed { IfOk result (λ text. text ≡ tree_text (all_shown entries.now)) }
+    ensures text { HasText (all_shown entries.now) → IfOk result (λ text. IsTreeText text (all_shown entries.now)) }
 {
     let mut text = buffer.into_vec();
     text.clear();
-    text.extend_from_slice(HEADER)?;
+    text.extend_from_slice(header(have_hide(entries)))?;
     for entry in entries {
-        append_line(&mut text, &entry.0, &entry.1)?;
+        append_shown(&mut text, &entry.0, &entry.1)?;
     }
     text.extend_from_slice(END)?;
     Ok(Text::from_vec(text))
+}
+
+// The first line of a text, with its newline.
+fn header(two: bool) -> &'static [u8]
+    ensures { result.now ≡ header two ++ 10 ∷ [] }
+{
+    if two { HEADER_2 } else { HEADER_1 }
+}
+
+// Whether some entry has a line that only version 2 has.
+fn need_version_2(entries: &[(Path, Entry<Stamp>)]) -> bool
+    ensures { result ≡ need_version_2 entries.now }
+{
+    let mut needs = false;
+    for entry in entries {
+        needs = needs || entry.1.needs_version_2();
+    }
+    needs
+}
+
+// Whether some entry has such a line as it shows.
+fn have_hide(entries: &[&(Path, Entry<Stamp>)]) -> bool
+    ensures { result ≡ list_any (λ x. is_hide x.now.1) entries.now }
+{
+    let mut needs = false;
+    for entry in entries {
+        needs = needs || entry.1.is_hide();
+    }
+    needs
+}
+
+// Adds the line of an entry as it shows, with its newline.
+fn append_shown(text: &mut Vec<u8>, path: &Path, entry: &Entry<Stamp>) -> Result<(), OutOfMemory>
+    ensures { OnOk result (text.new.items ≡ text.old.items ++ (tree_line (path.now, as_shown entry.now) ++ 10 ∷ [])) }
+{
+    match entry {
+        Entry::Opaque(mode) => append_line(text, path, &Entry::Dir(*mode)),
+        Entry::Dir(_) | Entry::File(_, _) | Entry::Link(_) | Entry::Hide => {
+            append_line(text, path, entry)
+        }
+    }
 }
 
 // Adds an entry's line with its newline.

@@ -1,5 +1,6 @@
-use Rattle.std.proofs.Common.{◌≡◌, map, take}
+use Rattle.std.proofs.Common.{◌≡◌, take}
+use Rattle.ext_layer.specs.Item.{all_shown}
 use Rattle.ext_layer.proofs.layered.copies_of.Given as goal
 
 abbrev pub invariant-loop-pair : goal.invariant-loop-pair
-invariant-loop-pair g l = l.copies.items ≡ map (λ r. r.now) (take l.pair-index l.pairs)
+invariant-loop-pair g l = l.copies.items ≡ all_shown (take l.pair-index l.pairs)

@@ -1,4 +1,4 @@
-use Rattle.ext_release.proofs.SoFar.{finish, next}
+use Rattle.ext_release.proofs.ReadingLemmas.{finish, next}
 use Rattle.ext_release.proofs.reading.read_release.Goals as goal
 
 pub returns-in-None : goal.returns-in-None

@@ -4,7 +4,7 @@ use Rattle.std.specs.FinMap.{get}
 use Rattle.std.specs.Str.{bytes_eq}
 use Rattle.std.specs.String.{string_bytes}
 use Rattle.ext_release.specs.Release.{map_of}
-use Rattle.ext_release.proofs.Texts.{updated}
+use Rattle.ext_release.proofs.ReleaseLemmas.{updated}
 use Rattle.ext_release.proofs.release.put.Goals as goal
 
 pub returns-in-Some : goal.returns-in-Some

@@ -1,5 +1,5 @@
 use Rattle.std.specs.Prelude.{None}
-use Rattle.ext_release.proofs.Texts.{updated}
+use Rattle.ext_release.proofs.ReleaseLemmas.{updated}
 use Rattle.ext_release.proofs.release.unset.Goals as goal
 
 pub returns : goal.returns

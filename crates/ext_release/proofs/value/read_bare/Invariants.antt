@@ -5,7 +5,7 @@ use Rattle.std.specs.String.{string_bytes}
 use Rattle.ext_release.specs.Value.{bare}
 use Rattle.ext_release.proofs.value.read_bare.Given as goal
 
--- what is left stands behind what was read
+-- what is left stands after what was read
 abbrev pub invariant-pieces : goal.invariant-pieces
 invariant-pieces l = shadow (Utf8 l.rest) × (bare l.text ≡ string_bytes l.value ++ bare l.rest)
 

@@ -1,7 +1,7 @@
 use Rattle.std.proofs.Common.{◌∙◌, ap, rules, sym}
 use Rattle.std.specs.String.{string_bytes}
 use Rattle.ext_release.specs.Value.{closed, with_prefix}
-use Rattle.ext_release.proofs.Quotes.{at_backslash, at_quote, begins, no_mark, unclosed}
+use Rattle.ext_release.proofs.ValueLemmas.{at_backslash, at_quote, begins, no_mark, unclosed}
 use Rattle.ext_release.proofs.value.read_double.Goals as goal
 
 pub pieces-init : goal.pieces-init

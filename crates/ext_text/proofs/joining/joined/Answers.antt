@@ -1,4 +1,4 @@
-use Rattle.std.proofs.Common.{◌≡◌, ◌++◌, arith, length-append}
+use Rattle.std.proofs.Common.{arith, length-append}
 use Rattle.ext_text.proofs.PathLemmas.{path_of, length-both, length-path_text}
 use Rattle.ext_text.proofs.joining.joined.Goals as goal
 

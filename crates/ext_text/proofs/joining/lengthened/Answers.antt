@@ -1,4 +1,4 @@
-use Rattle.std.proofs.Common.{◌≡◌, ◌++◌, ◌∷◌, [], ap, arith, length, length-append}
+use Rattle.std.proofs.Common.{◌∷◌, [], ap, arith, length, length-append}
 use Rattle.ext_text.proofs.PathLemmas.{path_of, length-both, length-path_text}
 use Rattle.ext_text.proofs.joining.lengthened.Goals as goal
 

@@ -1,4 +1,4 @@
-use Rattle.ext_release.proofs.Texts.{get-none}
+use Rattle.ext_release.proofs.ReleaseLemmas.{get-none}
 use Rattle.ext_release.proofs.release.Release.new.Goals as goal
 
 pub returns : goal.returns

@@ -3,7 +3,7 @@ use Rattle.std.specs.Prelude.{Some}
 use Rattle.std.specs.FinMap.{get}
 use Rattle.std.specs.Option.{option_map}
 use Rattle.std.specs.String.{string_bytes}
-use Rattle.ext_release.proofs.Texts.{get-texts}
+use Rattle.ext_release.proofs.ReleaseLemmas.{get-texts}
 use Rattle.ext_release.proofs.release.Release.value.Goals as goal
 
 pub returns-in-Some : goal.returns-in-Some

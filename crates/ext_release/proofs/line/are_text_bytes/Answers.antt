@@ -1,8 +1,0 @@
-use Rattle.std.proofs.Common.{rules}
-use Rattle.std.proofs.lemmas.Iterator.{YieldsList-from_slice}
-use Rattle.std.proofs.lemmas.Iterator.Search.{all_from_yields_List}
-use Rattle.ext_release.specs.Line.{is_text_byte}
-use Rattle.ext_release.proofs.line.are_text_bytes.Goals as goal
-
-pub returns : goal.returns
-returns c = all_from_yields_List is_text_byte _ _ c.all.result c.all.ensures.ran (YieldsList-from_slice c.args.text.now c.iter.ensures.rest) (λ x b q h. search rules)

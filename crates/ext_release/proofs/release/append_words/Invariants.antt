@@ -1,0 +1,10 @@
+use Rattle.std.proofs.Common.{◌≡◌, ◌++◌, length}
+use Rattle.ext_lines.specs.Words.{words_of}
+use Rattle.ext_release.proofs.release.append_words.Given as goal
+
+-- the words so far, and those of what is left
+abbrev pub invariant-words : goal.invariant-words
+invariant-words l = l.fn.words ++ words_of l.text ≡ l.words ++ words_of l.rest
+
+abbrev pub decreases-words : goal.decreases-words
+decreases-words l = length l.rest

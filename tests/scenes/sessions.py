@@ -1,0 +1,63 @@
+"""The sessions of README.md, read out of README.md.
+
+A block between lines of three backquotes is a session where it has lines that begin with `$ `, and what stands below such
+a line is all that the command writes, on both outputs. A block without such lines is no session and isn't run: so the
+command that runs these tests stands in one. A session runs in one shell, in a folder that has the repository's examples
+and tools, and the program under the name hostext. It is skipped where a tool that it starts is missing.
+"""
+import os
+import re
+import shlex
+import subprocess
+import tempfile
+from pathlib import Path
+
+from scenes.running import SECONDS, TOP, Failed, Skipped, shortened
+
+
+def sessions():
+    """Each session as its commands, with what they write."""
+    for block in re.findall(r"^```[^\n]*\n(.*?)^```$", (TOP / "README.md").read_text(), re.M | re.S):
+        session = re.findall(r"^\$ ([^\n]*)\n((?:(?!\$ )[^\n]*\n)*)", block, re.M)
+        if session:
+            yield session
+
+
+def shell(commands, folder):
+    """What each of the commands writes, on both outputs, in one shell."""
+    script = "".join(f"{command}\nprintf '\\0'\n" for command in commands)
+    streams = {"stdin": subprocess.DEVNULL, "stdout": subprocess.PIPE, "stderr": subprocess.STDOUT}
+    around = {**os.environ, "LC_ALL": "C", "TMPDIR": str(folder)}
+    return subprocess.run(["sh", "-c", script], cwd=folder, env=around, timeout=SECONDS, **streams).stdout.decode().split("\0")
+
+
+def need_tools(command, folder):
+    """Skips the scene where a tool that the command starts is missing."""
+    words = ["|", *shlex.shlex(command, posix=True, punctuation_chars=True)]
+    for before, tool in zip(words, words[1:]):
+        starts = before in ("|", ";", "&&", "||", "(") and re.fullmatch(r"[\w./-]+", tool)
+        if starts and not shell([f"command -v {tool}"], folder)[0]:
+            raise Skipped(f"there is no {tool}")
+
+
+def follow(session, folder):
+    for command, _ in session:
+        need_tools(command, folder)
+    found = shell([command for command, _ in session], folder)
+    for at, (command, wanted) in enumerate(session):
+        written = found[at] if at < len(found) else "nothing"
+        if written != wanted:
+            raise Failed(f"`{command}` writes {shortened(written)}, and not {shortened(wanted)}")
+
+
+def in_a_folder(session, program):
+    with tempfile.TemporaryDirectory() as folder:
+        for name in ("examples", "tools"):
+            os.symlink(TOP / name, Path(folder, name))
+        os.symlink(program, Path(folder, "hostext"))
+        follow(session, folder)
+
+
+def scenes(program):
+    for session in sessions():
+        yield f"README.md: {session[-1][0]}", lambda session=session: in_a_folder(session, program)
