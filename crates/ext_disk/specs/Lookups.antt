@@ -1,4 +1,4 @@
--- What the calls that read answer, where contents are told and where they are not.
+-- What the calls that read give, where contents are told and where they are not.
 use Rattle.std.specs.Prelude.{◌≡◌, ℕ, ◌+◌, ◌<◌, ◌≤◌, true, List, [], ◌∷◌, ◌++◌, length, take, drop, Option, Some, None, IfSome}
 use Rattle.std.specs.List.{AllByRecursion, list_any}
 use Rattle.std.specs.List.Sorted.{IsStrictlySortedBy}
@@ -24,7 +24,7 @@ MayList disk dir = IfSome disk.told (λ d. is_folder (d.places dir).node ≡ tru
 abbrev pub MayRead : DiskState → List (List ℕ) → ℕ → Type 0
 MayRead disk path room = IfSome disk.told (λ d. (is_file (d.places path).node ≡ true) × (0 < room))
 
--- ---- answers
+-- ---- what they give
 
 -- the names that stand directly in a folder, in byte order, each once
 pub record IsListing (d : Places) (dir : List (List ℕ)) (names : List (List ℕ)) : Type 0 where

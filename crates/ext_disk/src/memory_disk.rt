@@ -131,6 +131,8 @@ impl Disk for MemoryDisk {
 
     ghost state = { memory_state };
 
+    /// Beside what each disk promises: the call fails exactly where it is to fail, and is kept in the record; names that
+    /// find no memory are no fault.
     fn list(&mut self, alloc: Global, dir: &Path) -> Result<Names, ListErr>
         requires { MayList (memory_state self.old) dir.now }
         ensures names { IfOk result (Lists (memory_state self.old) dir.now) }
@@ -143,6 +145,7 @@ impl Disk for MemoryDisk {
         Ok(names)
     }
 
+    /// Beside what each disk promises: the call fails exactly where it is to fail, and is kept in the record.
     fn kind(&mut self, path: &Path) -> Result<Option<Kind>, Failed>
         ensures kind { IfOk result (IsKindAt (memory_state self.old) path.now) }
         ensures does { Does look (memory_state self.old) (memory_state self.new) (is_ok result) }
@@ -153,6 +156,7 @@ impl Disk for MemoryDisk {
         Ok(kind_at(&self.history.spots, path))
     }
 
+    /// Beside what each disk promises: the call fails exactly where it is to fail, and is kept in the record.
     fn read(&mut self, path: &Path, at: u64, buf: &mut [u8]) -> Result<usize, Failed>
         requires { MayRead (memory_state self.old) path.now (length buf.old) }
         ensures within { IfOk result (λ count. count ≤ length buf.new) }
@@ -168,6 +172,7 @@ impl Disk for MemoryDisk {
         }
     }
 
+    /// Beside what each disk promises: the call fails exactly where it is to fail, and is kept in the record.
     fn make_dir(&mut self, path: &Path) -> Result<(), Failed>
         requires { MayCall (make_dir path.now) (memory_state self.old) }
         ensures does { Does (make_dir path.now) (memory_state self.old) (memory_state self.new) (is_ok result) }
@@ -178,6 +183,7 @@ impl Disk for MemoryDisk {
         self.change(DiskOp::MakeDir, path, 0, deed)
     }
 
+    /// Beside what each disk promises: the call fails exactly where it is to fail, and is kept in the record.
     fn make_file(&mut self, path: &Path) -> Result<(), Failed>
         requires { MayCall (make_file path.now) (memory_state self.old) }
         ensures does { Does (make_file path.now) (memory_state self.old) (memory_state self.new) (is_ok result) }
@@ -188,6 +194,7 @@ impl Disk for MemoryDisk {
         self.change(DiskOp::MakeFile, path, 0, deed)
     }
 
+    /// Beside what each disk promises: the call fails exactly where it is to fail, and is kept in the record.
     fn append(&mut self, path: &Path, bytes: &[u8]) -> Result<(), Failed>
         requires { MayCall (append path.now bytes.now) (memory_state self.old) }
         ensures does { Does (append path.now bytes.now) (memory_state self.old) (memory_state self.new) (is_ok result) }
@@ -198,6 +205,7 @@ impl Disk for MemoryDisk {
         self.change(DiskOp::Append, path, bytes.len() as u64, deed)
     }
 
+    /// Beside what each disk promises: the call fails exactly where it is to fail, and is kept in the record.
     fn sync_file(&mut self, path: &Path) -> Result<(), Failed>
         requires { MayCall (sync_file path.now) (memory_state self.old) }
         ensures does { Does (sync_file path.now) (memory_state self.old) (memory_state self.new) (is_ok result) }
@@ -208,6 +216,7 @@ impl Disk for MemoryDisk {
         self.change(DiskOp::SyncFile, path, 0, deed)
     }
 
+    /// Beside what each disk promises: the call fails exactly where it is to fail, and is kept in the record.
     fn sync_dir(&mut self, dir: &Path) -> Result<(), Failed>
         requires { MayCall (sync_dir dir.now) (memory_state self.old) }
         ensures does { Does (sync_dir dir.now) (memory_state self.old) (memory_state self.new) (is_ok result) }
@@ -218,6 +227,7 @@ impl Disk for MemoryDisk {
         self.change(DiskOp::SyncDir, dir, 0, deed)
     }
 
+    /// Beside what each disk promises: the call fails exactly where it is to fail, and is kept in the record.
     fn rename(&mut self, from: &Path, to: &Path) -> Result<(), Failed>
         requires { MayCall (rename from.now to.now) (memory_state self.old) }
         ensures does { Does (rename from.now to.now) (memory_state self.old) (memory_state self.new) (is_ok result) }
@@ -228,6 +238,7 @@ impl Disk for MemoryDisk {
         self.change(DiskOp::Rename, from, 0, deed)
     }
 
+    /// Beside what each disk promises: the call fails exactly where it is to fail, and is kept in the record.
     fn remove(&mut self, path: &Path) -> Result<(), Failed>
         requires { MayCall (remove path.now) (memory_state self.old) }
         ensures does { Does (remove path.now) (memory_state self.old) (memory_state self.new) (is_ok result) }
