@@ -5,13 +5,17 @@
 //! The crates that layer, search and change trees stand on this one.
 #![tactic(auto)]
 
+mod copy;
+mod cut;
 mod entry;
 mod entry_line;
 mod fields;
 mod following;
 pub mod laws;
 mod insertion_point;
+mod part;
 mod reading;
+mod slices;
 mod stamp;
 #[cfg(test)]
 mod tests;
@@ -23,6 +27,7 @@ pub use entry_line::{LineContent, append_fields, append_line, entry_of_line, fie
 pub use fields::{append_digest, append_mode, append_number, append_stamp, split_digest, split_mode, split_number, split_stamp};
 pub use following::may_follow;
 pub use reading::{TreeTextErr, read_tree, read_trees};
+pub use slices::{after, cmp_child};
 pub use stamp::Stamp;
 pub use tree::{MOST_ENTRIES, Tree, TreeErr};
 pub use writing::{write_entries, write_entries_into, write_tree};
