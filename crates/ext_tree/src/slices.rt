@@ -5,7 +5,7 @@ ghost use Rattle.std.specs.FinMap.{is_sorted};
 ghost use Rattle.std.specs.FinMap.Entries.{where_key};
 ghost use Rattle.ext_text.specs.Path.{is_proper_prefix, path_cmp};
 ghost use Rattle.ext_tree.specs.Slices.{IsChild, is_after, is_before_name, is_named};
-ghost use Rattle.ext_tree.specs.Tree.{is_directory_or_root};
+ghost use Rattle.ext_tree.specs.Tree.{IsTree, is_directory_or_root};
 
 use crate::entry::Entry;
 use crate::following::is_prefix;
@@ -32,7 +32,8 @@ impl<C> Tree<C> {
     /// The entry of this name directly in the directory, with its own path; `None` exactly where there is none. The name
     /// may be any bytes.
     pub fn child(&self, directory: &[Name], name: &[u8]) -> Option<&(Path, Entry<C>)>
-        ensures { IsChild self.now (directory.now ++ name.now ∷ []) result }
+        ensures found { IsChild self.now (directory.now ++ name.now ∷ []) result }
+        ensures tree { IsTree self.now }
     {
         match from_name(self.pairs(), directory, name).first() {
             Some(entry) if is_child(directory, name, entry) => Some(entry),

@@ -33,3 +33,7 @@ pushed names x = ap reverse (map-append (λ (r : Bor (List ℕ)). r.now) names (
 
 pub popped : (before after : List (Bor (List ℕ))) (x : Bor (List ℕ)) → before ≡ after ++ x ∷ [] → upcoming before ≡ x.now ∷ upcoming after
 popped before after x is = ap upcoming is ∙ pushed after x
+
+pub none_left : (names : List (Bor (List ℕ))) → length names ≡ 0 → upcoming names ≡ []
+none_left [] none = refl
+none_left (x ∷ names) none = absurd (omega arith)

@@ -3,12 +3,13 @@ use Rattle.std.proofs.Common.{◌≡◌, ℕ, suc, zero, ◌+◌, Bool, true, fa
 use Rattle.std.specs.Prelude.{IsTrue, nat_le}
 use Rattle.std.specs.Option.{option_and_then, unwrap_or}
 use Rattle.std.proofs.lemmas.Bool.{true≢false, false≢true}
+use Rattle.std.proofs.lemmas.List.{append-nil}
 use Rattle.ext_text.specs.Path.{parent}
 use Rattle.ext_tree.specs.declared.entry.Entry.{Entry}
 use Rattle.ext_tree.specs.declared.entry.Entry.TheVariants.{Dir, File, Link}
 use Rattle.ext_tree.specs.Tree.{Entries, IsTree, lookup, is_directory_at, is_directory_or_root}
 use Rattle.ext_tree.proofs.ForCallers.{parent_child}
-use Rattle.ext_walk.specs.Walk.{Walk, walk, EndsFrom, enter, follow, is_idle, is_up, step, steps}
+use Rattle.ext_walk.specs.Walk.{Walk, walk, EndsFrom, enter, follow, is_absolute, is_idle, is_up, most_links, parts, step, steps}
 use Rattle.ext_walk.specs.Steps.{Same, SameThen}
 
 abbrev left_of : Walk → List (List ℕ)
@@ -17,10 +18,10 @@ left_of (walk at left links) = left
 abbrev place_of : Walk → List (List ℕ)
 place_of (walk at left links) = at
 
-from_some : {w v : Walk} → Some w ≡ Some v → w ≡ v
+pub from_some : {w v : Walk} → Some w ≡ Some v → w ≡ v
 from_some {w} {v} same = ap (λ o. unwrap_or o w) same
 
-no_some : {A : Type 0} {x : A} → None ≡ Some x → ⊥
+pub no_some : {A : Type 0} {x : A} → None ≡ Some x → ⊥
 no_some same = false≢true (ap is_some same)
 
 module _ {C : Type 0} (es : Entries C) where
@@ -108,3 +109,28 @@ module _ {C : Type 0} (es : Entries C) where
         nothing None is other = refl
         nothing (Some e) is other =
             absurd (true≢false (sym (subst (λ p. is_directory_or_root es p ≡ true) (parent_child at name) (tree.parents (at ++ name ∷ []) (ap is_some is))) ∙ other))
+
+  -- ---- one name more of a walk whose ends are those of another one
+
+  next_step : (at : List (List ℕ)) (name : List ℕ) (left : List (List ℕ)) (links : ℕ) (o : Option Walk) → step es (walk at (name ∷ left) links) ≡ o → SameThen es (walk at (name ∷ left) links) o
+  next_step at name left links None is = stuck at name left links is
+  next_step at name left links (Some v) is = same_step (walk at (name ∷ left) links) v is
+
+  -- what the next name leads to, or that it leads nowhere
+  pub go_on : (w : Walk) (at : List (List ℕ)) (name : List ℕ) (before after : List (List ℕ)) (links : ℕ) (o : Option Walk) → Same es w (walk at before links) → before ≡ name ∷ after → step es (walk at (name ∷ after) links) ≡ o → SameThen es w o
+  go_on w at name before after links o first is next =
+      same_then w (walk at (name ∷ after) links) o (subst (λ l. Same es w (walk at l links)) is first) (next_step at name after links o next)
+
+  pub go_end : (w : Walk) (at before : List (List ℕ)) (links : ℕ) → Same es w (walk at before links) → before ≡ [] → Same es w (walk at [] links)
+  go_end w at before links first is = subst (λ l. Same es w (walk at l links)) is first
+
+  -- a link is followed, up to the 40th
+  pub follow_on : (w : Walk) (target : List ℕ) (at left : List (List ℕ)) (links : ℕ) → SameThen es w (follow target at left links) → nat_le most_links links ≡ false → Same es w (walk (cond (is_absolute target) [] at) (parts target ++ left) (links + 1))
+  follow_on w target at left links then_ few = subst (SameThen es w) (ap (λ b. cond b None (Some (walk (cond (is_absolute target) [] at) (parts target ++ left) (links + 1)))) few) then_
+
+  pub follow_none : (w : Walk) (target : List ℕ) (at left : List (List ℕ)) (links : ℕ) → SameThen es w (follow target at left links) → nat_le most_links links ≡ true → (end : List (List ℕ)) → EndsFrom es w end → ⊥
+  follow_none w target at left links then_ many = subst (SameThen es w) (ap (λ b. cond b None (Some (walk (cond (is_absolute target) [] at) (parts target ++ left) (links + 1)))) many) then_
+
+pub start_at : (absolute : Bool) (image from next : List (List ℕ)) → from ≡ image ++ next → cond absolute image from ≡ image ++ cond absolute [] next
+start_at true image from next is = sym (append-nil image)
+start_at false image from next is = is

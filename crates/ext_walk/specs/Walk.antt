@@ -1,7 +1,7 @@
 -- Walks through a tree along names, as path_resolution(7) has it: links are followed in every name, and `..` at the root
 -- stays there. That empty names and `.` are dropped also after a file, and that at most 40 links are followed, is this
 -- project's own choice.
-use Rattle.std.specs.Prelude.{◌≡◌, ℕ, zero, suc, ◌+◌, nat_le, ◌==◌, Bool, true, false, List, [], ◌∷◌, ◌++◌, if◌then◌else◌, Option, Some, None}
+use Rattle.std.specs.Prelude.{◌≡◌, ℕ, zero, suc, ◌+◌, nat_le, ◌==◌, Bool, true, false, List, [], ◌∷◌, ◌++◌, if◌then◌else◌, Option, Some, None, IsTrue}
 use Rattle.std.specs.Option.{option_and_then}
 use Rattle.std.specs.Borrow.{Bor}
 use Rattle.std.specs.List.{slice_split}
@@ -9,7 +9,7 @@ use Rattle.ext_text.specs.Path.{parent}
 use Rattle.ext_tree.specs.declared.entry.Entry.{Entry}
 use Rattle.ext_tree.specs.declared.entry.Entry.TheVariants.{Dir, File, Link}
 use Rattle.ext_tree.specs.Part.{part}
-use Rattle.ext_tree.specs.Tree.{Entries, lookup, is_directory_or_root}
+use Rattle.ext_tree.specs.Tree.{Entries, IsTree, lookup, is_directory_or_root}
 
 -- where a walk stands, the names that are left, and how many links it has followed
 pub data Walk : Type 0 where
@@ -84,3 +84,25 @@ Resolves es names (Some end) = Ends es names end
 abbrev pub ResolvesIn : {C : Type 0} → Entries C → List (List ℕ) → List (List ℕ) → Option (Bor (List (List ℕ))) → Type 0
 ResolvesIn es image names None = (end : List (List ℕ)) → ¬ Ends (part image es) names end
 ResolvesIn es image names (Some at) = (end : List (List ℕ)) × (at.now ≡ image ++ end) × Ends (part image es) names end
+
+-- ---- where a walk may end
+
+-- something stands there that is no link
+abbrev pub is_standing : {C : Type 0} → Option (Entry C) → Bool
+is_standing None = false
+is_standing (Some (Dir mode)) = true
+is_standing (Some (File mode content)) = true
+is_standing (Some (Link target)) = false
+
+-- the root, or the path of an entry that is no link
+abbrev pub is_end : {C : Type 0} → Entries C → List (List ℕ) → Bool
+is_end es [] = true
+is_end es (n ∷ path) = is_standing (lookup es (n ∷ path))
+
+-- every walk ends at the root or at an entry that is no link
+abbrev pub EndsAtNoLink : Type 0 → Type 0
+EndsAtNoLink C = (es : Entries C) (names end : List (List ℕ)) → IsTree es → Ends es names end → IsTrue (is_end es end)
+
+-- a walk has one end
+abbrev pub OneEnd : Type 0 → Type 0
+OneEnd C = (es : Entries C) (names a b : List (List ℕ)) → Ends es names a → Ends es names b → a ≡ b

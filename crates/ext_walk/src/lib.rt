@@ -5,6 +5,7 @@
 //! searches a tree, and copy nothing.
 #![tactic(auto)]
 
+pub mod laws;
 mod parts;
 mod resolving;
 mod walking;

@@ -18,6 +18,8 @@ use std::alloc::Global;
 pub fn resolve<C>(alloc: Global, tree: &Tree<C>, path: &Path) -> Result<Option<Path>, OutOfMemory>
     ensures { IfOk result (Resolves tree.now path.now) }
 {
+    // `pairs` says of the tree that its entries are at paths, within their limits.
+    let _entries = tree.pairs();
     match end_of_path(alloc, tree, &[], path.names())? {
         None => Ok(None),
         Some(end) => Ok(Some(Path::of_names(alloc, end)?)),

@@ -1,6 +1,6 @@
 // Walks name by name. A walk stands at an entry of an image, or at the image's root; where it stands is known by the names
 // of the entry's own path, which begin with the image's.
-ghost use Rattle.std.specs.Prelude.{◌≡◌, ◌++◌, List, ℕ, nat_le, true, false, IfOk};
+ghost use Rattle.std.specs.Prelude.{◌≡◌, ◌++◌, List, ℕ, nat_le, true, false, if◌then◌else◌, IfOk};
 ghost use Rattle.ext_text.specs.Path.{parent};
 ghost use Rattle.ext_walk.specs.Steps.{Stops, Turns, TurnsTo};
 ghost use Rattle.ext_walk.specs.Upcoming.{upcoming};
@@ -38,11 +38,11 @@ pub enum Stop<'a> {
 pub(crate) fn walk_end<'a, C>(
     tree: &'a Tree<C>,
     image: &'a [Name],
-    left: Vec<&'a [u8]>,
+    names: Vec<&'a [u8]>,
 ) -> Result<Option<&'a [Name]>, OutOfMemory>
-    ensures { IfOk result (ResolvesIn tree.now image.now (upcoming left.items)) }
+    ensures { IfOk result (ResolvesIn tree.now image.now (upcoming names.entry.items)) }
 {
-    let mut left = left;
+    let mut left = names;
     let mut at = image;
     let mut links = 0;
     'links: loop {
@@ -54,7 +54,7 @@ pub(crate) fn walk_end<'a, C>(
                     return Ok(None);
                 }
                 push_parts(&mut left, target)?;
-                at = if is_absolute(target) { image } else { from };
+                at = start_of(target, image, from);
                 links += 1;
             }
         }
@@ -169,6 +169,17 @@ fn is_up(name: &[u8]) -> bool
         [_first] => false,
         [first, second] => *first == b'.' && *second == b'.',
         [_first, _second, _third, ..] => false,
+    }
+}
+
+// Where the walk goes on with a link's target: at the image's root where it is absolute.
+fn start_of<'a>(target: &[u8], image: &'a [Name], from: &'a [Name]) -> &'a [Name]
+    ensures { result.now ≡ (if is_absolute target.now then image.now else from.now) }
+{
+    if is_absolute(target) {
+        image
+    } else {
+        from
     }
 }
 
