@@ -14,6 +14,8 @@ mod following;
 pub mod laws;
 mod insertion_point;
 mod part;
+#[cfg(test)]
+mod part_tests;
 mod reading;
 mod slices;
 mod stamp;
