@@ -254,3 +254,7 @@ child_missed k es (f ∷ more) e sorted is first other =
 pub child_none : {X : Type 0} (k : List (List ℕ)) (es rest : List (List (List ℕ) × X)) → rest ≡ where_key path_cmp (λ q. not (is_lt (path_cmp q k))) es → slice_get rest 0 ≡ None → find path_cmp k es ≡ None
 child_none k es [] is none = sym (find_from k es) ∙ ap (find path_cmp k) (sym is)
 child_none k es (e ∷ rest) is none = absurd (false≢true (sym (ap is_some none)))
+
+-- a slice of entries in order is in order
+pub sorted_where : {X : Type 0} (P : List (List ℕ) → Bool) (es slice : List (List (List ℕ) × X)) → IsTrue (is_sorted path_cmp es) → slice ≡ where_key path_cmp P es → IsTrue (is_sorted path_cmp slice)
+sorted_where P es slice sorted is = subst (λ fs. is_sorted path_cmp fs ≡ true) (sym is) (true_from_T _ (is_sorted-where_key path_cmp P es (T_from_true _ sorted)))

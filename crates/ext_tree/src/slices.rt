@@ -17,14 +17,16 @@ use std::cmp::Ordering;
 impl<C> Tree<C> {
     /// The entries below the path of these names, in path order. Below the root that is all of them.
     pub fn below(&self, directory: &[Name]) -> &[(Path, Entry<C>)]
-        ensures { result.now ≡ where_key path_cmp (is_proper_prefix directory.now) self.now }
+        ensures same { result.now ≡ where_key path_cmp (is_proper_prefix directory.now) self.now }
+        ensures sorted { IsTrue (is_sorted path_cmp result.now) }
     {
         named(self.pairs(), directory, &[])
     }
 
     /// The entries at and below those names of the directory that begin with these bytes, in path order.
     pub fn named(&self, directory: &[Name], start: &[u8]) -> &[(Path, Entry<C>)]
-        ensures { result.now ≡ where_key path_cmp (is_named directory.now start.now) self.now }
+        ensures same { result.now ≡ where_key path_cmp (is_named directory.now start.now) self.now }
+        ensures sorted { IsTrue (is_sorted path_cmp result.now) }
     {
         named(self.pairs(), directory, start)
     }
@@ -52,6 +54,15 @@ impl<C> Tree<C> {
 /// Of entries in path order those after the path of these names and after all that is below it. Where the path is that
 /// of an entry directly in a directory, and the entries are some of that directory, the first one is the next such entry.
 pub fn after<'a, C>(entries: &'a [(Path, Entry<C>)], names: &[Name]) -> &'a [(Path, Entry<C>)]
+    requires { IsTrue (is_sorted path_cmp entries.now) }
+    ensures same { result.now ≡ where_key path_cmp (is_after names.now) entries.now }
+    ensures sorted { IsTrue (is_sorted path_cmp result.now) }
+{
+    rest_after(entries, names)
+}
+
+// The entries after the path and after all that is below it.
+fn rest_after<'a, C>(entries: &'a [(Path, Entry<C>)], names: &[Name]) -> &'a [(Path, Entry<C>)]
     requires { IsTrue (is_sorted path_cmp entries.now) }
     ensures { result.now ≡ where_key path_cmp (is_after names.now) entries.now }
 {
