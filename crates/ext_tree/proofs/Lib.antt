@@ -19,4 +19,6 @@ pub mod LawsLemmas
 pub mod OneFaultLemmas
 pub mod DecisionLemmas
 pub mod SomeFaultLemmas
+pub mod SlicesLemmas
+pub mod PartLemmas
 pub mod ForCallers

@@ -1,6 +1,9 @@
 pub mod Tree
 pub mod Refusals
 pub mod InsertionPoint
+pub mod Slices
+pub mod Part
+pub mod Cut
 pub mod Following
 pub mod Fields
 pub mod EntryLine

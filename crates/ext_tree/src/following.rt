@@ -56,7 +56,7 @@ fn name_at(names: &[Name], index: usize) -> Option<&Name>
 }
 
 // Whether the second list of names begins with the first.
-fn is_prefix(prefix: &[Name], names: &[Name]) -> bool
+pub(crate) fn is_prefix(prefix: &[Name], names: &[Name]) -> bool
     ensures { result ≡ is_prefix prefix.now names.now }
 {
     names.starts_with(prefix)

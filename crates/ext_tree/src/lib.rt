@@ -6,13 +6,19 @@
 //! layer, search and change trees stand on this one.
 #![tactic(auto)]
 
+mod copy;
+mod cut;
 mod entry;
 mod entry_line;
 mod fields;
 mod following;
 mod insertion_point;
 pub mod laws;
+mod part;
+#[cfg(test)]
+mod part_tests;
 mod reading;
+mod slices;
 mod stamp;
 #[cfg(test)]
 mod tests;
@@ -27,6 +33,7 @@ pub use fields::{
 };
 pub use following::may_follow;
 pub use reading::{TreeTextErr, read_tree, read_trees};
+pub use slices::{after, cmp_child};
 pub use stamp::Stamp;
 pub use tree::{MOST_ENTRIES, Tree, TreeErr};
 pub use writing::{write_entries, write_entries_into, write_tree};

@@ -53,7 +53,7 @@ impl From<OutOfMemory> for TreeErr {
 /// most 262,144 entries. Contracts see it as the list of its entries in path order.
 #[derive(Debug, Drop)]
 pub struct Tree<C> {
-    entries: Vec<(Path, Entry<C>)>,
+    pub(crate) entries: Vec<(Path, Entry<C>)>,
 }
 
 impl<C> Model for Tree<C> {
@@ -121,6 +121,11 @@ impl<C> Tree<C> {
     {
         let (path, entry) = self.entries.get(index as usize)?;
         Some((path, entry))
+    }
+
+    // Where the entries have their memory.
+    pub(crate) fn allocator(&self) -> Global {
+        *self.entries.allocator()
     }
 }
 

@@ -1,0 +1,12 @@
+-- A tree without a path and all that is below it.
+use Rattle.std.specs.Prelude.{◌≡◌, ℕ, not, List, None, if◌then◌else◌}
+use Rattle.std.specs.FinMap.Entries.{where_key}
+use Rattle.ext_text.specs.Path.{path_cmp, is_prefix}
+use Rattle.ext_tree.specs.Tree.{Entries, lookup}
+
+abbrev pub cut : {C : Type 0} → List (List ℕ) → Entries C → Entries C
+cut p es = where_key path_cmp (λ q. not (is_prefix p q)) es
+
+-- path by path: nothing stands at and below the path, and all else is as before
+abbrev pub IsCut : {C : Type 0} → Entries C → List (List ℕ) → Entries C → Type 0
+IsCut es p new = (q : List (List ℕ)) → lookup new q ≡ (if is_prefix p q then None else lookup es q)

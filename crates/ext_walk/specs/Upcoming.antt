@@ -1,0 +1,6 @@
+-- The names that a walk has left, which the code keeps with the next one last.
+use Rattle.std.specs.Prelude.{ℕ, List, map, reverse}
+use Rattle.std.specs.Borrow.{Bor}
+
+abbrev pub upcoming : List (Bor (List ℕ)) → List (List ℕ)
+upcoming names = reverse (map (λ r. r.now) names)

@@ -1,0 +1,15 @@
+//! Walks through trees: where a path leads once links are followed.
+//!
+//! [`resolve`] gives the end of a walk from the root of a tree, or of an image, the part below a directory, which is not
+//! copied for it. [`end_of_path`] and [`end_of_text`] give the same end as the names of an entry's own path, for whatever
+//! searches a tree, and copy nothing.
+#![tactic(auto)]
+
+pub mod laws;
+mod parts;
+mod resolving;
+#[cfg(test)]
+mod tests;
+mod walking;
+
+pub use resolving::{end_of_path, end_of_text, resolve};
