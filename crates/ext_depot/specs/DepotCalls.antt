@@ -1,5 +1,5 @@
 -- One call of a depot in memory, exactly.
-use Rattle.std.specs.Prelude.{◌≡◌, ℕ, List, Option, Some, Contains, Result, Ok, Err, if◌then◌else◌}
+use Rattle.std.specs.Prelude.{◌≡◌, ℕ, List, Some, Contains, Result, Ok, Err, if◌then◌else◌}
 use Rattle.std.specs.Ordering.{eq_by_cmp}
 use Rattle.ext_text.specs.Path.{path_cmp}
 use Rattle.ext_io.specs.Device.{next_count}

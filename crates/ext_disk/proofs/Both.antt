@@ -1,5 +1,5 @@
 -- Facts of two disks that both tell, or neither.
-use Rattle.std.proofs.Common.{◌≡◌, ◌≤◌, Option, Some, None, subst, sym, ap}
+use Rattle.std.proofs.Common.{◌≡◌, Option, Some, None, subst, sym}
 use Rattle.ext_disk.specs.Disk.{Told, BothTold}
 
 pub both_map : (R S : Told → Told → Type 0) → ((d e : Told) → R d e → S d e) → (x y : Option Told) → BothTold R x y → BothTold S x y

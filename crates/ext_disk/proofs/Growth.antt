@@ -1,12 +1,12 @@
 -- What a disk in memory keeps through each deed: that it holds a tree.
-use Rattle.std.proofs.Common.{◌≡◌, ◌≢◌, ◌⊎◌, ℕ, ◌+◌, ◌-◌, Bool, true, false, not, cond, ◌&&◌, ◌||◌, List, [], ◌∷◌, ◌++◌, length, get_or, drop, unwrap_or, Option, Some, None, refl, sym, ap, ◌∙◌, subst, inl, inr, arith, length-append}
-use Rattle.std.proofs.lemmas.Bool.{false≢true, true≢false}
+use Rattle.std.proofs.Common.{◌≡◌, ◌≢◌, ◌⊎◌, ℕ, Bool, true, false, cond, ◌&&◌, List, [], ◌∷◌, ◌++◌, length, get_or, drop, unwrap_or, Option, Some, None, refl, sym, ap, ◌∙◌, subst, inl, inr, arith, length-append}
+use Rattle.std.proofs.lemmas.Bool.{false≢true}
 use Rattle.std.specs.Option.{is_some}
 use Rattle.std.specs.Ordering.{eq_by_cmp}
 use Rattle.ext_text.specs.Path.{path_cmp}
 use Rattle.ext_text.proofs.ForCallers.{same_path}
-use Rattle.ext_disk.specs.Disk.{Node, folder, file, Place, Places, Swing, is_folder, is_file, is_no_folder, is_firm, root_place, absent}
-use Rattle.ext_disk.specs.Calls.{Call, look, make_dir, make_file, append, sync_file, sync_dir, rename, remove, IsFree, CanRename, IsEmptyFolder, Allows, put, is_child, loosened, written, settled, settled_in, unswung_in, left_place, reached_place, renamed, removed, after, bytes_of}
+use Rattle.ext_disk.specs.Disk.{Node, folder, file, Place, Places, Swing, is_folder, is_file, is_no_folder, is_firm, root_place}
+use Rattle.ext_disk.specs.Calls.{Call, look, make_dir, make_file, append, sync_file, sync_dir, rename, remove, IsFree, CanRename, IsEmptyFolder, Allows, put, is_child, loosened, written, settled, settled_in, unswung_in, left_place, reached_place, removed, after, bytes_of}
 use Rattle.ext_disk.specs.Spots.{IsGrown, IsReached}
 use Rattle.ext_disk.proofs.Paths.{put_here}
 use Rattle.ext_disk.proofs.SpotsLemmas.{no_child_root}

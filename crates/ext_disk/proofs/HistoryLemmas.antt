@@ -1,6 +1,6 @@
 -- The map of a disk in memory says what its deeds came to.
-use Rattle.std.proofs.Common.{◌≡◌, ◌≢◌, ◌⊎◌, ℕ, Bool, true, false, cond, ◌&&◌, List, [], ◌∷◌, ◌++◌, Option, Some, None, refl, sym, ap, ◌∙◌, subst, inl, inr}
-use Rattle.std.proofs.lemmas.Bool.{false≢true, true≢false}
+use Rattle.std.proofs.Common.{◌≡◌, ◌≢◌, ℕ, Bool, true, false, cond, ◌&&◌, List, [], ◌∷◌, ◌++◌, Option, Some, None, refl, sym, ap, ◌∙◌, subst, inl, inr}
+use Rattle.std.proofs.lemmas.Bool.{false≢true}
 use Rattle.std.specs.BTreeMap.{is_at}
 use Rattle.std.specs.Map.{lookup}
 use Rattle.std.specs.Option.{is_some}
@@ -8,8 +8,8 @@ use Rattle.std.specs.Ordering.{eq_by_cmp}
 use Rattle.ext_text.specs.Name.{bytes_cmp}
 use Rattle.ext_text.specs.Path.{path_cmp}
 use Rattle.ext_text.proofs.ForCallers.{same_name}
-use Rattle.ext_disk.specs.Disk.{Place, Places, Swing, root_place, is_file, is_firm}
-use Rattle.ext_disk.specs.Calls.{Call, remove, Allows, IsEmptyFolder, put, child_name, is_child, unswung_in, loosened, left_place, reached_place, renamed, removed, after}
+use Rattle.ext_disk.specs.Disk.{Place, Places, Swing, is_file, is_firm}
+use Rattle.ext_disk.specs.Calls.{remove, Allows, put, child_name, is_child, unswung_in, loosened, left_place, reached_place, renamed, after}
 use Rattle.ext_disk.specs.Spots.{Spots, place_at, found_place, IsGrown, IsReached}
 use Rattle.ext_disk.specs.Deeds.{IsWhole, call_of, replay, replay_from, given_from, empty_places}
 use Rattle.ext_disk.specs.declared.deed.Deed.{Deed}

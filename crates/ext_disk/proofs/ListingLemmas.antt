@@ -1,6 +1,6 @@
 -- The names in a folder, read off the spots of a disk in memory in path order.
-use Rattle.std.proofs.Common.{◌≡◌, ◌≢◌, ◌⊎◌, ℕ, Bool, true, false, cond, ◌||◌, List, [], ◌∷◌, ◌++◌, Option, Some, None, refl, sym, ap, ◌∙◌, subst, inl, inr}
-use Rattle.std.proofs.lemmas.Bool.{false≢true, true≢false}
+use Rattle.std.proofs.Common.{◌≡◌, ℕ, Bool, true, false, cond, ◌||◌, List, [], ◌∷◌, ◌++◌, Option, Some, None, refl, sym, ap, ◌∙◌, subst}
+use Rattle.std.proofs.lemmas.Bool.{false≢true}
 use Rattle.std.proofs.lemmas.Map.Keys.{sorted_head, sorted_tail}
 use Rattle.std.specs.BTreeMap.{is_at}
 use Rattle.std.specs.Map.{lookup, keys_of}
@@ -11,13 +11,13 @@ use Rattle.std.specs.declared.cmp.Ordering.{Ordering}
 use Rattle.std.specs.declared.cmp.Ordering.TheVariants.{Less, Equal, Greater}
 use Rattle.std.specs.Ordering.{is_eq, eq_by_cmp, ordering_then}
 use Rattle.ext_text.specs.Name.{bytes_cmp}
-use Rattle.ext_text.specs.Path.{path_cmp, IsPath}
+use Rattle.ext_text.specs.Path.{path_cmp}
 use Rattle.ext_text.proofs.ForCallers.{same_name, tied_name, same_path, tied_path, names_tied}
 use Rattle.ext_disk.specs.Calls.{child_name}
-use Rattle.ext_disk.specs.Spots.{Spots, node_of, place_of, place_at, found_place, spot_name}
+use Rattle.ext_disk.specs.Spots.{Spots, node_of, place_at, found_place, spot_name}
 use Rattle.ext_disk.specs.declared.spot.Spot.{Spot}
 use Rattle.ext_disk.proofs.NamesLemmas.{child_last}
-use Rattle.ext_disk.proofs.Growth.{tied_or, none_none, some_same}
+use Rattle.ext_disk.proofs.Growth.{none_none, some_same}
 use Rattle.ext_disk.proofs.HistoryLemmas.{child_is}
 
 abbrev pub Entries : Type 0

@@ -1,12 +1,11 @@
 -- Whatever a call comes to, each path that it does not touch stays.
-use Rattle.std.proofs.Common.{◌≡◌, ℕ, Bool, true, false, cond, not, ◌&&◌, ◌||◌, List, [], ◌∷◌, Option, Some, None, refl, sym, ap, ◌∙◌, subst, inl, inr}
+use Rattle.std.proofs.Common.{◌≡◌, ℕ, Bool, true, false, cond, not, ◌&&◌, ◌||◌, List, None, refl, sym, ap, ◌∙◌, subst, inl, inr}
 use Rattle.std.proofs.lemmas.Bool.{false≢true, and_parts, and_from}
-use Rattle.std.specs.Option.{is_some}
 use Rattle.std.specs.Ordering.{eq_by_cmp}
 use Rattle.ext_text.specs.Path.{path_cmp, is_prefix}
 use Rattle.ext_text.proofs.ForCallers.{same_path, prefix_trans}
-use Rattle.ext_disk.specs.Disk.{Place, Places, Told, is_settled, is_firm, at_prefixes}
-use Rattle.ext_disk.specs.Calls.{Call, look, make_dir, make_file, append, sync_file, sync_dir, rename, remove, put, is_child, settled, settled_in, unswung_in, renamed, removed, loosened, left_place, reached_place, after, LeavesHalf, Fails, IsWithin, EndsTold}
+use Rattle.ext_disk.specs.Disk.{Places, Told, is_settled, is_firm, at_prefixes}
+use Rattle.ext_disk.specs.Calls.{Call, look, make_dir, make_file, append, sync_file, sync_dir, rename, remove, put, is_child, settled, settled_in, unswung_in, renamed, removed, loosened, reached_place, after, LeavesHalf, IsWithin, EndsTold}
 use Rattle.ext_disk.specs.Fixed.{touches, Stays}
 use Rattle.ext_disk.proofs.Paths.{contrapose, or_false, or_left, or_right, put_apart, child_prefix, prefixes_weaker}
 

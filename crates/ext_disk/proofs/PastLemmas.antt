@@ -1,10 +1,9 @@
 -- A deed as the call that did it: what it changed, and the moments that it added.
-use Rattle.std.proofs.Common.{◌≡◌, ℕ, ◌+◌, ◌<◌, ◌≤◌, Bool, true, false, List, [], ◌∷◌, ◌++◌, length, take, refl, sym, ap, ◌∙◌, subst, inl, inr, arith, length-append, lt_irrefl}
+use Rattle.std.proofs.Common.{◌≡◌, ℕ, ◌+◌, ◌<◌, ◌≤◌, Bool, true, false, List, [], ◌∷◌, ◌++◌, length, refl, sym, ap, ◌∙◌, subst, inl, arith, length-append}
 use Rattle.std.proofs.lemmas.List.{take_all, take-append-le}
 use Rattle.ext_disk.specs.Disk.{Told}
-use Rattle.ext_disk.specs.Since.{IsLater}
 use Rattle.ext_disk.specs.Calls.{Call, look, make_dir, make_file, append, sync_file, sync_dir, rename, remove, after, appended_after, DoneTold, FailsTold, DoesTold}
-use Rattle.ext_disk.specs.Deeds.{call_of, told_of, replay, replay_from, given_from, empty_places}
+use Rattle.ext_disk.specs.Deeds.{call_of, told_of, replay, given_from, empty_places}
 use Rattle.ext_disk.specs.declared.deed.Deed.{Deed}
 use Rattle.ext_disk.specs.declared.deed.Deed.TheVariants.{MakeDir, MakeFile, Append, SyncFile, SyncDir, Rename, Remove}
 use Rattle.ext_disk.specs.declared.spot.Content.{Content}

@@ -1,11 +1,10 @@
 -- Paths and their prefixes, and what is tested at each prefix of a path.
-use Rattle.std.proofs.Common.{◌≡◌, ℕ, Bool, true, false, cond, ◌&&◌, ◌||◌, List, [], ◌∷◌, ◌++◌, Option, Some, None, refl, sym, ap, ◌∙◌, subst}
+use Rattle.std.proofs.Common.{◌≡◌, ℕ, Bool, true, false, cond, ◌&&◌, ◌||◌, List, [], ◌∷◌, Option, None, refl, sym, ap, ◌∙◌, subst}
 use Rattle.std.proofs.lemmas.Bool.{false≢true, true≢false, and_parts, and_from}
 use Rattle.std.specs.Option.{is_some}
 use Rattle.std.specs.Ordering.{eq_by_cmp}
-use Rattle.ext_text.specs.Name.{bytes_cmp}
 use Rattle.ext_text.specs.Path.{path_cmp, is_prefix}
-use Rattle.ext_text.proofs.ForCallers.{same_name, tied_name, same_path, tied_path, prefix_self, prefix_trans}
+use Rattle.ext_text.proofs.ForCallers.{tied_name, same_path, tied_path, prefix_self}
 use Rattle.ext_disk.specs.Disk.{Place, Places, at_prefixes, at_proper_prefixes}
 use Rattle.ext_disk.specs.Calls.{put, child_name, is_child}
 

@@ -1,15 +1,14 @@
 -- The tree after a stop is one that a stop may leave, and a tree.
-use Rattle.std.proofs.Common.{◌≡◌, ◌⊎◌, ℕ, zero, suc, ◌+◌, ◌<◌, ◌≤◌, Bool, true, false, not, cond, ◌&&◌, ◌||◌, List, [], ◌∷◌, ◌++◌, length, take, Option, Some, None, refl, sym, ap, ◌∙◌, subst, inl, inr, arith}
-use Rattle.std.proofs.lemmas.Bool.{false≢true, true≢false, cases_lt, and_parts, and_from}
+use Rattle.std.proofs.Common.{◌≡◌, ◌⊎◌, ℕ, zero, suc, ◌+◌, ◌<◌, Bool, true, false, not, cond, ◌||◌, List, [], ◌∷◌, ◌++◌, length, take, Option, Some, None, refl, sym, ap, ◌∙◌, subst, inl, inr, arith}
+use Rattle.std.proofs.lemmas.Bool.{false≢true, cases_lt, and_parts, and_from}
 use Rattle.std.specs.Option.{is_some}
-use Rattle.ext_text.specs.Path.{is_prefix}
-use Rattle.ext_disk.specs.Disk.{Node, folder, file, Place, Places, Swing, MayLeave, is_folder, is_file, is_no_folder, is_settled, is_firm, at_prefixes, at_proper_prefixes, absent, root_place}
+use Rattle.ext_disk.specs.Disk.{Node, folder, Place, Places, Swing, MayLeave, is_file, is_settled, is_firm, at_prefixes, at_proper_prefixes, absent, root_place}
 use Rattle.ext_disk.specs.Spots.{IsGrown, IsReached}
 use Rattle.ext_disk.specs.Picked.{is_shown, is_kept, junked, outcome, settled_node, chosen, picked, picked_place}
 use Rattle.ext_disk.specs.declared.pick.Pick.{Pick}
 use Rattle.ext_disk.specs.declared.pick.Pick.TheVariants.{Old, New, Junk}
-use Rattle.ext_disk.proofs.Paths.{contrapose, prefixes_weaker, proper_from_all, last_from_all, all_from_proper}
-use Rattle.ext_disk.proofs.Growth.{none_none, some_same}
+use Rattle.ext_disk.proofs.Paths.{contrapose, proper_from_all, last_from_all}
+use Rattle.ext_disk.proofs.Growth.{none_none}
 
 -- ---- each proper prefix
 

@@ -1,12 +1,10 @@
 -- A call spares each path that it does not touch: the path stays, and stays fixed.
-use Rattle.std.proofs.Common.{◌≡◌, ◌⊎◌, ℕ, ◌<◌, ◌≤◌, Bool, true, false, List, Result, refl, sym, ap, ◌∙◌, subst, inl, inr, arith}
+use Rattle.std.proofs.Common.{◌≡◌, ◌⊎◌, ℕ, ◌<◌, ◌≤◌, Bool, true, false, List, refl, sym, ◌∙◌, subst, inl, inr, arith}
 use Rattle.std.proofs.lemmas.Bool.{cases_lt}
-use Rattle.ext_text.specs.Path.{is_prefix}
-use Rattle.ext_text.proofs.ForCallers.{prefix_self}
 use Rattle.ext_disk.specs.Disk.{Tree, Places, Told, MayLeave, is_firm}
 use Rattle.ext_disk.specs.Since.{Since, IsLater}
 use Rattle.ext_disk.specs.Calls.{Call, IsWithin, DoesTold}
-use Rattle.ext_disk.specs.Fixed.{IsFixed, IsSpared, Stays, touches}
+use Rattle.ext_disk.specs.Fixed.{IsFixed, IsSpared, touches}
 use Rattle.ext_disk.proofs.Paths.{contrapose}
 use Rattle.ext_disk.proofs.Outcomes.{within_stays, touches_below, firm_stays, ends_within, stays_same, stays_then}
 

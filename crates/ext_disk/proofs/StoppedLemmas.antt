@@ -1,11 +1,10 @@
 -- What is given to a new disk after a stop, spot by spot.
-use Rattle.std.proofs.Common.{◌≡◌, ◌≢◌, ◌⊎◌, ℕ, ◌+◌, ◌<◌, Bool, true, false, cond, List, [], ◌∷◌, ◌++◌, length, take, get_or, All, Option, Some, None, refl, sym, ap, ◌∙◌, subst, inl, inr, eqb, arith}
-use Rattle.std.proofs.lemmas.Bool.{false≢true, true≢false, eqb-true}
-use Rattle.std.proofs.lemmas.List.{take_more, take_all}
+use Rattle.std.proofs.Common.{◌≡◌, ◌≢◌, ℕ, ◌+◌, ◌<◌, Bool, true, false, cond, List, [], ◌∷◌, ◌++◌, length, take, get_or, All, Option, Some, None, refl, sym, ap, ◌∙◌, subst, inl, inr, eqb, arith}
+use Rattle.std.proofs.lemmas.Bool.{true≢false, eqb-true}
+use Rattle.std.proofs.lemmas.List.{take_more}
 use Rattle.std.proofs.lemmas.Map.Keys.{sorted_head, sorted_tail}
 use Rattle.std.specs.BTreeMap.{is_at, get}
 use Rattle.std.specs.Map.{lookup, keys_of}
-use Rattle.std.specs.List.{AllByRecursion}
 use Rattle.std.specs.List.Sorted.{IsStrictlySortedBy}
 use Rattle.std.specs.Option.{is_some}
 use Rattle.std.specs.Ordering.{eq_by_cmp}
@@ -13,9 +12,9 @@ use Rattle.ext_text.specs.Path.{path_cmp}
 use Rattle.ext_text.proofs.ForCallers.{same_path, tied_path}
 use Rattle.ext_disk.specs.Disk.{Node, Place, Places, MayLeave, now, absent, root_place}
 use Rattle.ext_disk.specs.Calls.{put}
-use Rattle.ext_disk.specs.Spots.{Spots, node_of, place_of, place_at, found_place, IsGrown}
+use Rattle.ext_disk.specs.Spots.{Spots, place_at, found_place, IsGrown}
 use Rattle.ext_disk.specs.Deeds.{IsWhole, empty_places, firm_place, given_from, replay}
-use Rattle.ext_disk.specs.Picked.{is_shown, is_kept, chosen, picked, picked_place}
+use Rattle.ext_disk.specs.Picked.{is_shown, is_kept, chosen, picked_place}
 use Rattle.ext_disk.specs.declared.pick.Pick.{Pick}
 use Rattle.ext_disk.specs.declared.pick.Pick.TheVariants.{Old, New, Junk}
 use Rattle.ext_disk.specs.declared.deed.Deed.{Deed}

@@ -4,8 +4,8 @@ use Rattle.std.specs.Prelude.{◌≡◌, ◌≢◌, ℕ, ◌+◌, ◌-◌, ◌^�
 use Rattle.std.specs.Option.{is_some}
 use Rattle.std.specs.Ordering.{eq_by_cmp}
 use Rattle.ext_text.specs.Name.{bytes_cmp}
-use Rattle.ext_text.specs.Path.{path_cmp, is_prefix}
-use Rattle.ext_disk.specs.Disk.{Node, folder, file, Place, Places, Swing, Told, DiskState, BothTold, is_folder, is_file, is_no_folder, is_firm}
+use Rattle.ext_text.specs.Path.{path_cmp}
+use Rattle.ext_disk.specs.Disk.{Node, folder, file, Place, Places, Told, DiskState, BothTold, is_folder, is_file, is_no_folder, is_firm}
 use Rattle.ext_disk.specs.Since.{IsLater}
 
 -- a call: one that reads (`list`, `kind`, `read`), or one of the seven that change something

@@ -1,10 +1,8 @@
 -- The model of a disk: what stands at each path, which of it a stop may undo, and what a stop may leave. It is this
 -- project's own, weaker than what any file system promises: a name is settled by a sync of its folder, bytes by a sync of
 -- their file, and a rename in one folder leaves the old or the new file.
-use Rattle.std.specs.Prelude.{◌≡◌, ◌≢◌, ℕ, Bool, true, false, not, ◌&&◌, ◌||◌, List, [], ◌∷◌, ◌++◌, Option, Some, None, IfSome, ◌⊎◌, if◌then◌else◌}
+use Rattle.std.specs.Prelude.{◌≡◌, ℕ, Bool, true, false, not, ◌&&◌, ◌||◌, List, [], ◌∷◌, ◌++◌, Option, Some, None, ◌⊎◌}
 use Rattle.std.specs.Option.{is_some}
-use Rattle.std.specs.Ordering.{eq_by_cmp}
-use Rattle.ext_text.specs.Path.{path_cmp}
 
 -- ---- what stands at a path
 

@@ -1,5 +1,5 @@
 -- Paths that no stop since a moment can have changed, and which calls leave them so.
-use Rattle.std.specs.Prelude.{◌≡◌, ℕ, ◌<◌, ◌≤◌, Bool, true, false, ◌||◌, List}
+use Rattle.std.specs.Prelude.{◌≡◌, ℕ, ◌≤◌, Bool, true, false, ◌||◌, List}
 use Rattle.ext_text.specs.Path.{is_prefix}
 use Rattle.ext_disk.specs.Disk.{Tree, Places, Told, DiskState, BothTold, is_settled, is_firm}
 use Rattle.ext_disk.specs.Since.{Since, Follows}

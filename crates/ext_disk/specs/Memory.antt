@@ -1,5 +1,5 @@
 -- What contracts see of a disk in memory.
-use Rattle.std.specs.Prelude.{◌≡◌, ℕ, ◌+◌, ◌-◌, ◌^◌, min, List, [], ◌∷◌, ◌++◌, Option, Some, None, Result, Ok, Err, true, false}
+use Rattle.std.specs.Prelude.{◌≡◌, [], Some, None, Result, Ok, Err, true, false}
 use Rattle.ext_disk.specs.Disk.{Places, Told, DiskState}
 use Rattle.ext_disk.specs.Deeds.{told_of, replay}
 use Rattle.ext_disk.specs.Meter.{IsMetered}

@@ -1,5 +1,5 @@
 -- What a disk in memory counts of its calls, and which of them fail.
-use Rattle.std.specs.Prelude.{◌≡◌, ◌⊎◌, ℕ, ◌≤◌, Bool, true, false, List, [], ◌∷◌, ◌++◌, Option, Some, None, Contains}
+use Rattle.std.specs.Prelude.{◌≡◌, ◌⊎◌, ℕ, ◌≤◌, Bool, true, false, [], ◌∷◌, ◌++◌, Option, Some, None, Contains}
 use Rattle.ext_io.specs.Device.{next_count}
 use Rattle.ext_disk.specs.declared.disk_call.DiskCall.{DiskCall}
 use Rattle.ext_disk.specs.declared.meter.Meter.{Meter}

@@ -1,5 +1,5 @@
 -- The tree that a disk in memory holds after a stop, by a choice of what the stop took: one of those that it may leave.
-use Rattle.std.specs.Prelude.{◌≡◌, ℕ, Bool, true, false, not, ◌&&◌, ◌||◌, List, codes, Option, Some, None, if◌then◌else◌}
+use Rattle.std.specs.Prelude.{ℕ, Bool, true, not, ◌&&◌, ◌||◌, List, codes, Option, Some, None, if◌then◌else◌}
 use Rattle.std.specs.Option.{is_some}
 use Rattle.ext_disk.specs.Disk.{Node, folder, file, Place, Places, Swing, Tree, absent, at_proper_prefixes}
 use Rattle.ext_disk.specs.declared.pick.Pick.{Pick}

@@ -1,6 +1,6 @@
 use Rattle.std.proofs.Common.{◌≡◌, IfOk, subst}
-use Rattle.ext_disk.specs.Deeds.{call_of, told_of}
-use Rattle.ext_disk.proofs.PastLemmas.{added, failed}
+use Rattle.ext_disk.specs.Deeds.{call_of}
+use Rattle.ext_disk.proofs.PastLemmas.{added}
 use Rattle.ext_disk.proofs.memory_disk.add_found.Goals as goal
 
 pub returns : goal.returns

@@ -1,9 +1,7 @@
-use Rattle.std.proofs.Common.{◌≡◌, ◌∙◌, sym, subst, ap}
+use Rattle.std.proofs.Common.{sym, subst}
 use Rattle.std.proofs.lemmas.Result.{IfOk-weaker}
 use Rattle.ext_disk.specs.Spots.{IsGrown}
-use Rattle.ext_disk.specs.Deeds.{empty_places, given_from}
 use Rattle.ext_disk.specs.Memory.{places_of}
-use Rattle.ext_disk.specs.Picked.{picked_place}
 use Rattle.ext_disk.proofs.StoppedLemmas.{left_places}
 use Rattle.ext_disk.proofs.PickedLemmas.{picked_grows}
 use Rattle.ext_disk.proofs.memory_disk.left_of.Goals as goal

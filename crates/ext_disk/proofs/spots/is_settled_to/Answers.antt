@@ -1,4 +1,4 @@
-use Rattle.std.proofs.Common.{◌≡◌, ◌<◌, ◌≤◌, ◌∙◌, ◌+◌, List, ℕ, Bool, not, true, false, length, take, get_or, sym, subst, ap, arith}
+use Rattle.std.proofs.Common.{◌≡◌, ◌<◌, ◌≤◌, ◌∙◌, ◌+◌, List, ℕ, Bool, length, get_or, sym, subst, ap, arith}
 use Rattle.ext_disk.specs.Disk.{is_settled}
 use Rattle.ext_disk.specs.Spots.{place_at}
 use Rattle.ext_disk.proofs.NamesLemmas.{longer_prefix, each_more, all_pass, one_fails}

@@ -1,4 +1,4 @@
-use Rattle.std.proofs.Common.{◌≡◌, ◌<◌, ◌-◌, ◌∙◌, true, false, length, take, sym, subst, ap, arith}
+use Rattle.std.proofs.Common.{◌-◌, ◌∙◌, length, take, sym, subst, ap, arith}
 use Rattle.std.specs.Ordering.{is_eq}
 use Rattle.ext_text.specs.Path.{IsPath, path_cmp}
 use Rattle.ext_disk.proofs.NamesLemmas.{in_folder, not_in_folder, root_in_none}

@@ -1,4 +1,4 @@
-use Rattle.std.proofs.Common.{◌≡◌, ◌≢◌, ◌∙◌, [], ◌∷◌, ◌++◌, All, Option, length, sym, subst, ap, arith, refl}
+use Rattle.std.proofs.Common.{◌≢◌, ◌∙◌, [], All, sym, subst, ap}
 use Rattle.std.proofs.lemmas.List.Elements.{All-push}
 use Rattle.std.proofs.lemmas.Map.Iter.{rest_more, btree_map_turn}
 use Rattle.std.specs.Map.Iter.{deref_pair}

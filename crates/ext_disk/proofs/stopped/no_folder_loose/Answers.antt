@@ -1,4 +1,4 @@
-use Rattle.std.proofs.Common.{◌≡◌, ◌<◌, ◌≤◌, ◌∙◌, ◌+◌, List, ℕ, Bool, not, true, false, length, take, get_or, sym, subst, ap, arith}
+use Rattle.std.proofs.Common.{◌≡◌, ◌<◌, ◌≤◌, ◌∙◌, List, ℕ, Bool, not, length, get_or, sym, subst, ap, arith}
 use Rattle.ext_disk.specs.Spots.{place_at}
 use Rattle.ext_disk.proofs.NamesLemmas.{longer_prefix}
 use Rattle.ext_disk.proofs.PickedLemmas.{one_proper_fails, each_below_more, all_proper_pass}
