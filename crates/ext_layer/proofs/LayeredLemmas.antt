@@ -10,12 +10,12 @@ use Rattle.std.specs.FinMap.{find, is_sorted}
 use Rattle.ext_text.specs.Path.{path_cmp, is_prefix, parent, is_proper_prefix}
 use Rattle.ext_text.proofs.ForCallers.{all_back}
 use Rattle.ext_text.proofs.ForCallers.{some_name, prefix_both, prefix_trans, parent_prefix, parent_other}
-use Rattle.ext_tree.specs.Tree.{Entries, IsTree, lookup, as_shown, is_directory, is_directory_at, is_hide, is_directory_or_root, most_entries}
+use Rattle.ext_tree.specs.Tree.{Entries, IsTree, all_shown, lookup, as_shown, is_directory, is_directory_at, is_hide, is_directory_or_root, most_entries}
 use Rattle.ext_tree.specs.declared.entry.Entry.{Entry}
 use Rattle.ext_tree.specs.declared.entry.Entry.TheVariants.{Dir, Opaque, File, Link, Hide}
 use Rattle.ext_layer.specs.Layered.{CutsOff, IsLayered, IsVisible, cuts_below}
 use Rattle.ext_layer.specs.declared.item.Item.{Item}
-use Rattle.ext_layer.specs.Item.{seen, all_seen, all_shown}
+use Rattle.ext_layer.specs.Item.{seen, all_seen}
 use Rattle.ext_layer.specs.Joining.{Joins, layers_overlay}
 use Rattle.ext_layer.specs.Overlay.{Marked, MarkedEntries, Overlay, visible, hidden, absent, first_of_two, some_prefix, cuts_at, overlay_of, overlay_at, marked, visible_in, with_mark}
 use Rattle.ext_layer.proofs.JoiningLemmas.{is_sorted-map, is_sorted-filter, no_hide, shown, seen_of, find_marked, lookup_visible, open_above, open_absent, visible_found, found_visible, overlay_from_visible, visible_from_overlay}

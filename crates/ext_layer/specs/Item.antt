@@ -1,7 +1,7 @@
 -- The items of the lists that are joined: what a contract sees of them.
 use Rattle.std.specs.Prelude.{ℕ, List, map, Result, Ok, Err, Vec}
 use Rattle.std.specs.Borrow.{Bor}
-use Rattle.ext_tree.specs.Tree.{Entries, as_shown}
+use Rattle.ext_tree.specs.Tree.{Entries, all_shown}
 use Rattle.ext_tree.specs.declared.entry.Entry.{Entry}
 use Rattle.ext_layer.specs.declared.item.Item.{Item}
 use Rattle.ext_layer.specs.Overlay.{Marked, MarkedEntries}
@@ -12,10 +12,6 @@ seen i = (i.pair.now.0, record { entry = i.pair.now.1; cuts = i.cuts })
 
 abbrev pub all_seen : {C : Type 0} → List (Item C) → MarkedEntries C
 all_seen items = map seen items
-
--- borrowed entries as they show
-abbrev pub all_shown : {C : Type 0} → List (Bor (List (List ℕ) × Entry C)) → Entries C
-all_shown pairs = map (λ r. (r.now.0, as_shown r.now.1)) pairs
 
 -- a result of borrowed entries, as they show
 abbrev pub entries_seen : {C E Z : Type 0} → Result (Vec (Bor (List (List ℕ) × Entry C)) Z) E → Result (Entries C) E

@@ -1,10 +1,10 @@
 // The layers over the host as one tree, borrowed or copied.
 ghost use Rattle.std.specs.Prelude.{◌≡◌, ◌++◌, ◌∷◌, [], ◌↔◌, ◌<◌, length, IfOk, IsTrue, OnOk};
-ghost use Rattle.ext_tree.specs.Tree.{as_shown, most_entries};
+ghost use Rattle.ext_tree.specs.Tree.{all_shown, as_shown, most_entries};
 ghost use Rattle.ext_layer.specs.Layered.{GivesLayered};
 ghost use Rattle.ext_layer.specs.Overlay.{visible_in};
 ghost use Rattle.ext_layer.specs.Joining.{Joins};
-ghost use Rattle.ext_layer.specs.Item.{all_seen, all_shown, entries_seen, seen};
+ghost use Rattle.ext_layer.specs.Item.{all_seen, entries_seen, seen};
 
 use crate::Layers;
 use crate::errors::LayerErr;

@@ -1,21 +1,18 @@
 -- What stands below a path, and what is left without it: look-ups, and that both are trees.
-use Rattle.std.proofs.Common.{◌≡◌, ℕ, suc, zero, ◌+◌, ◌-◌, ◌<◌, ◌≤◌, Bool, true, false, cond, not, ◌&&◌, List, [], ◌∷◌, ◌++◌, length, take, drop, Option, Some, None, is_some, refl, sym, ap, ◌∙◌, subst, arith, T, length-append}
+use Rattle.std.proofs.Common.{◌≡◌, ℕ, suc, ◌-◌, ◌<◌, ◌≤◌, Bool, true, false, cond, not, ◌&&◌, List, [], ◌∷◌, ◌++◌, length, take, drop, Some, None, is_some, refl, sym, ap, ◌∙◌, subst, arith, length-append}
 use Rattle.std.specs.Prelude.{IsTrue, map}
 use Rattle.std.specs.List.{filter}
-use Rattle.std.specs.Cmp.{tied_itself}
-use Rattle.std.specs.Ordering.{is_eq, is_lt, eq_by_cmp, ordering_then}
-use Rattle.std.specs.declared.cmp.Ordering.TheVariants.{Less, Equal, Greater}
+use Rattle.std.specs.Ordering.{is_eq, is_lt, ordering_then}
+use Rattle.std.specs.declared.cmp.Ordering.TheVariants.{Equal}
 use Rattle.std.specs.FinMap.{find, is_sorted}
 use Rattle.std.specs.FinMap.Entries.{where_key, below_all, find-where_key, is_sorted-where_key}
-use Rattle.std.proofs.lemmas.Bool.{and_parts, and_from, true≢false, false≢true, not-true, false_from_ne_true}
+use Rattle.std.proofs.lemmas.Bool.{and_parts, and_from, true≢false, false≢true, false_from_ne_true}
 use Rattle.std.proofs.lemmas.Float.{T_from_true}
 use Rattle.std.proofs.lemmas.List.{length-map, append-nil}
 use Rattle.ext_text.specs.Path.{IsPath, path_cmp, parent, is_prefix, is_proper_prefix}
-use Rattle.ext_text.specs.Order.{paths_total, paths_exact}
-use Rattle.ext_text.proofs.ForCallers.{true_from_T, same_path, tied_path, same_name, names_tied, prefix_self, prefix_trans, parent_prefix, rest_path}
-use Rattle.ext_tree.specs.declared.entry.Entry.{Entry}
-use Rattle.ext_tree.specs.Tree.{Entries, IsTree, IsTreeWithin, lookup, is_directory_at, is_directory_or_root, most_entries}
-use Rattle.ext_tree.specs.Refusals.{is_root}
+use Rattle.ext_text.specs.Order.{paths_exact}
+use Rattle.ext_text.proofs.ForCallers.{true_from_T, same_name, names_tied, prefix_self, prefix_trans, parent_prefix, rest_path}
+use Rattle.ext_tree.specs.Tree.{Entries, IsTree, IsTreeWithin, lookup, is_directory_at, is_directory_or_root}
 use Rattle.ext_tree.specs.Part.{IsPart, part, seen_from}
 use Rattle.ext_tree.specs.Cut.{IsCut, cut}
 

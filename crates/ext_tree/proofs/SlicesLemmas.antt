@@ -1,11 +1,10 @@
 -- Entries in path order that pass a test stand one after another: what a search by halves finds, and the tests of slices.
-use Rattle.std.proofs.Common.{◌≡◌, ℕ, suc, zero, ◌<◌, ◌≤◌, Bool, true, false, cond, not, ◌&&◌, List, [], ◌∷◌, ◌++◌, length, take, drop, get_or, Some, None, is_some, refl, sym, ap, ◌∙◌, subst, arith}
+use Rattle.std.proofs.Common.{◌≡◌, ℕ, suc, zero, ◌≤◌, Bool, true, false, cond, not, ◌&&◌, List, [], ◌∷◌, ◌++◌, length, take, drop, get_or, Some, None, is_some, refl, sym, ap, ◌∙◌, subst, arith}
 use Rattle.std.specs.Prelude.{IsTrue, nat_eq, slice_get}
 use Rattle.std.specs.Option.{unwrap_or}
 use Rattle.std.specs.List.{AllWithin, AllByRecursion, filter, starts_with}
 use Rattle.std.specs.List.Sorted.{IsPartitionedBy, IsPartitionPoint}
-use Rattle.std.specs.Cmp.{IsTotalOrder, tied_itself, nat_cmp_total}
-use Rattle.std.specs.Cmp.Lexicographic.{pointwise}
+use Rattle.std.specs.Cmp.{tied_itself, nat_cmp_total}
 use Rattle.std.specs.Ordering.{is_lt, is_eq, is_gt, nat_cmp, ordering_then, ordering_reverse, eq_by_cmp}
 use Rattle.std.specs.declared.cmp.Ordering.{Ordering}
 use Rattle.std.specs.declared.cmp.Ordering.TheVariants.{Less, Equal, Greater}
@@ -13,10 +12,10 @@ use Rattle.std.specs.FinMap.{find, is_sorted, nat_cmp-IsAntisymmetric}
 use Rattle.std.specs.FinMap.Entries.{where_key, below_all, find-where_key, is_sorted-where_key}
 use Rattle.std.proofs.lemmas.Float.{T_from_true}
 use Rattle.std.proofs.lemmas.Bool.{and_parts, and_from, true≢false, false≢true, not-true, false_from_ne_true, eqb-true, eq-eqb}
-use Rattle.ext_lines.specs.ByteOrder.{bytes_cmp, bytes_total, bytes_exact}
+use Rattle.ext_lines.specs.ByteOrder.{bytes_cmp, bytes_exact}
 use Rattle.ext_text.specs.Path.{path_cmp, is_prefix, is_proper_prefix}
 use Rattle.ext_text.specs.Order.{paths_total, paths_exact}
-use Rattle.ext_text.proofs.ForCallers.{true_from_T, is_less, is_equal, same_name, tied_name, prefix_self, convex}
+use Rattle.ext_text.proofs.ForCallers.{true_from_T, is_less, is_equal, same_name, tied_name, convex}
 use Rattle.ext_tree.specs.Slices.{is_after, is_before_name, is_named}
 use Rattle.ext_tree.proofs.InsertionPointLemmas.{below_at}
 

@@ -1,5 +1,5 @@
 -- Slices of a tree: which entries stand one after another in path order because of what their paths begin with.
-use Rattle.std.specs.Prelude.{◌≡◌, ℕ, nat_eq, Option, Some, None, Bool, true, false, not, ◌&&◌, List, [], ◌∷◌, ◌++◌}
+use Rattle.std.specs.Prelude.{◌≡◌, ℕ, nat_eq, Option, Some, None, Bool, false, not, ◌&&◌, List, [], ◌∷◌, ◌++◌}
 use Rattle.std.specs.List.{starts_with}
 use Rattle.std.specs.Ordering.{eq_by_cmp, is_lt}
 use Rattle.ext_lines.specs.ByteOrder.{bytes_cmp}

@@ -1,10 +1,10 @@
 -- Where walks end, and the walk in a part of a tree as the code sees it.
-use Rattle.std.proofs.Common.{◌≡◌, ℕ, suc, zero, ◌+◌, ◌<◌, ◌≤◌, Bool, true, false, cond, not, List, [], ◌∷◌, ◌++◌, length, Option, Some, None, is_some, refl, sym, ap, ◌∙◌, subst, arith, length-append}
-use Rattle.std.specs.Prelude.{IsTrue, nat_le}
+use Rattle.std.proofs.Common.{◌≡◌, ℕ, suc, zero, ◌+◌, ◌<◌, ◌≤◌, Bool, true, false, cond, List, [], ◌∷◌, ◌++◌, length, Option, Some, None, is_some, refl, sym, ap, ◌∙◌, subst, arith, length-append}
+use Rattle.std.specs.Prelude.{nat_le}
 use Rattle.std.specs.Option.{option_and_then}
 use Rattle.std.specs.Borrow.{Bor}
 use Rattle.std.specs.FinMap.Entries.{same_entries}
-use Rattle.std.proofs.lemmas.Bool.{true≢false, false≢true}
+use Rattle.std.proofs.lemmas.Bool.{false≢true}
 use Rattle.std.proofs.lemmas.Float.{T_from_true}
 use Rattle.std.proofs.lemmas.List.{append-nil, append_assoc}
 use Rattle.ext_text.specs.Path.{IsPath, path_cmp, parent}
@@ -14,10 +14,10 @@ use Rattle.ext_tree.specs.declared.entry.Entry.TheVariants.{Dir, Opaque, File, L
 use Rattle.ext_tree.specs.Part.{part}
 use Rattle.ext_tree.specs.Tree.{Entries, IsTree, lookup, is_directory_at, is_directory_or_root}
 use Rattle.ext_tree.proofs.ForCallers.{parent_append, lookup_part, root_part, tree_part}
-use Rattle.ext_walk.specs.Walk.{Walk, walk, Ends, EndsFrom, EndsAtNoLink, OneEnd, Resolves, ResolvesIn, enter, follow, is_absolute, is_end, is_idle, is_standing, is_up, most_links, parts, step, steps}
+use Rattle.ext_walk.specs.Walk.{Walk, walk, Ends, EndsAtNoLink, OneEnd, Resolves, ResolvesIn, enter, follow, is_absolute, is_end, is_idle, is_standing, is_up, most_links, parts, step, steps}
 use Rattle.ext_walk.specs.declared.walking.Turn.{Turn}
 use Rattle.ext_walk.specs.declared.walking.Turn.TheVariants.{Moved, Met, Barred}
-use Rattle.ext_walk.specs.Steps.{Same, SameThen, Turns, TurnsTo}
+use Rattle.ext_walk.specs.Steps.{Turns, TurnsTo}
 use Rattle.ext_walk.proofs.WalkLemmas.{from_some, no_some, one_end, step_idle, step_up, step_barred, step_into}
 
 -- ---- the end is no link

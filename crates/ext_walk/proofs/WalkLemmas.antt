@@ -1,13 +1,12 @@
 -- Walks: what a step keeps, where a walk ends, and that its end is no link.
-use Rattle.std.proofs.Common.{◌≡◌, ℕ, suc, zero, ◌+◌, Bool, true, false, cond, not, List, [], ◌∷◌, ◌++◌, length, Option, Some, None, is_some, refl, sym, ap, ◌∙◌, subst, arith}
-use Rattle.std.specs.Prelude.{IsTrue, nat_le}
+use Rattle.std.proofs.Common.{◌≡◌, ℕ, suc, zero, ◌+◌, Bool, true, false, cond, List, [], ◌∷◌, ◌++◌, Option, Some, None, is_some, refl, sym, ap, ◌∙◌, subst}
+use Rattle.std.specs.Prelude.{nat_le}
 use Rattle.std.specs.Option.{option_and_then, unwrap_or}
 use Rattle.std.proofs.lemmas.Bool.{true≢false, false≢true}
 use Rattle.std.proofs.lemmas.List.{append-nil}
 use Rattle.ext_text.specs.Path.{parent}
 use Rattle.ext_tree.specs.declared.entry.Entry.{Entry}
-use Rattle.ext_tree.specs.declared.entry.Entry.TheVariants.{Dir, Opaque, File, Link, Hide}
-use Rattle.ext_tree.specs.Tree.{Entries, IsTree, lookup, is_directory_at, is_directory_or_root}
+use Rattle.ext_tree.specs.Tree.{Entries, IsTree, lookup, is_directory_or_root}
 use Rattle.ext_tree.proofs.ForCallers.{parent_child}
 use Rattle.ext_walk.specs.Walk.{Walk, walk, EndsFrom, enter, follow, is_absolute, is_idle, is_up, most_links, parts, step, steps}
 use Rattle.ext_walk.specs.Steps.{Same, SameThen}

@@ -1,7 +1,6 @@
 -- How the code walks: what one name does, and what leads to the next link. The walk stands in an image, the part of a tree
 -- below a directory; where it stands is known by its names in the whole tree.
 use Rattle.std.specs.Prelude.{◌≡◌, ℕ, List, [], ◌∷◌, ◌++◌, Option, Some, None}
-use Rattle.std.specs.Borrow.{Bor}
 use Rattle.ext_tree.specs.declared.entry.Entry.{Entry}
 use Rattle.ext_tree.specs.declared.entry.Entry.TheVariants.{Dir, Opaque, File, Link, Hide}
 use Rattle.ext_tree.specs.Part.{part}

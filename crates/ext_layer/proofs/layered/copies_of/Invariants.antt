@@ -1,5 +1,5 @@
 use Rattle.std.proofs.Common.{◌≡◌, take}
-use Rattle.ext_layer.specs.Item.{all_shown}
+use Rattle.ext_tree.specs.Tree.{all_shown}
 use Rattle.ext_layer.proofs.layered.copies_of.Given as goal
 
 abbrev pub invariant-loop-pair : goal.invariant-loop-pair

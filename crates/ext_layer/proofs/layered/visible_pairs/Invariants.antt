@@ -1,6 +1,7 @@
 use Rattle.std.proofs.Common.{◌≡◌, take}
 use Rattle.ext_layer.specs.Overlay.{visible_in}
-use Rattle.ext_layer.specs.Item.{all_seen, all_shown}
+use Rattle.ext_tree.specs.Tree.{all_shown}
+use Rattle.ext_layer.specs.Item.{all_seen}
 use Rattle.ext_layer.proofs.layered.visible_pairs.Given as goal
 
 abbrev pub invariant-loop-item : goal.invariant-loop-item

@@ -1,6 +1,4 @@
-use Rattle.std.proofs.Common.{rules, not, sym, subst, ◌∙◌, ap, filter}
-use Rattle.std.specs.Prelude.{IsTrue}
-use Rattle.std.specs.FinMap.{is_sorted}
+use Rattle.std.proofs.Common.{rules, not, ◌∙◌, ap, filter}
 use Rattle.std.specs.FinMap.Entries.{is_sorted-where_key}
 use Rattle.std.proofs.lemmas.Float.{T_from_true}
 use Rattle.std.proofs.lemmas.List.Sorted.{IsPartitionPoint-from_clause}

@@ -1,9 +1,9 @@
-use Rattle.std.proofs.Common.{[], ◌+◌, ◌++◌, ◌<◌, cond, Some, sym, subst, ◌∙◌, arith}
+use Rattle.std.proofs.Common.{[], ◌+◌, ◌<◌, cond, Some, sym, subst, ◌∙◌, arith}
 use Rattle.std.proofs.lemmas.Bool.{leb-false}
 use Rattle.std.proofs.lemmas.List.{append-nil}
 use Rattle.ext_tree.specs.Part.{part}
 use Rattle.ext_walk.specs.Upcoming.{upcoming}
-use Rattle.ext_walk.specs.Walk.{walk, is_absolute, most_links, parts}
+use Rattle.ext_walk.specs.Walk.{walk, is_absolute, most_links}
 use Rattle.ext_walk.specs.Steps.{Same}
 use Rattle.ext_walk.proofs.WalkLemmas.{at_end, follow_none, follow_on, same_self, same_then, start_at}
 use Rattle.ext_walk.proofs.walking.walk_end.Goals as goal

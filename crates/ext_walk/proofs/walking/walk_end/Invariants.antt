@@ -1,4 +1,4 @@
-use Rattle.std.proofs.Common.{◌≡◌, ◌++◌, ◌-◌, ◌≤◌, ℕ, List, [], length}
+use Rattle.std.proofs.Common.{◌≡◌, ◌++◌, ◌-◌, ◌≤◌, ℕ, List, []}
 use Rattle.ext_tree.specs.Part.{part}
 use Rattle.ext_walk.specs.Walk.{most_links, walk}
 use Rattle.ext_walk.specs.Steps.{Same}
