@@ -24,7 +24,6 @@ pub use Rattle.ext_tree.proofs.PrefixLemmas.{some_dir, directory_dir, dir_direct
 pub use Rattle.ext_tree.proofs.FollowingLemmas.{empty_tree, push_tree, pop_tree}
 -- a tree with one entry more at its insertion point
 pub use Rattle.ext_tree.proofs.TreeLemmas.{put_at, tree_put_at}
-
 -- paths below a path: it and the rest, and what is left without that prefix
 pub use Rattle.ext_tree.proofs.PartLemmas.{prefix_split, prefix_append, drop_append}
 -- below a path the order is that of the rests, and the parent is the path and the rest's parent
@@ -33,7 +32,6 @@ pub use Rattle.ext_tree.proofs.PartLemmas.{cmp_prefix, below_append, parent_appe
 pub use Rattle.ext_tree.proofs.PartLemmas.{lookup_part, root_part, tree_part, tree_part_within}
 -- a tree without a path, by look-ups; it is a tree
 pub use Rattle.ext_tree.proofs.PartLemmas.{is_cut, tree_cut, tree_cut_within}
-
 -- ---- lines of entries, for any content
 
 -- a field, its space and what follows are read in one way

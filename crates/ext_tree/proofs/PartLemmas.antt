@@ -153,6 +153,7 @@ tree_part {C = C} p es tree = record {
     paths : (q : List (List ℕ)) → IsTrue (is_some (lookup (part p es) q)) → IsPath q
     paths [] there = absurd (false≢true (sym (ap is_some (root_part p es)) ∙ there))
     paths (n ∷ q) there = subst IsPath (drop_append p (n ∷ q)) (rest_path (length p) (p ++ n ∷ q) (tree.paths (p ++ n ∷ q) (sym (ap is_some (lookup_part p n q es)) ∙ there)))
+
     parents : (q : List (List ℕ)) → IsTrue (is_some (lookup (part p es) q)) → IsTrue (is_directory_or_root (part p es) (parent q))
     parents [] there = absurd (false≢true (sym (ap is_some (root_part p es)) ∙ there))
     parents (n ∷ q) there = part_directory p (parent (n ∷ q)) es (subst (λ r. is_directory_or_root es r ≡ true) (parent_append p n q) (tree.parents (p ++ n ∷ q) (sym (ap is_some (lookup_part p n q es)) ∙ there)))
@@ -196,8 +197,8 @@ tree_cut p es tree = record {
   root = is_cut p es [] ∙ elim (is_prefix p []) as (λ b. cond b None (lookup es []) ≡ None) [ true ↦ refl | false ↦ tree.root ];
   paths = λ q there. tree.paths q (cut_there p q es there).1;
   parents = λ q there.
-    let was = cut_there p q es there in
-    cut_directory p (parent q) es (false_from_ne_true (is_prefix p (parent q)) (λ below. true≢false (sym (prefix_trans p (parent q) q below (parent_prefix q)) ∙ was.0))) (tree.parents q was.1);
+      let was = cut_there p q es there in
+      cut_directory p (parent q) es (false_from_ne_true (is_prefix p (parent q)) (λ below. true≢false (sym (prefix_trans p (parent q) q below (parent_prefix q)) ∙ was.0))) (tree.parents q was.1);
 }
 
 pub tree_cut_within : {C : Type 0} (p : List (List ℕ)) (es : Entries C) → IsTreeWithin es → IsTreeWithin (cut p es)

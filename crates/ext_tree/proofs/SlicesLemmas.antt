@@ -25,9 +25,10 @@ pub filter_none : {X : Type 0} (p : X → Bool) (xs : List X) → AllWithin (λ 
 filter_none p [] none = (refl, refl)
 filter_none p (x ∷ xs) none =
     let here = none zero x (omega arith) (omega arith) in
-    let rest = filter_none p xs (λ i d low high. none (suc i) d (omega arith) (omega arith)) in
-    ((λ i. cond (here i) (x ∷ filter p xs) (filter p xs)) ∙ rest.0,
-    (λ i. cond (not (here i)) (x ∷ filter (λ x. not (p x)) xs) (filter (λ x. not (p x)) xs)) ∙ ap (λ ys. x ∷ ys) rest.1)
+    let rest = filter_none p xs (λ i d low high. none (suc i) d (omega arith) (omega arith)) in (
+      (λ i. cond (here i) (x ∷ filter p xs) (filter p xs)) ∙ rest.0,
+      (λ i. cond (not (here i)) (x ∷ filter (λ x. not (p x)) xs) (filter (λ x. not (p x)) xs)) ∙ ap (λ ys. x ∷ ys) rest.1,
+    )
 
 -- what passes stands before a partition point, what does not from it on
 pub filter_point : {X : Type 0} (p : X → Bool) (xs : List X) (i : ℕ) → i ≤ length xs → IsPartitionPoint (λ x. p x ≡ true) (λ x. p x ≡ false) xs i → (take i xs ≡ filter p xs) × (drop i xs ≡ filter (λ x. not (p x)) xs)
@@ -37,9 +38,10 @@ filter_point p xs zero within at =
 filter_point p [] (suc i) within at = absurd (omega arith)
 filter_point p (x ∷ xs) (suc i) within at =
     let here = at.0 zero x (omega arith) (omega arith) in
-    let rest = filter_point p xs i (omega arith) ((λ j d low high. at.0 (suc j) d (omega arith) (omega arith)), (λ j d low high. at.1 (suc j) d (omega arith) (omega arith))) in
-    (ap (λ ys. x ∷ ys) rest.0 ∙ (λ i. cond (sym here i) (x ∷ filter p xs) (filter p xs)),
-    rest.1 ∙ (λ i. cond (not (sym here i)) (x ∷ filter (λ x. not (p x)) xs) (filter (λ x. not (p x)) xs)))
+    let rest = filter_point p xs i (omega arith) ((λ j d low high. at.0 (suc j) d (omega arith) (omega arith)), (λ j d low high. at.1 (suc j) d (omega arith) (omega arith))) in (
+      ap (λ ys. x ∷ ys) rest.0 ∙ (λ i. cond (sym here i) (x ∷ filter p xs) (filter p xs)),
+      rest.1 ∙ (λ i. cond (not (sym here i)) (x ∷ filter (λ x. not (p x)) xs) (filter (λ x. not (p x)) xs)),
+    )
 
 -- a filter after one that keeps all that it keeps
 pub filter_keeps : {X : Type 0} (p q : X → Bool) → ((x : X) → p x ≡ true → q x ≡ true) → (xs : List X) → filter p (filter q xs) ≡ filter p xs

@@ -57,7 +57,13 @@ const PARTS: [(&[u8], Option<&[u8]>, &[u8]); 7] = [
     (b"opt", Some(BELOW_OPT), WITHOUT_OPT),
     (b"opt/x", None, HOST),
     (b"usr/x", None, HOST),
-    (b"a", Some(b"hostext-tree 1\nf 644 0 e3b0c44298fc1c149afbf4c8996fb92427ae41e4649b934ca495991b7852b855 x\nend\n"), WITHOUT_A),
+    (
+        b"a",
+        Some(
+            b"hostext-tree 1\nf 644 0 e3b0c44298fc1c149afbf4c8996fb92427ae41e4649b934ca495991b7852b855 x\nend\n",
+        ),
+        WITHOUT_A,
+    ),
     (b"a/x/y", None, HOST),
     (b"z", None, HOST),
 ];

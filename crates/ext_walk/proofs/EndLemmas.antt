@@ -188,9 +188,11 @@ turns_root es image at here name new is short plain above same =
 -- and elsewhere
 pub turns_up : {C : Type 0} (es : Entries C) (image at here : List (List ℕ)) (name : List ℕ) (new : Bor (List (List ℕ))) → here ≡ image ++ at → length image < length here → is_idle name ≡ false → is_up name ≡ true → is_directory_or_root es here ≡ true → new.now ≡ parent here → Turns es image at name (Moved new)
 turns_up es image [] here name new is long plain above directory same = absurd (omega (arith, ap length (is ∙ append-nil image)))
-turns_up es image (m ∷ at) here name new is long plain above directory same =
-    (parent (m ∷ at), same ∙ ap parent is ∙ parent_append image m at,
-    λ left links. step_up (part image es) (m ∷ at) name left links plain above (directory_part es image m at ∙ ap (is_directory_or_root es) (sym is) ∙ directory))
+turns_up es image (m ∷ at) here name new is long plain above directory same = (
+  parent (m ∷ at),
+  same ∙ ap parent is ∙ parent_append image m at,
+  λ left links. step_up (part image es) (m ∷ at) name left links plain above (directory_part es image m at ∙ ap (is_directory_or_root es) (sym is) ∙ directory),
+)
 
 pub turns_barred : {C : Type 0} (es : Entries C) (image at here : List (List ℕ)) (name : List ℕ) → here ≡ image ++ at → length image < length here → is_idle name ≡ false → is_up name ≡ true → is_directory_or_root es here ≡ false → Turns es image at name Barred
 turns_barred es image [] here name is long plain above other = absurd (omega (arith, ap length (is ∙ append-nil image)))

@@ -72,7 +72,10 @@ const ENDS_IN_IMAGE: [(&[u8], Option<&[u8]>); 6] = [
 
 // Each is a link to the next one, and the last is a file.
 const CHAIN: [&[u8]; 42] = [
-    b"l00", b"l01", b"l02", b"l03", b"l04", b"l05", b"l06", b"l07", b"l08", b"l09", b"l10", b"l11", b"l12", b"l13", b"l14", b"l15", b"l16", b"l17", b"l18", b"l19", b"l20", b"l21", b"l22", b"l23", b"l24", b"l25", b"l26", b"l27", b"l28", b"l29", b"l30", b"l31", b"l32", b"l33", b"l34", b"l35", b"l36", b"l37", b"l38", b"l39", b"l40", b"l41",
+    b"l00", b"l01", b"l02", b"l03", b"l04", b"l05", b"l06", b"l07", b"l08", b"l09", b"l10", b"l11",
+    b"l12", b"l13", b"l14", b"l15", b"l16", b"l17", b"l18", b"l19", b"l20", b"l21", b"l22", b"l23",
+    b"l24", b"l25", b"l26", b"l27", b"l28", b"l29", b"l30", b"l31", b"l32", b"l33", b"l34", b"l35",
+    b"l36", b"l37", b"l38", b"l39", b"l40", b"l41",
 ];
 
 fn is_path(alloc: Global, names: Option<&[Name]>, text: Option<&[u8]>) -> Result<bool, Fail> {
@@ -106,7 +109,10 @@ fn chain(alloc: Global) -> Result<Tree<Text>, Fail> {
         let target = Text::from_bytes(alloc, CHAIN[index + 1])?;
         tree.insert(Path::read(alloc, CHAIN[index])?, Entry::Link(target))?;
     }
-    tree.insert(Path::read(alloc, CHAIN[41])?, Entry::File(mode, Text::new(alloc)))?;
+    tree.insert(
+        Path::read(alloc, CHAIN[41])?,
+        Entry::File(mode, Text::new(alloc)),
+    )?;
     Ok(tree)
 }
 
@@ -115,7 +121,10 @@ fn walks_end_where_their_links_lead(rt: HostRuntime) -> Result<(), Fail> {
     let alloc = rt.alloc();
     let tree = read_tree(alloc, TREE)?;
     assert_eq!(rt; wrong_end(alloc, &tree, b"", ENDS.as_slice())?, None);
-    assert_eq!(rt; wrong_end(alloc, &tree, b"image", ENDS_IN_IMAGE.as_slice())?, None);
+    assert_eq!(rt;
+        wrong_end(alloc, &tree, b"image", ENDS_IN_IMAGE.as_slice())?,
+        None
+    );
     let release = Path::read(alloc, b"etc/os-release")?;
     let end = resolve(alloc, &tree, &release)?.ok_or("an end")?;
     assert!(rt; end.cmp(&Path::read(alloc, b"usr/lib/os-release")?).is_eq());

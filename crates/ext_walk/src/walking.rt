@@ -176,11 +176,7 @@ fn is_up(name: &[u8]) -> bool
 fn start_of<'a>(target: &[u8], image: &'a [Name], from: &'a [Name]) -> &'a [Name]
     ensures { result.now ≡ (if is_absolute target.now then image.now else from.now) }
 {
-    if is_absolute(target) {
-        image
-    } else {
-        from
-    }
+    if is_absolute(target) { image } else { from }
 }
 
 // Whether a walk along the text begins at the root.

@@ -32,8 +32,11 @@ pub links-preserved : goal.links-preserved
 links-preserved g c =
     let inv = c.links.invariant in
     let stop = c.in-Into.ensures inv.0 inv.1 in
-    let few : c.links.links < most_links = leb-false most_links c.links.links (sym c.are_most.ensures ∙ c.if-are_most.false) in
-    (cond (is_absolute c.in-Into.target.now) [] stop.0, c.start_of-at.ensures ∙ start_at (is_absolute c.in-Into.target.now) c.args.image.now c.in-Into.from.now stop.0 stop.1, omega (arith, few),
-    subst (λ left. Same (part c.args.image.now c.args.tree.now) (walk [] (upcoming c.args.names.items) 0) (walk (cond (is_absolute c.in-Into.target.now) [] stop.0) left (c.links.links + 1))) (sym c.in_ok-push_parts-in-Into.ensures)
-    (same_then (part c.args.image.now c.args.tree.now) _ _ (Some _) inv.3
-    (follow_on (part c.args.image.now c.args.tree.now) _ c.in-Into.target.now stop.0 (upcoming c.to_link.new.left.items) c.links.links (stop.2 c.links.links) (sym c.are_most.ensures ∙ c.if-are_most.false))))
+    let few : c.links.links < most_links = leb-false most_links c.links.links (sym c.are_most.ensures ∙ c.if-are_most.false) in (
+      cond (is_absolute c.in-Into.target.now) [] stop.0,
+      c.start_of-at.ensures ∙ start_at (is_absolute c.in-Into.target.now) c.args.image.now c.in-Into.from.now stop.0 stop.1,
+      omega (arith, few),
+      subst (λ left. Same (part c.args.image.now c.args.tree.now) (walk [] (upcoming c.args.names.items) 0) (walk (cond (is_absolute c.in-Into.target.now) [] stop.0) left (c.links.links + 1))) (sym c.in_ok-push_parts-in-Into.ensures)
+          (same_then (part c.args.image.now c.args.tree.now) _ _ (Some _) inv.3
+          (follow_on (part c.args.image.now c.args.tree.now) _ c.in-Into.target.now stop.0 (upcoming c.to_link.new.left.items) c.links.links (stop.2 c.links.links) (sym c.are_most.ensures ∙ c.if-are_most.false))),
+    )
