@@ -7,7 +7,7 @@ ghost use Rattle.ext_lines.specs.Split.{IsSplit, Lacks, split_of};
 use memchr::memchr;
 
 /// How many bytes are looked at in turn before a search of many at once begins. Most names and numbers are shorter.
-const NEAR: usize = 16;
+const NEAR: usize = 8;
 
 /// The text before the first of a byte, and the text after it; `None` exactly where the byte is nowhere.
 pub fn split_at_byte(bytes: &[u8], byte: u8) -> Option<(&[u8], &[u8])>

@@ -22,6 +22,9 @@ const MOST_MODE: u64 = 0o7777;
 /// The most bytes of a file.
 const MOST_SIZE: u64 = 1_073_741_824;
 
+/// The hexadecimal digits of a digest.
+const DIGEST_DIGITS: usize = 64;
+
 /// The most bytes of a link's target.
 const MOST_TARGET: usize = 4096;
 
@@ -64,7 +67,7 @@ pub fn split_digest(text: &[u8]) -> Option<(Digest, &[u8])>
         ((ds : List ℕ) (rest : List ℕ) → IsDigest ds → text.now ≢ encode_lower ds ++ 32 ∷ rest)
         (λ r. IsDigest r.0.0 × (text.now ≡ encode_lower r.0.0 ++ 32 ∷ r.1.now)) }
 {
-    let (field, rest) = split_at_byte(text, b' ')?;
+    let (field, rest) = split_bytes(text, DIGEST_DIGITS)?;
     Some((Digest(read_hex_digits(field)?), rest))
 }
 

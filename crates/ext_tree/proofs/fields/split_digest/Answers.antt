@@ -1,10 +1,13 @@
-use Rattle.std.proofs.Common.{arith}
-use Rattle.ext_lines.proofs.ForCallers.{split_field, split_none, hex_lacks}
+use Rattle.std.proofs.Common.{sym, ◌∙◌}
+use Rattle.hex.specs.Hex.{encode_lower}
+use Rattle.ext_lines.proofs.ForCallers.{split_same, hex_count}
 use Rattle.ext_tree.proofs.fields.split_digest.Goals as goal
 
 pub returns-in_err-field : goal.returns-in_err-field
-returns-in_err-field c = rw c.from_residual.ensures (λ ds rest is e. split_none 32 _ _ rest c.in_err-field.ensures e)
+returns-in_err-field c = rw c.from_residual.ensures (λ ds rest is e. c.in_err-field.ensures (encode_lower ds) rest (hex_count ds is).0 e)
 
 pub returns-in_err-read_hex_digits : goal.returns-in_err-read_hex_digits
 returns-in_err-read_hex_digits c =
-    rw c.from_residual-in_err-read_hex_digits.ensures (λ ds rest is e. c.in_err-read_hex_digits.ensures ds is (split_field 32 _ _ _ _ rest c.in_ok-field.ensures (hex_lacks 32 ds (omega arith) is) e).0)
+    let found = c.in_ok-field.ensures in
+    rw c.from_residual-in_err-read_hex_digits.ensures (λ ds rest is e.
+    c.in_err-read_hex_digits.ensures ds is (split_same _ (encode_lower ds) _ _ (found.0 ∙ sym (hex_count ds is).0) (sym found.1 ∙ e)).0)
