@@ -17,8 +17,6 @@ mod sink;
 mod source;
 mod std_sink;
 mod std_source;
-#[cfg(test)]
-mod tests;
 mod whole;
 
 pub use device::{Calls, is_listed, next_count, read_at};

@@ -13,8 +13,6 @@ mod joining;
 pub mod laws;
 mod layered;
 mod overlay;
-#[cfg(test)]
-mod tests;
 
 pub use errors::LayerErr;
 pub use layered::{layer, visible_entries};

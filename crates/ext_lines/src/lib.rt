@@ -14,8 +14,6 @@ mod memory;
 mod numbers;
 mod plain;
 mod split;
-#[cfg(test)]
-mod tests;
 mod words;
 
 pub use blanks::{is_blank, trimmed};

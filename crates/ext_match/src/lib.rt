@@ -6,8 +6,6 @@
 
 mod class;
 mod laws;
-#[cfg(test)]
-mod tests;
 mod verdict;
 
 pub use laws::one_verdict;

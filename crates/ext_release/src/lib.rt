@@ -9,8 +9,6 @@ mod laws;
 mod line;
 mod reading;
 mod release;
-#[cfg(test)]
-mod tests;
 mod value;
 
 pub use laws::{

@@ -18,8 +18,6 @@ mod order;
 mod path;
 mod prefix;
 mod scope;
-#[cfg(test)]
-mod tests;
 mod text;
 mod which;
 

@@ -13,8 +13,6 @@ mod outcome;
 mod refusal;
 mod running;
 mod status;
-#[cfg(test)]
-mod tests;
 mod words;
 
 pub use refusal::{Refusal, number, refusal_text};

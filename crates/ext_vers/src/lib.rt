@@ -7,8 +7,6 @@
 mod comparing;
 pub mod laws;
 mod number;
-#[cfg(test)]
-mod tests;
 mod token;
 mod version;
 

@@ -1,8 +1,8 @@
-use crate::laws::{compare_is_done, one_command, one_reply};
-use crate::{Refusal, Status, number, refusal_text, run};
 use ext_io::{Calls, MemorySink, MemorySource};
 use ext_lines::append_decimal;
 use ext_text::{OutOfMemory, Path, Text, Which, Words};
+use ext_top::laws::{compare_is_done, one_command, one_reply};
+use ext_top::{Refusal, Status, number, refusal_text, run};
 use std::alloc::Global;
 use std::test::Fail;
 

@@ -1,6 +1,6 @@
 ghost use Rattle.ext_match.specs.Class.{IsExtension};
 
-use crate::{Verdict, judge, one_verdict};
+use ext_match::{Verdict, judge, one_verdict};
 use ext_release::read_release;
 use ext_text::{Arch, Class, Scope};
 use std::alloc::Global;

@@ -1,4 +1,8 @@
-use super::*;
+use ext_lines::{
+    OutOfMemory, append_decimal, append_octal, five_digits, grown, has_word, hex_digits, is_plain,
+    laws, next_line, next_word, plain_text, plain_text_with_tabs, read_decimal, read_five_digits,
+    read_hex_digits, read_octal, split_at_byte, split_str_at_byte, strip_carriage_return, trimmed,
+};
 use std::alloc::Global;
 use std::test::Fail;
 

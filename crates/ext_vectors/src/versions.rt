@@ -1,4 +1,4 @@
-use crate::{compare, is_version, laws, order};
+use ext_vers::{compare, is_version, laws, order};
 use std::alloc::Global;
 use std::test::Fail;
 

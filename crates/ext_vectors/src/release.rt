@@ -1,4 +1,4 @@
-use crate::{
+use ext_release::{
     Release, ReleaseErr, a_file_has_a_release_or_a_faulty_line, a_file_has_one_release,
     quoted_texts_are_read_back, read_release,
 };

@@ -1,6 +1,6 @@
 ghost use Rattle.std.specs.Prelude.{◌≤◌, IfOk};
 
-use crate::{
+use ext_io::{
     Calls, Failed, MemorySink, MemorySource, ReadErr, StdSink, StdSource, read_to_end, write_all,
 };
 use ext_text::{OutOfMemory, Text};

@@ -1,4 +1,4 @@
-use super::*;
+use ext_layer::{Layers, laws, layer, visible_entries};
 use ext_tree::{Stamp, Tree, read_trees, write_entries, write_tree};
 use std::alloc::Global;
 use std::test::Fail;

@@ -1,4 +1,4 @@
-use crate::{
+use ext_text::{
     Arch, Class, Digest, Mode, Name, NameErr, Names, OutOfMemory, Path, PathErr, Scope, Text, laws,
 };
 use std::alloc::Global;
