@@ -59,6 +59,9 @@ fn joined_items<'a, C>(
 ) -> Result<Vec<Item<'a, C>>, OutOfMemory>
     ensures { IfOk result (λ items. Joins (layers.now ++ host.now ∷ []) (all_seen items.items)) }
 {
+    if layers.is_empty() {
+        return items_of_tree(alloc, host);
+    }
     let upper = joined(alloc, layers)?;
     let lower = items_of_tree(alloc, host)?;
     merged(alloc, upper.as_slice(), lower.as_slice())

@@ -137,6 +137,6 @@ fn cuts_first<C>(items: &[Item<C>], path: &Path) -> bool
 {
     match items {
         [] => false,
-        [first, ..] => first.pair.0.cmp(path).is_eq() && first.cuts,
+        [first, ..] => first.cuts && first.pair.0.cmp(path).is_eq(),
     }
 }

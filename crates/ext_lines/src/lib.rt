@@ -18,7 +18,7 @@ mod words;
 
 pub use blanks::{is_blank, trimmed};
 pub use hexadecimal::{five_digits, hex_digits, read_five_digits, read_hex_digits};
-pub use lines::{next_line, strip_carriage_return};
+pub use lines::{next_line, split_line, strip_carriage_return};
 pub use memory::{OutOfMemory, grown};
 pub use numbers::{append_decimal, append_octal, read_decimal, read_octal};
 pub use plain::{is_plain, is_plain_byte, is_plain_or_tab, plain_text, plain_text_with_tabs};

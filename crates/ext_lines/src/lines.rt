@@ -1,16 +1,29 @@
 // The lines of a text, one by one.
-ghost use Rattle.std.specs.Prelude.{◌≡◌};
+ghost use Rattle.std.specs.Prelude.{◌≡◌, MatchOption};
 ghost use Rattle.std.specs.Str.Lines.{strip_carriage_return};
 ghost use Rattle.ext_lines.specs.Lines.{IsNextLine};
+ghost use Rattle.ext_lines.specs.Split.{IsSplit, Lacks};
 
-use crate::split::split_at_byte;
+use crate::split::around;
+use memchr::memchr;
+
+/// The text before the first newline, and the text after it; `None` exactly where there is no newline.
+pub fn split_line(text: &[u8]) -> Option<(&[u8], &[u8])>
+    ensures { MatchOption result (Lacks 10 text.now) (λ parts. IsSplit 10 text.now parts.0.now parts.1.now) }
+{
+    // Most lines are long, so many bytes are searched at once from the first on.
+    match memchr(b'\n', text) {
+        None => None,
+        Some(index) => Some(around(text, index)),
+    }
+}
 
 /// The first line of a text, without its newline, and the text after that newline; `None` for the latter exactly where no
 /// newline ends the line.
 pub fn next_line(text: &[u8]) -> (&[u8], Option<&[u8]>)
     ensures { IsNextLine text.now result.0.now result.1 }
 {
-    match split_at_byte(text, b'\n') {
+    match split_line(text) {
         None => (text, None),
         Some((line, after)) => (line, Some(after)),
     }

@@ -15,13 +15,7 @@ pub fn split_at_byte(bytes: &[u8], byte: u8) -> Option<(&[u8], &[u8])>
 {
     match index_of(bytes, byte) {
         None => None,
-        Some(index) => {
-            let (prefix, rest) = bytes.split_at(index);
-            match rest {
-                [] => None,
-                [_byte, after @ ..] => Some((prefix, after)),
-            }
-        }
+        Some(index) => Some(around(bytes, index)),
     }
 }
 
@@ -46,6 +40,15 @@ pub fn split_around(text: &str, index: usize) -> (&str, &str)
     ensures after { result.1.now ≡ drop (index + 1) text.now }
 {
     (&text[..index], &text[index + 1..])
+}
+
+// The bytes before an index, and those after it.
+pub(crate) fn around(bytes: &[u8], index: usize) -> (&[u8], &[u8])
+    requires { index < length bytes.now }
+    ensures prefix { result.0.now ≡ take index bytes.now }
+    ensures after { result.1.now ≡ drop (index + 1) bytes.now }
+{
+    (&bytes[..index], &bytes[index + 1..])
 }
 
 // The index of the first of a byte. Each of the first bytes is looked at in turn, and the others many at once.

@@ -49,3 +49,7 @@ hide_needs Hide = refl
 pub hides_need : (es : List (Bor (List (List ℕ) × Entry Stamp))) → list_any (λ x. is_hide x.now.1) es ≡ need_version_2 (all_shown es)
 hides_need [] = refl
 hides_need (x ∷ es) = λ i. sym (hide_needs x.now.1) i || hides_need es i
+
+-- what tells of all entries, looked at one after another, that one is a whiteout
+pub version_told : (es : List (Bor (List (List ℕ) × Entry Stamp))) (i : ℕ) (hides : Bool) → length es ≤ i → hides ≡ list_any (λ x. is_hide x.now.1) (take i es) → hides ≡ need_version_2 (all_shown es)
+version_told es i hides h is = is ∙ ap (list_any (λ x. is_hide x.now.1)) (take_all i es h) ∙ hides_need es

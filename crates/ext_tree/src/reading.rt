@@ -13,7 +13,7 @@ use crate::entry_line::entry_of_line;
 use crate::following::may_follow;
 use crate::stamp::Stamp;
 use crate::tree::{MOST_ENTRIES, Tree};
-use ext_lines::{OutOfMemory, split_at_byte};
+use ext_lines::{OutOfMemory, split_line};
 use ext_text::{ListOf, Path};
 use std::alloc::Global;
 use thiserror::Error;
@@ -117,7 +117,7 @@ fn read_text(alloc: Global, bytes: &[u8], line: u64) -> Result<Body, TreeTextErr
     requires { line + length bytes.now ≤ 2 ^ 64 }
     ensures { MatchResult result (λ body. BeginsText bytes.now line body.entries.items body.rest.now body.line) (TextFault bytes.now line) }
 {
-    match split_at_byte(bytes, b'\n') {
+    match split_line(bytes) {
         None => Err(TreeTextErr::BadTree { line }),
         Some((header, body)) => match version_of(header) {
             None => Err(TreeTextErr::BadTree { line }),
@@ -149,7 +149,7 @@ fn read_body(alloc: Global, bytes: &[u8], first: u64, two: bool) -> Result<Body,
     let mut rest = bytes;
     let mut line = first;
     'lines: loop {
-        match split_at_byte(rest, b'\n') {
+        match split_line(rest) {
             None => return Err(TreeTextErr::BadTree { line }),
             Some((text, after)) => match judge(alloc, entries.as_slice(), text, two, needs)? {
                 Line::Fault => return Err(TreeTextErr::BadTree { line }),

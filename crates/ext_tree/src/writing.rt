@@ -1,6 +1,5 @@
-ghost use Rattle.std.specs.Prelude.{◌≡◌, [], ◌∷◌, ◌++◌, IfOk, OnOk};
-ghost use Rattle.std.specs.List.{list_any};
-ghost use Rattle.ext_tree.specs.Tree.{all_shown, as_shown, is_hide};
+ghost use Rattle.std.specs.Prelude.{◌≡◌, ℕ, List, [], ◌∷◌, ◌++◌, false, IfOk, OnOk};
+ghost use Rattle.ext_tree.specs.Tree.{all_shown, as_shown};
 ghost use Rattle.ext_tree.specs.TreeText.{AreWritable, HasText, IsTreeText, header, need_version_2, tree_line, tree_text};
 
 use crate::entry::Entry;
@@ -15,6 +14,9 @@ use std::alloc::Global;
 const HEADER_1: &[u8] = b"hostext-tree 1\n";
 
 const HEADER_2: &[u8] = b"hostext-tree 2\n";
+
+// The index of the version in them.
+const VERSION: usize = 13;
 
 // The last one.
 const END: &[u8] = b"end\n";
@@ -63,12 +65,26 @@ pub fn write_entries_into(
 {
     let mut text = buffer.into_vec();
     text.clear();
-    text.extend_from_slice(header(have_hide(entries)))?;
+    text.extend_from_slice(HEADER_1)?;
+    let mut hides = false;
+    // One pass tells the version too, since entries are many and lie far apart.
     for entry in entries {
         append_shown(&mut text, &entry.0, &entry.1)?;
+        hides = hides || entry.1.is_hide();
     }
+    tell_version(&mut text, hides);
     text.extend_from_slice(END)?;
     Ok(Text::from_vec(text))
+}
+
+// Turns the header of version 1, with which a text begins, into that of version 2, where it is to tell this one.
+fn tell_version(text: &mut Vec<u8>, two: bool)
+    requires { (lines : List ℕ) × (text.old.items ≡ (header false ++ 10 ∷ []) ++ lines) }
+    ensures { (lines : List ℕ) → text.old.items ≡ (header false ++ 10 ∷ []) ++ lines → text.new.items ≡ (header two ++ 10 ∷ []) ++ lines }
+{
+    if two {
+        text[VERSION] = b'2';
+    }
 }
 
 // The first line of a text, with its newline.
@@ -85,17 +101,6 @@ fn need_version_2(entries: &[(Path, Entry<Stamp>)]) -> bool
     let mut needs = false;
     for entry in entries {
         needs = needs || entry.1.needs_version_2();
-    }
-    needs
-}
-
-// Whether some entry has such a line as it shows.
-fn have_hide(entries: &[&(Path, Entry<Stamp>)]) -> bool
-    ensures { result ≡ list_any (λ x. is_hide x.now.1) entries.now }
-{
-    let mut needs = false;
-    for entry in entries {
-        needs = needs || entry.1.is_hide();
     }
     needs
 }
