@@ -1,8 +1,7 @@
 use Rattle.std.proofs.Common.{◌≡◌, ℕ, List, refl, sym, ap, ◌∙◌, subst}
-use Rattle.ext_tree.specs.Tree.{Entries, IsTreeWithin, is_directory, lookup}
+use Rattle.ext_tree.specs.Tree.{IsTreeWithin, is_directory}
 use Rattle.ext_tree.specs.declared.entry.Entry.{Entry}
 use Rattle.ext_tree.specs.declared.entry.Entry.TheVariants.{Dir, Opaque, File, Link, Hide}
-use Rattle.ext_tree.specs.declared.stamp.Stamp.{Stamp}
 use Rattle.ext_host.specs.Held.{HeldFile}
 use Rattle.ext_host.specs.Stamped.{AreStamps, stamped_entry, stamps}
 use Rattle.ext_host.proofs.ChangedLemmas.{lookup_changed, tree_changed_within}

@@ -1,4 +1,4 @@
-use Rattle.std.proofs.Common.{rules, not, ap, ◌∙◌, filter}
+use Rattle.std.proofs.Common.{rules, not, ap, ◌∙◌}
 use Rattle.std.proofs.lemmas.Fn.{filter_same}
 use Rattle.ext_text.specs.Path.{are_related}
 use Rattle.ext_host.specs.Touch.{untouched}
