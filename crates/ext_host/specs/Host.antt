@@ -8,6 +8,7 @@ use Rattle.ext_text.specs.declared.class.Class.TheVariants.{Sysext, Confext, Por
 use Rattle.ext_tree.specs.Tree.{Entries, lookup}
 use Rattle.ext_tree.specs.declared.entry.Entry.{Entry}
 use Rattle.ext_host.specs.Held.{HeldFile}
+use Rattle.ext_host.specs.declared.attachment.Attachment.{Attachment}
 use Rattle.ext_host.specs.declared.manifest.Manifest.{Manifest}
 use Rattle.ext_host.specs.declared.past.Past.{Past}
 use Rattle.ext_host.specs.declared.host.Host.{Host}
@@ -36,16 +37,17 @@ pub record HostTree : Type 0 where
   pub lower : Entries HeldFile
   pub sysext : Option (List (List ℕ))
   pub confext : Option (List (List ℕ))
+  pub attached : List Attachment
   pub kept : List Manifest
 
 abbrev pub hierarchies_in : Host → Hierarchies
 hierarchies_in host = record { sysext = host.sysext_hier; confext = host.confext_hier }
 
 abbrev pub present : Host → HostTree
-present host = record { root = host.root; lower = host.lower; sysext = host.sysext; confext = host.confext; kept = host.kept }
+present host = record { root = host.root; lower = host.lower; sysext = host.sysext; confext = host.confext; attached = host.attached; kept = host.kept }
 
 abbrev pub past_tree : Past → HostTree
-past_tree past = record { root = past.root; lower = past.lower; sysext = past.sysext; confext = past.confext; kept = past.kept }
+past_tree past = record { root = past.root; lower = past.lower; sysext = past.sysext; confext = past.confext; attached = past.attached; kept = past.kept }
 
 -- the names of a class, where they are merged
 abbrev pub merged_names : Class → HostTree → Option (List (List ℕ))

@@ -9,18 +9,25 @@
 mod attachment;
 mod body;
 mod both;
+mod copying;
+mod depot_bodies;
 mod held;
 mod here_shelf;
 mod home;
 mod host;
+mod locks;
 mod manifest;
 mod past;
 mod shelf;
+mod stamped;
 mod stamping;
+mod touch;
 
 pub use attachment::Attachment;
 pub use body::Body;
 pub use both::bytes_of_both;
+pub use copying::{Listed, copy_of_list, copy_of_merged};
+pub use depot_bodies::from_depot;
 pub use held::Held;
 pub use here_shelf::HereShelf;
 pub use home::Home;
@@ -28,6 +35,7 @@ pub use host::{Host, Plan};
 pub use manifest::{Item, Manifest};
 pub use past::Past;
 pub use shelf::{Shelf, ShelfErr};
+pub use stamped::stamps;
 pub use stamping::stamp_of;
 
 /// A list of attachments.

@@ -123,8 +123,8 @@ impl<C> Tree<C> {
         Some((path, entry))
     }
 
-    // Where the entries have their memory.
-    pub(crate) fn allocator(&self) -> Global {
+    /// Where the entries have their memory.
+    pub fn allocator(&self) -> Global {
         *self.entries.allocator()
     }
 }

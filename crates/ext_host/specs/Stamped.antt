@@ -1,0 +1,23 @@
+-- Trees whose files are known by their stamps alone.
+use Rattle.std.specs.Prelude.{◌≡◌, ℕ, List, map}
+use Rattle.std.specs.Option.{option_map}
+use Rattle.ext_tree.specs.Tree.{Entries, lookup}
+use Rattle.ext_tree.specs.declared.entry.Entry.{Entry}
+use Rattle.ext_tree.specs.declared.entry.Entry.TheVariants.{Dir, Opaque, File, Link, Hide}
+use Rattle.ext_tree.specs.declared.stamp.Stamp.{Stamp}
+use Rattle.ext_host.specs.Held.{HeldFile}
+
+-- the entry, a file with its stamp alone
+abbrev pub stamped_entry : Entry HeldFile → Entry Stamp
+stamped_entry (Dir mode) = Dir mode
+stamped_entry (Opaque mode) = Opaque mode
+stamped_entry (File mode held) = File mode held.stamp
+stamped_entry (Link target) = Link target
+stamped_entry Hide = Hide
+
+abbrev pub stamps : Entries HeldFile → Entries Stamp
+stamps es = map (λ e. (e.0, stamped_entry e.1)) es
+
+-- path by path: the same entries, with each file's stamp alone
+abbrev pub AreStamps : Entries HeldFile → Entries Stamp → Type 0
+AreStamps es copy = (path : List (List ℕ)) → lookup copy path ≡ option_map stamped_entry (lookup es path)

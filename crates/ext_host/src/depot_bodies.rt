@@ -1,0 +1,79 @@
+// Trees whose files are in the depot.
+ghost use Rattle.std.specs.Prelude.{◌≡◌, ◌++◌, IfErr, IfOk};
+ghost use Rattle.ext_text.specs.Path.{IsPath};
+ghost use Rattle.ext_host.specs.DepotBodies.{Fits, FitsErr, GivesFromDepot, HasFileErr, JoinErr, from_depot, in_depot, pair_in_depot};
+ghost use Rattle.std.specs.List.{AllByRecursion};
+
+use crate::held::Held;
+use ext_lines::grown;
+use ext_text::{Path, PathErr};
+use ext_tree::{Entry, Stamp, Tree, TreeErr};
+use std::alloc::Global;
+
+/// The same tree with each file's body in the depot, at its path below `res`.
+///
+/// # Errors
+/// `Path` exactly where a file's path below `res` passes the limits of a path; `OutOfMemory` may come at any time, and
+/// nothing else comes.
+pub fn from_depot(alloc: Global, tree: &Tree<Stamp>, res: &Path) -> Result<Tree<Held>, TreeErr>
+    ensures { GivesFromDepot res.now tree.now result }
+{
+    let pairs = pairs_at(alloc, tree.pairs(), res)?;
+    Ok(Tree::from_pairs(pairs))
+}
+
+// Copies of entries, each file's with a body below `res`.
+fn pairs_at(
+    alloc: Global,
+    pairs: &[(Path, Entry<Stamp>)],
+    res: &Path,
+) -> Result<Vec<(Path, Entry<Held>)>, TreeErr>
+    ensures ok { IfOk result (λ copies. (copies.items ≡ from_depot res.now pairs.now) × AllByRecursion (Fits res.now) pairs.now) }
+    ensures err { IfErr result (FitsErr res.now pairs.now) }
+{
+    let mut copies = grown(Vec::with_capacity(alloc, pairs.len()))?;
+    for pair in pairs {
+        let copy = pair_at(pair, res)?;
+        grown(copies.push(copy))?;
+    }
+    Ok(copies)
+}
+
+// A copy of an entry, a file's with a body below `res`.
+fn pair_at(pair: &(Path, Entry<Stamp>), res: &Path) -> Result<(Path, Entry<Held>), TreeErr>
+    ensures ok { IfOk result (λ copy. (copy ≡ pair_in_depot res.now pair.now) × Fits res.now pair.now) }
+    ensures err { IfErr result (HasFileErr res.now pair.now) }
+{
+    let entry = entry_at(&pair.1, &pair.0, res)?;
+    let path = pair.0.copy()?;
+    Ok((path, entry))
+}
+
+// A copy of the path's entry, a file's with a body below `res`.
+fn entry_at(entry: &Entry<Stamp>, path: &Path, res: &Path) -> Result<Entry<Held>, TreeErr>
+    ensures ok { IfOk result (λ copy. (copy ≡ in_depot (res.now ++ path.now) entry.now) × Fits res.now (path.now, entry.now)) }
+    ensures err { IfErr result (HasFileErr res.now (path.now, entry.now)) }
+{
+    match entry {
+        Entry::Dir(mode) => Ok(Entry::Dir(*mode)),
+        Entry::Opaque(mode) => Ok(Entry::Opaque(*mode)),
+        Entry::File(mode, stamp) => {
+            let path = joined(res, path)?;
+            Ok(Entry::File(*mode, Held::depot(*stamp, path)))
+        }
+        Entry::Link(target) => Ok(Entry::Link(target.copy()?)),
+        Entry::Hide => Ok(Entry::Hide),
+    }
+}
+
+// The path below `res`.
+fn joined(res: &Path, path: &Path) -> Result<Path, TreeErr>
+    ensures ok { IfOk result (λ joined. (joined ≡ res.now ++ path.now) × IsPath (res.now ++ path.now)) }
+    ensures err { IfErr result (JoinErr (res.now ++ path.now)) }
+{
+    match res.join(path) {
+        Ok(joined) => Ok(joined),
+        Err(PathErr::OutOfMemory) => Err(TreeErr::OutOfMemory),
+        Err(PathErr::TooLong | PathErr::TooDeep | PathErr::BadName) => Err(TreeErr::Path),
+    }
+}

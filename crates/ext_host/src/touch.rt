@@ -1,0 +1,38 @@
+// The manifests that a change leaves.
+ghost use Rattle.std.specs.Prelude.{◌≡◌, not};
+ghost use Rattle.ext_text.specs.Path.{are_related};
+ghost use Rattle.ext_host.specs.Touch.{untouched};
+
+use crate::Manifests;
+use crate::host::Host;
+use crate::manifest::Manifest;
+use ext_text::Path;
+use std::mem;
+
+impl Host {
+    /// Drops each manifest whose path is at, above or below this one; the others stay in their order, and so does all
+    /// else. A command that writes or cuts at a path calls it first. It takes no memory.
+    pub fn touch(&mut self, path: &Path)
+        ensures { self.new ≡ record self.old { kept = untouched path.now self.old.kept } }
+    {
+        let none = Manifests::new(self.root.allocator());
+        let kept = mem::replace(&mut self.kept, none);
+        self.kept = untouched(kept, path);
+    }
+}
+
+// The manifests whose paths are neither at, above nor below the path.
+fn untouched(manifests: Manifests, path: &Path) -> Manifests
+    ensures { result ≡ untouched path.now manifests }
+{
+    let mut rest = manifests.into_vec();
+    rest.retain(|manifest| is_untouched(manifest, path));
+    Manifests::from_vec(rest)
+}
+
+// Whether the manifest's path is neither at, above nor below the path.
+fn is_untouched(manifest: &Manifest, path: &Path) -> bool
+    ensures { result ≡ not (are_related manifest.now.path path.now) }
+{
+    !manifest.path.is_related(path)
+}
