@@ -1,0 +1,3 @@
+pub mod Names
+pub mod LeftOvers
+pub mod Rows
