@@ -1,1 +1,5 @@
 pub mod NamesLemmas
+pub mod ToldLemmas
+pub mod ReadingLemmas
+pub mod RemovalLemmas
+pub mod ClearingLemmas

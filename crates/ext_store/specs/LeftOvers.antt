@@ -1,8 +1,13 @@
 -- What an earlier change may have left in the store folder, which the next one removes before it writes.
 use Rattle.std.specs.Prelude.{ℕ, Bool, false, not, ◌||◌, List, [], ◌∷◌, Option, Some, None}
-use Rattle.std.specs.Ordering.{eq_by_cmp}
+use Rattle.std.specs.BTreeSet.{BTreeSet, contains}
+use Rattle.std.specs.Ordering.{eq_by_cmp, nat_cmp}
 use Rattle.ext_lines.specs.ByteOrder.{bytes_cmp}
 use Rattle.ext_store.specs.Names.{next_name, generation_of}
+
+-- the generations of a set are spared
+abbrev pub is_spared : BTreeSet ℕ → ℕ → Bool
+is_spared spared n = contains nat_cmp spared n
 
 -- a generation that is not spared
 abbrev pub is_unspared : (ℕ → Bool) → Option ℕ → Bool

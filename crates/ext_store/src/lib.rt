@@ -6,11 +6,18 @@
 //! changed. The crate that carries generations through stops stands on this one.
 #![tactic(auto)]
 
+mod errors;
 pub mod laws;
+mod left_overs;
 mod names;
 mod paths;
+mod reading;
+mod removal;
 
+pub use errors::{CleanErr, ReadErr};
+pub use left_overs::{MOST_LEFT_OVERS, is_left_over, remove_left_overs};
 pub use names::{generation_of, read_current};
 pub use paths::{
     current_path, generation_path, home_folder, home_path, index_path, next_path, store_folder,
 };
+pub use reading::{Found, PIECE, read_file};
