@@ -1,27 +1,27 @@
 -- What each function of a removal does to the disk: one path, what lies below a folder, some names of a folder.
-use Rattle.std.proofs.Common.{suc, get_or, drop, ◌≡◌, ◌≢◌, ◌⊎◌, ℕ, ◌+◌, ◌-◌, ◌<◌, ◌≤◌, Bool, true, false, cond, not, ◌&&◌, ◌||◌, List, [], ◌∷◌, ◌++◌, length, take, Option, Some, None, IfSome, Result, Ok, Err, refl, sym, ap, ◌∙◌, subst, inl, inr, arith, append_assoc, add-one}
+use Rattle.std.proofs.Common.{suc, get_or, drop, ◌≡◌, ◌≢◌, ◌⊎◌, ℕ, ◌+◌, ◌<◌, Bool, true, false, cond, not, ◌&&◌, ◌||◌, List, [], ◌∷◌, ◌++◌, length, take, Option, Some, None, IfSome, Result, Ok, Err, refl, sym, ap, ◌∙◌, subst, inl, inr, arith, append_assoc, add-one}
 use Rattle.std.specs.List.{list_any}
 use Rattle.std.specs.Option.{is_some}
 use Rattle.std.specs.Result.{is_ok}
 use Rattle.std.specs.Ordering.{eq_by_cmp}
-use Rattle.std.proofs.lemmas.Bool.{false≢true, true≢false, and_parts, and_from, or_left, or_right, or_cases, cases_Bool, cond-true, cond-false, not-true, not_from_false}
+use Rattle.std.proofs.lemmas.Bool.{false≢true, and_parts, and_from, or_left, or_right, or_cases, cond-false, not_from_false}
 use Rattle.std.proofs.lemmas.List.{append-nil, take-append-drop}
 use Rattle.std.proofs.Math.Seq.{take-suc, drop-cons}
 use Rattle.ext_text.specs.Name.{bytes_cmp}
 use Rattle.ext_text.specs.Path.{path_cmp, is_prefix, is_proper_prefix}
-use Rattle.ext_text.proofs.ForCallers.{same_path, tied_path, same_name, tied_name, prefix_self, prefix_short, prefix_trans}
-use Rattle.ext_disk.specs.Disk.{Node, folder, file, Place, Places, Told, DiskState, BothTold, IsTree, IsDisk, is_file, is_folder}
-use Rattle.ext_disk.specs.Since.{Follows, Rests}
-use Rattle.ext_disk.specs.Calls.{Call, look, remove, Allows, IsEmptyFolder, MayCall, Does, DoesTold, Fails, loosened, unswung_in, removed, put, is_child}
-use Rattle.ext_disk.specs.Fixed.{Spares, touches}
+use Rattle.ext_text.proofs.ForCallers.{same_path, tied_path, same_name, tied_name, prefix_self}
+use Rattle.ext_disk.specs.Disk.{Node, folder, file, Place, Places, Told, DiskState, BothTold, IsTree, IsDisk, is_file}
+use Rattle.ext_disk.specs.Since.{Rests}
+use Rattle.ext_disk.specs.Calls.{remove, Allows, IsEmptyFolder, MayCall, Does, DoesTold, Fails, loosened, removed, put, is_child}
+use Rattle.ext_disk.specs.Fixed.{Spares}
 use Rattle.ext_disk.specs.Lookups.{IsListing, kind_of}
 use Rattle.ext_disk.specs.declared.kind.Kind.{Kind}
-use Rattle.ext_disk.specs.declared.kind.Kind.TheVariants.{Dir, File}
+use Rattle.ext_disk.specs.declared.kind.Kind.TheVariants.{Dir}
 use Rattle.ext_disk.proofs.ForCallers.{spares_then, spares_wider, spares_itself, rests_spares, call_spares_out_of_reach}
 use Rattle.ext_store.specs.declared.errors.CleanErr.{CleanErr}
 use Rattle.ext_store.specs.declared.errors.CleanErr.TheVariants.{DiskFault, OutOfMemory, Unfinished}
-use Rattle.ext_store.specs.Removal.{is_in, AreDistinct, AllStand, Stand, AreGone, IsClear, Counts, Ends, ClearsTold, Clears, is_below_any}
-use Rattle.ext_store.proofs.ToldLemmas.{told_map, told_then, told_same}
+use Rattle.ext_store.specs.Removal.{is_in, AreGone, IsClear, Counts, Ends, ClearsTold, Clears, is_below_any}
+use Rattle.ext_store.proofs.ToldLemmas.{told_map}
 use Rattle.ext_store.proofs.RemovalLemmas.{contrapose, none_or_some, in_stand, still_stood, gone_none, gone_nothing, stand_map, done, failed, clears_then}
 
 -- ---- tests and prefixes
@@ -58,9 +58,9 @@ no_prefix_longer : (p : List (List ℕ)) (n : List ℕ) (r : List (List ℕ)) �
 no_prefix_longer [] n r = refl
 no_prefix_longer (m ∷ p) n r = and_false _ _ (no_prefix_longer p n r)
   where
-  and_false : (a b : Bool) → b ≡ false → (a && b) ≡ false
-  and_false true b is = is
-  and_false false b is = refl
+    and_false : (a b : Bool) → b ≡ false → (a && b) ≡ false
+    and_false true b is = is
+    and_false false b is = refl
 
 pub proper_append : (p : List (List ℕ)) (n : List ℕ) (r : List (List ℕ)) → is_proper_prefix p (p ++ n ∷ r) ≡ true
 proper_append p n r = and_from _ _ (prefix_append p (n ∷ r)) (not_from_false _ (no_prefix_longer p n r))
@@ -75,9 +75,9 @@ proper_rest p q proper =
     let below = rest_of p q parts.0 in
     named p q below.0 below.1 parts.1
   where
-  named : (p q r : List (List ℕ)) → q ≡ p ++ r → not (is_prefix q p) ≡ true → (n : List ℕ) × (r : List (List ℕ)) × (q ≡ p ++ n ∷ r)
-  named p q [] same out = absurd (false≢true (sym (ap (λ x. not (is_prefix x p)) (same ∙ append-nil p) ∙ ap not (prefix_self p)) ∙ out))
-  named p q (n ∷ r) same out = (n, r, same)
+    named : (p q r : List (List ℕ)) → q ≡ p ++ r → not (is_prefix q p) ≡ true → (n : List ℕ) × (r : List (List ℕ)) × (q ≡ p ++ n ∷ r)
+    named p q [] same out = absurd (false≢true (sym (ap (λ x. not (is_prefix x p)) (same ∙ append-nil p) ∙ ap not (prefix_self p)) ∙ out))
+    named p q (n ∷ r) same out = (n, r, same)
 
 -- ---- trees
 
@@ -92,7 +92,7 @@ pub stands_above : (d : Places) → IsTree d → (p r : List (List ℕ)) → is_
 stands_above d tree p [] some = ap (λ x. is_some (d x).node) (sym (append-nil p)) ∙ some
 stands_above d tree p (n ∷ r) some =
     let longer : is_some (d (p ++ n ∷ [])).node ≡ true =
-        stands_above d tree (p ++ n ∷ []) r (ap (λ x. is_some (d x).node) (append_assoc p (n ∷ []) r) ∙ some) in
+    stands_above d tree (p ++ n ∷ []) r (ap (λ x. is_some (d x).node) (append_assoc p (n ∷ []) r) ∙ some) in
     some_folder (d p).node (tree.parents p n (some_taken (d (p ++ n ∷ [])) longer))
 
 -- nothing stands below a path at which nothing stands
@@ -311,8 +311,8 @@ folder_left p d e gone no_root is are clear = record {
   empty = λ n. clear (p ++ n ∷ []) (proper_append p n []);
 }
   where
-  out : (is_in p gone ≡ true → is_proper_prefix p p ≡ true) → is_in p gone ≡ false
-  out gives = contrapose (is_in p gone) (is_proper_prefix p p) gives (not_itself p)
+    out : (is_in p gone ≡ true → is_proper_prefix p p ≡ true) → is_in p gone ≡ false
+    out gives = contrapose (is_in p gone) (is_proper_prefix p p) gives (not_itself p)
 
 told_empty : (T : Type 0) (t : T) (p : List (List ℕ)) (before after : ℕ) (x y : Option Told) → p ≢ [] → IfSome x (λ d. (d.places p).node ≡ Some folder)
     → BothTold (ClearsTold (is_proper_prefix p) (done T t) before after) x y → IfSome y (λ e. Allows (remove p) e.places)
@@ -339,17 +339,17 @@ any_weaker : (f g : List ℕ → Bool) (names : List (List ℕ)) → ((n : List 
 any_weaker f g [] gives hit = hit
 any_weaker f g (n ∷ names) gives hit = either (f n) (list_any f names) (g n) (list_any g names) (gives n) (any_weaker f g names gives) hit
   where
-  either : (a b c d : Bool) → (a ≡ true → c ≡ true) → (b ≡ true → d ≡ true) → (a || b) ≡ true → (c || d) ≡ true
-  either true b c d left right hit = or_left c d (left refl)
-  either false b c d left right hit = or_right c d (right hit)
+    either : (a b c d : Bool) → (a ≡ true → c ≡ true) → (b ≡ true → d ≡ true) → (a || b) ≡ true → (c || d) ≡ true
+    either true b c d left right hit = or_left c d (left refl)
+    either false b c d left right hit = or_right c d (right hit)
 
 any_gives : (P : Type 0) (f : List ℕ → Bool) (names : List (List ℕ)) → ((n : List ℕ) → f n ≡ true → P) → list_any f names ≡ true → P
 any_gives P f [] gives hit = absurd (false≢true hit)
 any_gives P f (n ∷ names) gives hit = first P (f n) (list_any f names) (gives n) (any_gives P f names gives) hit
   where
-  first : (P : Type 0) (a b : Bool) → (a ≡ true → P) → (b ≡ true → P) → (a || b) ≡ true → P
-  first P true b left right hit = left refl
-  first P false b left right hit = right hit
+    first : (P : Type 0) (a b : Bool) → (a ≡ true → P) → (b ≡ true → P) → (a || b) ≡ true → P
+    first P true b left right hit = left refl
+    first P false b left right hit = right hit
 
 pub below_names : (dir : List (List ℕ)) (names : List (List ℕ)) (q : List (List ℕ)) → is_below_any dir names q ≡ true → is_proper_prefix dir q ≡ true
 below_names dir names q hit = any_gives (is_proper_prefix dir q ≡ true) (λ n. is_prefix (dir ++ n ∷ []) q) names
@@ -364,10 +364,10 @@ listed_below d dir names tree lists q proper some =
     let below = proper_rest dir q proper in
     let apart : (dir ++ below.0 ∷ []) ++ below.1 ≡ q = append_assoc dir (below.0 ∷ []) below.1 ∙ sym below.2 in
     let there : is_some (d (dir ++ below.0 ∷ [])).node ≡ true =
-        stands_above d tree (dir ++ below.0 ∷ []) below.1 (ap (λ x. is_some (d x).node) apart ∙ some) in
+    stands_above d tree (dir ++ below.0 ∷ []) below.1 (ap (λ x. is_some (d x).node) apart ∙ some) in
     any_weaker (eq_by_cmp bytes_cmp below.0) (λ n. is_prefix (dir ++ n ∷ []) q) names
     (λ n tied. ap (λ m. is_prefix (dir ++ m ∷ []) q) (sym (same_name below.0 n tied))
-        ∙ (ap (is_prefix (dir ++ below.0 ∷ [])) (sym apart) ∙ prefix_append (dir ++ below.0 ∷ []) below.1))
+    ∙ (ap (is_prefix (dir ++ below.0 ∷ [])) (sym apart) ∙ prefix_append (dir ++ below.0 ∷ []) below.1))
     (lists.has below.0 ∙ there)
 
 told_listed : {T : Type 0} (r : Result T CleanErr) (dir : List (List ℕ)) (names : List (List ℕ)) (o : Option Told) → IfSome o IsDisk → IfSome o (λ d. IsListing d.places dir names)
@@ -392,9 +392,9 @@ any_append : (f : List ℕ → Bool) (xs ys : List (List ℕ)) → list_any f (x
 any_append f [] ys = refl
 any_append f (x ∷ xs) ys = ap (λ b. f x || b) (any_append f xs ys) ∙ sym (or_assoc (f x) (list_any f xs) (list_any f ys))
   where
-  or_assoc : (a b c : Bool) → ((a || b) || c) ≡ (a || (b || c))
-  or_assoc true b c = refl
-  or_assoc false b c = refl
+    or_assoc : (a b c : Bool) → ((a || b) || c) ≡ (a || (b || c))
+    or_assoc true b c = refl
+    or_assoc false b c = refl
 
 -- a name among others: what is below the ones before it, or at and below it, is below any of them
 below_first : (dir : List (List ℕ)) (front back names : List (List ℕ)) (n : List ℕ) → names ≡ front ++ n ∷ back → (q : List (List ℕ)) → is_below_any dir front q ≡ true → is_below_any dir names q ≡ true
@@ -418,10 +418,13 @@ pub clears_next : (T : Type 0) (t u : T) (dir p : List (List ℕ)) (front : List
 clears_next T t u dir p front n before mid after a b c is one two =
     let at_name : Clears (is_prefix (dir ++ n ∷ [])) (done T u) mid after b c = subst (λ x. Clears (is_prefix x) (done T u) mid after b c) is two in
     let both : Clears (is_below_any dir (front ++ n ∷ [])) (done T u) before after a c =
-        clears_then T (is_below_any dir front) (is_prefix (dir ++ n ∷ [])) (is_below_any dir (front ++ n ∷ [])) t (done T u) before mid after a b c
-        (below_first dir front [] (front ++ n ∷ []) n refl) (below_next dir front [] (front ++ n ∷ []) n refl) (λ ok q. below_either dir front n q) one at_name in
-    record { spares = both.spares; told = told_map (ClearsTold (is_below_any dir (front ++ n ∷ [])) (done T u) before after) (ClearsTold (is_below_any dir (front ++ n ∷ [])) (done T t) before after)
-        (λ d e x. record { gone = x.gone; are = x.are; counts = x.counts; ends = x.ends }) a.told c.told both.told }
+    clears_then T (is_below_any dir front) (is_prefix (dir ++ n ∷ [])) (is_below_any dir (front ++ n ∷ [])) t (done T u) before mid after a b c
+    (below_first dir front [] (front ++ n ∷ []) n refl) (below_next dir front [] (front ++ n ∷ []) n refl) (λ ok q. below_either dir front n q) one at_name in
+    record {
+      spares = both.spares;
+      told = told_map (ClearsTold (is_below_any dir (front ++ n ∷ [])) (done T u) before after) (ClearsTold (is_below_any dir (front ++ n ∷ [])) (done T t) before after)
+          (λ d e x. record { gone = x.gone; are = x.are; counts = x.counts; ends = x.ends }) a.told c.told both.told;
+    }
 
 -- at a name it stops
 pub clears_stops : (T U : Type 0) (t : T) (e : CleanErr) (dir p : List (List ℕ)) (front back names : List (List ℕ)) (n : List ℕ) (before mid after : ℕ) (a b c : DiskState)

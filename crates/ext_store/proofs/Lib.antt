@@ -3,3 +3,4 @@ pub mod ToldLemmas
 pub mod ReadingLemmas
 pub mod RemovalLemmas
 pub mod ClearingLemmas
+pub mod LeftOversLemmas

@@ -1,5 +1,5 @@
 -- Reading a file piece by piece.
-use Rattle.std.proofs.Common.{◌≡◌, ℕ, ◌+◌, ◌<◌, ◌≤◌, Bool, true, false, cond, List, [], ◌∷◌, ◌++◌, length, drop, Option, Some, None, IfSome, refl, sym, ap, ◌∙◌, subst, arith, length-append, append_assoc}
+use Rattle.std.proofs.Common.{◌≡◌, ℕ, ◌+◌, ◌<◌, ◌≤◌, true, cond, List, [], ◌∷◌, ◌++◌, length, drop, Option, Some, None, IfSome, refl, sym, ap, ◌∙◌, subst, arith, length-append, append_assoc}
 use Rattle.std.specs.Prelude.{nat_le}
 use Rattle.std.proofs.lemmas.Bool.{false≢true, le-leb, lt-leb, cond-true, cond-false}
 use Rattle.std.proofs.lemmas.List.{append-nil}
@@ -8,8 +8,8 @@ use Rattle.ext_disk.specs.Disk.{Node, folder, file, Told, DiskState, is_file}
 use Rattle.ext_disk.specs.Since.{Rests}
 use Rattle.ext_disk.proofs.ForCallers.{rests_then}
 use Rattle.ext_store.specs.declared.reading.Found.{Found}
-use Rattle.ext_store.specs.declared.reading.Found.TheVariants.{Absent, Folder, TooLong, File}
-use Rattle.ext_store.specs.Reading.{found_of, IsFoundAt, IsFileAt, IsPieceAt, IsPieceOf, BeginsWith}
+use Rattle.ext_store.specs.declared.reading.Found.TheVariants.{TooLong, File}
+use Rattle.ext_store.specs.Reading.{found_of, IsPieceAt, IsPieceOf, BeginsWith}
 
 -- these bytes were read of the file at a path, at most one more than the limit, and the disk rests
 pub record HasRead (old new : DiskState) (path : List (List ℕ)) (most : ℕ) (bytes : List ℕ) : Type 0 where
@@ -34,7 +34,7 @@ told_more : (x y : Option Told) (path : List (List ℕ)) (bytes piece : List ℕ
 told_more None y path bytes piece same begins is = tt
 told_more (Some d) y path bytes piece same begins is =
     let there : (all : List ℕ) → (d.places path).node ≡ Some (file all) → IsPieceAt all (length bytes) piece =
-        subst (λ o. IfSome o (λ d. (all : List ℕ) → (d.places path).node ≡ Some (file all) → IsPieceAt all (length bytes) piece)) same is in
+    subst (λ o. IfSome o (λ d. (all : List ℕ) → (d.places path).node ≡ Some (file all) → IsPieceAt all (length bytes) piece)) same is in
     λ all at. begins_more all bytes piece (begins all at) (there all at)
 
 -- one piece more was read
@@ -67,7 +67,7 @@ pub read_end : (x y : Option Told) (path : List (List ℕ)) (most : ℕ) (bytes 
 read_end None y path most bytes now piece same is begins more none fits next = tt
 read_end (Some d) y path most bytes now [] same is begins more none fits next =
     let there : (all : List ℕ) → (d.places path).node ≡ Some (file all) → IsPieceAt all (length bytes) [] =
-        subst (λ o. IfSome o (λ d. (all : List ℕ) → (d.places path).node ≡ Some (file all) → IsPieceAt all (length bytes) [])) same next in
+    subst (λ o. IfSome o (λ d. (all : List ℕ) → (d.places path).node ≡ Some (file all) → IsPieceAt all (length bytes) [])) same next in
     found_file (d.places path).node most (File now) is
     (λ all at. ap File (more ∙ append-nil bytes) ∙ end_file all bytes most (whole_read all bytes (begins all at) ((there all at).end refl)) fits)
 read_end (Some d) y path most bytes now (b ∷ piece) same is begins more none fits next = absurd (omega (arith, none))

@@ -1,20 +1,17 @@
 -- Parts of a removal, one after another.
-use Rattle.std.proofs.Common.{◌≡◌, ◌≢◌, ◌⊎◌, ℕ, ◌+◌, ◌≤◌, Bool, true, false, cond, not, ◌&&◌, ◌||◌, List, [], ◌∷◌, ◌++◌, length, Option, Some, None, IfSome, Result, Ok, Err, refl, sym, ap, ◌∙◌, subst, inl, inr, arith, length-append}
-use Rattle.std.specs.List.{list_any}
+use Rattle.std.proofs.Common.{◌≡◌, ◌⊎◌, ℕ, ◌+◌, Bool, true, false, cond, ◌||◌, List, [], ◌∷◌, ◌++◌, length, Option, Some, None, Result, Ok, Err, refl, sym, ap, ◌∙◌, subst, inl, inr, arith, length-append}
 use Rattle.std.specs.Option.{is_some}
 use Rattle.std.specs.Result.{is_ok}
 use Rattle.std.specs.Ordering.{eq_by_cmp}
-use Rattle.std.proofs.lemmas.Bool.{false≢true, true≢false, and_parts, and_from, or_left, or_right, or_cases, cases_Bool, cond-true, cond-false}
-use Rattle.ext_text.specs.Path.{path_cmp, is_prefix}
+use Rattle.std.proofs.lemmas.Bool.{false≢true, or_left, or_right, or_cases, cases_Bool, cond-true, cond-false}
+use Rattle.ext_text.specs.Path.{path_cmp}
 use Rattle.ext_text.proofs.ForCallers.{same_path, tied_path}
 use Rattle.ext_disk.specs.Disk.{Places, Told, DiskState, BothTold}
-use Rattle.ext_disk.specs.Since.{Follows, Rests}
-use Rattle.ext_disk.specs.Fixed.{IsSpared, Spares}
-use Rattle.ext_disk.proofs.ForCallers.{spares_then, spares_wider, spares_itself, rests_spares}
+use Rattle.ext_disk.proofs.ForCallers.{spares_then, spares_wider}
 use Rattle.ext_store.specs.declared.errors.CleanErr.{CleanErr}
 use Rattle.ext_store.specs.declared.errors.CleanErr.TheVariants.{DiskFault, OutOfMemory, Unfinished}
-use Rattle.ext_store.specs.Removal.{is_in, AreDistinct, AllStand, Stand, AreGone, IsClear, Counts, Ends, ClearsTold, Clears}
-use Rattle.ext_store.proofs.ToldLemmas.{told_map, told_then, told_same}
+use Rattle.ext_store.specs.Removal.{is_in, AreDistinct, AllStand, AreGone, IsClear, Counts, Ends, ClearsTold, Clears}
+use Rattle.ext_store.proofs.ToldLemmas.{told_then}
 
 -- ---- tests
 
@@ -58,16 +55,17 @@ pub in_stand : (r : List (List ℕ) → Bool) (d : Places) (p : List (List ℕ))
 in_stand r d p [] all is = absurd (false≢true is)
 in_stand r d p (g ∷ gs) all is = stand_tail r d p g gs all (in_either r d p g gs (in_stand r d p gs all.2) (or_cases (eq_by_cmp path_cmp p g) (is_in p gs) is))
   where
-  in_either : (r : List (List ℕ) → Bool) (d : Places) (p g : List (List ℕ)) (gs : List (List (List ℕ))) → (is_in p gs ≡ true → (r p ≡ true) × (is_some (d p).node ≡ true))
-      → (eq_by_cmp path_cmp p g ≡ true) ⊎ (is_in p gs ≡ true) → (eq_by_cmp path_cmp p g ≡ true) ⊎ ((r p ≡ true) × (is_some (d p).node ≡ true))
-  in_either r d p g gs gives (inl tied) = inl tied
-  in_either r d p g gs gives (inr rest) = inr (gives rest)
+    in_either : (r : List (List ℕ) → Bool) (d : Places) (p g : List (List ℕ)) (gs : List (List (List ℕ))) → (is_in p gs ≡ true → (r p ≡ true) × (is_some (d p).node ≡ true))
+        → (eq_by_cmp path_cmp p g ≡ true) ⊎ (is_in p gs ≡ true) → (eq_by_cmp path_cmp p g ≡ true) ⊎ ((r p ≡ true) × (is_some (d p).node ≡ true))
+    in_either r d p g gs gives (inl tied) = inl tied
+    in_either r d p g gs gives (inr rest) = inr (gives rest)
 
 distinct_append : (gs hs : List (List (List ℕ))) → AreDistinct gs → AreDistinct hs → ((p : List (List ℕ)) → is_in p gs ≡ true → is_in p hs ≡ false) → AreDistinct (gs ++ hs)
 distinct_append [] hs one two apart = two
-distinct_append (g ∷ gs) hs one two apart =
-    ( in_append g gs hs ∙ ap (λ b. b || is_in g hs) one.0 ∙ apart g (or_left _ _ (tied_path g g refl))
-    , distinct_append gs hs one.1 two (λ p is. apart p (or_right _ _ is)) )
+distinct_append (g ∷ gs) hs one two apart = (
+  in_append g gs hs ∙ ap (λ b. b || is_in g hs) one.0 ∙ apart g (or_left _ _ (tied_path g g refl)),
+  distinct_append gs hs one.1 two (λ p is. apart p (or_right _ _ is)),
+)
 
 -- ---- what is gone, after two parts
 
@@ -98,13 +96,13 @@ gone_then near far whole c d e gs hs near_in far_in one two = record {
         (stand_map far whole c d hs (λ p r some. (far_in p r, still_stood near c d gs one p some)) two.stood.all);
   };
   now = λ p.
-    two.now p ∙ ap (λ x. cond (is_in p hs) None x) (one.now p) ∙ both_tests (is_in p gs) (is_in p hs) (c p).node
-    ∙ ap (λ b. cond b None (c p).node) (sym (in_append p gs hs));
+      two.now p ∙ ap (λ x. cond (is_in p hs) None x) (one.now p) ∙ both_tests (is_in p gs) (is_in p hs) (c p).node
+      ∙ ap (λ b. cond b None (c p).node) (sym (in_append p gs hs));
 }
   where
-  contrapose' : (b : Bool) → (b ≡ true → ⊥) → b ≡ false
-  contrapose' true never = absurd (never refl)
-  contrapose' false never = refl
+    contrapose' : (b : Bool) → (b ≡ true → ⊥) → b ≡ false
+    contrapose' true never = absurd (never refl)
+    contrapose' false never = refl
 
 pub gone_nothing : (r : List (List ℕ) → Bool) (d e : Places) → e ≡ d → AreGone r d e []
 gone_nothing r d e same = record { stood = record { distinct = tt; all = tt }; now = λ p. ap (λ x. (x p).node) same }

@@ -6,7 +6,7 @@
 --     g-N           a folder for generation N
 --     g-N/index     its index
 --     g-N/abc/de    the file of the number that has the five hexadecimal digits abcde
-use Rattle.std.specs.Prelude.{◌≡◌, ℕ, ◌^◌, ◌<◌, ◌≤◌, Bool, ◌&&◌, if◌then◌else◌, nat_lt, List, [], ◌∷◌, ◌++◌, take, drop, Option, Some, None, codes, decimal}
+use Rattle.std.specs.Prelude.{ℕ, ◌^◌, ◌<◌, Bool, ◌&&◌, if◌then◌else◌, nat_lt, List, [], ◌∷◌, ◌++◌, take, drop, Option, Some, None, codes, decimal}
 use Rattle.std.specs.Ordering.{eq_by_cmp}
 use Rattle.std.specs.Str.Parse.{digits_value}
 use Rattle.ext_lines.specs.ByteOrder.{bytes_cmp}

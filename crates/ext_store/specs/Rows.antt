@@ -1,5 +1,5 @@
 -- Worked rows of the names, and what the definitions by tests say in plain words.
-use Rattle.std.specs.Prelude.{◌≡◌, ◌≢◌, ℕ, Bool, true, false, ◌==◌, ◌↔◌, ◌⊎◌, List, [], ◌∷◌, Option, Some, None, MatchOption, codes}
+use Rattle.std.specs.Prelude.{◌≡◌, ◌≢◌, ℕ, Bool, true, false, ◌==◌, ◌↔◌, ◌⊎◌, List, [], ◌∷◌, Some, None, MatchOption, codes}
 use Rattle.ext_store.specs.Names.{IsGeneration, generation_name, generation_of, next_name, current_text, index_path, home_folder, home_path}
 use Rattle.ext_store.specs.LeftOvers.{is_left_over}
 

@@ -70,7 +70,7 @@ fn left_names(names: Names, spared: &BTreeSet<u32>) -> Vec<Name>
 pub fn is_left_over(name: &[u8], spared: &BTreeSet<u32>) -> bool
     ensures { result ≡ is_left_over (is_spared spared.now) name.now }
 {
-    name == b"next".as_slice() || is_unspared(generation_of(name), spared)
+    name.cmp(b"next".as_slice()).is_eq() || is_unspared(generation_of(name), spared)
 }
 
 // Whether there is a generation, which is not spared.

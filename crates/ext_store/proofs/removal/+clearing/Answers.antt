@@ -1,9 +1,7 @@
-use Rattle.std.proofs.Common.{◌≡◌, ◌+◌, List, [], ◌∷◌, ◌++◌, take, drop, suc, refl, sym, subst, arith}
+use Rattle.std.proofs.Common.{take, drop, suc}
 use Rattle.std.proofs.lemmas.Result.{err_from_is_err_and}
 use Rattle.ext_text.specs.Path.{is_prefix, is_proper_prefix}
 use Rattle.ext_disk.proofs.ForCallers.{look_rests, rests_itself}
-use Rattle.ext_store.specs.Removal.{is_below_any, Clears}
-use Rattle.ext_store.proofs.RemovalLemmas.{done}
 use Rattle.ext_store.proofs.ClearingLemmas.{clears_absent, rests_clears, clears_part, may_remove, clears_folder, clears_below, clears_next, clears_stops, clears_before, folder_by_kind, absent_by_kind, told_moved, proper_is, split_at_index, one_more}
 use Rattle.ext_store.proofs.removal.+clearing.Goals as goal
 
@@ -18,7 +16,7 @@ pub clear-remove_one-requires-in-Some-Dir : goal.clear-remove_one-requires-in-So
 clear-remove_one-requires-in-Some-Dir g t c =
     may_remove (Unit {0}) tt c.args.path.now _ _ (g.D.Disk.state c.kind.new.self) _ c.requires
     (told_moved _ (g.D.Disk.state c.args.disk.now).told (g.D.Disk.state c.kind.new.self).told (look_rests _ _ _ c.in_ok-kind.ensures.does).told
-        (folder_by_kind (g.D.Disk.state c.args.disk.now).told c.args.path.now _ _ c.in-Some-Dir.is c.in-Some-Dir.field-0-is c.in_ok-kind.ensures.kind))
+    (folder_by_kind (g.D.Disk.state c.args.disk.now).told c.args.path.now _ _ c.in-Some-Dir.is c.in-Some-Dir.field-0-is c.in_ok-kind.ensures.kind))
     c.in_ok-clear_below-in-Some-Dir.ensures.clears
 
 pub clear-returns-in-None-clause-clears : goal.clear-returns-in-None-clause-clears

@@ -1,4 +1,4 @@
-use Rattle.std.proofs.Common.{◌≡◌, ◌+◌, ◌-◌, ◌*◌, ◌≤◌, length, take, ℕ}
+use Rattle.std.proofs.Common.{◌+◌, ◌-◌, ◌*◌, length, take}
 use Rattle.ext_store.specs.Removal.{is_below_any, Clears}
 use Rattle.ext_store.proofs.RemovalLemmas.{done}
 use Rattle.ext_store.proofs.removal.+clearing.Given as goal
