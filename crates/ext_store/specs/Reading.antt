@@ -1,0 +1,40 @@
+-- Reading a file of the store whole, up to a limit.
+use Rattle.std.specs.Prelude.{◌≡◌, ℕ, ◌+◌, ◌≤◌, nat_le, if◌then◌else◌, true, List, ◌++◌, length, drop, Option, Some, None, IfSome}
+use Rattle.ext_text.specs.Causes.{Rose}
+use Rattle.ext_disk.specs.Disk.{Node, folder, file, DiskState, is_file}
+use Rattle.ext_store.specs.declared.reading.Found.{Found}
+use Rattle.ext_store.specs.declared.reading.Found.TheVariants.{Absent, Folder, TooLong, File}
+use Rattle.ext_store.specs.declared.errors.ReadErr.{ReadErr}
+use Rattle.ext_store.specs.declared.errors.ReadErr.TheVariants.{DiskFault, OutOfMemory}
+
+-- what is found of what stands at a path: the bytes of a file of at most so many
+abbrev pub found_of : ℕ → Option Node → Found
+found_of most None = Absent
+found_of most (Some folder) = Folder
+found_of most (Some (file bytes)) = if nat_le (length bytes) most then File bytes else TooLong
+
+-- what was found at a path, where it is told what stands there
+abbrev pub IsFoundAt : DiskState → List (List ℕ) → ℕ → Found → Type 0
+IsFoundAt disk path most found = IfSome disk.told (λ d. found ≡ found_of most (d.places path).node)
+
+-- why nothing is known of a file: the disk had a fault, or there was no memory for the bytes
+abbrev pub ReadCause : ℕ → ℕ → ReadErr → Type 0
+ReadCause before after DiskFault = Rose before after
+ReadCause before after OutOfMemory = Unit {0}
+
+-- a file stands at the path, where it is told what does
+abbrev pub IsFileAt : DiskState → List (List ℕ) → Type 0
+IsFileAt disk path = IfSome disk.told (λ d. is_file (d.places path).node ≡ true)
+
+-- bytes of a file from the byte `at` on, none exactly at or past its end
+pub record IsPieceAt (all : List ℕ) (at : ℕ) (piece : List ℕ) : Type 0 where
+  pub moved : drop at all ≡ piece ++ drop (at + length piece) all
+  pub end : length piece ≡ 0 → length all ≤ at
+
+-- of the file at the path, where it is told what stands there
+abbrev pub IsPieceOf : DiskState → List (List ℕ) → ℕ → List ℕ → Type 0
+IsPieceOf disk path at piece = IfSome disk.told (λ d. (all : List ℕ) → (d.places path).node ≡ Some (file all) → IsPieceAt all at piece)
+
+-- the file at the path begins with these bytes, where it is told what stands there
+abbrev pub BeginsWith : DiskState → List (List ℕ) → List ℕ → Type 0
+BeginsWith disk path bytes = IfSome disk.told (λ d. (all : List ℕ) → (d.places path).node ≡ Some (file all) → all ≡ bytes ++ drop (length bytes) all)

@@ -1,0 +1,84 @@
+// The removal of what an earlier change left in the store folder.
+ghost use Rattle.std.specs.Prelude.{◌≡◌, [], ◌^◌, IfErr, filter};
+ghost use Rattle.std.specs.Ordering.{nat_cmp};
+ghost use Rattle.std.specs.BTreeSet.{contains};
+ghost use Rattle.ext_disk.specs.Disk.{BothTold};
+ghost use Rattle.ext_disk.specs.Fixed.{Spares};
+ghost use Rattle.ext_store.specs.LeftOvers.{is_left_over, is_left_path, is_spared, is_unspared};
+ghost use Rattle.ext_store.specs.Removal.{CleanCause, Removes, Clears};
+
+use crate::errors::CleanErr;
+use crate::names::generation_of;
+use crate::paths::store_folder;
+use crate::removal::clear_all;
+use ext_disk::Disk;
+use ext_text::{Name, Names};
+use std::alloc::Global;
+use std::collections::BTreeSet;
+
+/// The most left-over entries that are removed at a time.
+pub const MOST_LEFT_OVERS: u32 = 1_048_576;
+
+/// Removes the left-overs from the store folder, with all below them: `next`, and each generation that is not spared. Other
+/// names are left alone. At most 1,048,576 entries are removed, what lies deeper first.
+///
+/// A change calls it before it writes, and spares the current generation and those of its files' homes. What is spared, and
+/// each path that is no left-over's nor below one, stays as it was, and each of them that no stop could have changed stays
+/// so.
+///
+/// # Errors
+/// `Unfinished` exactly where more than 1,048,576 entries stood at and below the left-overs; so many of them were removed. A
+/// fault of the disk, only where it counted one, and out of memory; some of them may have been removed.
+pub fn remove_left_overs<D: Disk>(
+    alloc: Global,
+    disk: &mut D,
+    spared: &BTreeSet<u32>,
+) -> Result<(), CleanErr>
+    ensures spares { Spares (is_left_path (is_spared spared.now)) (D.state disk.old) (D.state disk.new) }
+    ensures removes { BothTold (Removes 1048576 (is_left_path (is_spared spared.now)) result) (D.state disk.old).told (D.state disk.new).told }
+    ensures cause { IfErr result (CleanCause (D.state disk.old).faults (D.state disk.new).faults) }
+{
+    let mut most = MOST_LEFT_OVERS;
+    clear_left(alloc, disk, spared, &mut most)
+}
+
+// Removes the left-overs, of which so many may be.
+fn clear_left<D: Disk>(
+    alloc: Global,
+    disk: &mut D,
+    spared: &BTreeSet<u32>,
+    most: &mut u32,
+) -> Result<(), CleanErr>
+    ensures clears { Clears (is_left_path (is_spared spared.now)) result most.old most.new (D.state disk.old) (D.state disk.new) }
+    ensures cause { IfErr result (CleanCause (D.state disk.old).faults (D.state disk.new).faults) }
+{
+    let folder = store_folder(alloc);
+    let names = left_names(disk.list(alloc, &folder)?, spared);
+    clear_all(alloc, disk, &folder, names.as_slice(), most)
+}
+
+// The left-overs among the names.
+fn left_names(names: Names, spared: &BTreeSet<u32>) -> Vec<Name>
+    ensures { result.items ≡ filter (is_left_over (is_spared spared.now)) names }
+{
+    let mut left = names.into_vec();
+    left.retain(|name| is_left_over(name.bytes(), spared));
+    left
+}
+
+/// Whether the name is a left-over's, where these generations are spared: it is `next`, or the name of another generation.
+pub fn is_left_over(name: &[u8], spared: &BTreeSet<u32>) -> bool
+    ensures { result ≡ is_left_over (is_spared spared.now) name.now }
+{
+    name.cmp(b"next".as_slice()).is_eq() || is_unspared(generation_of(name), spared)
+}
+
+// Whether there is a generation, which is not spared.
+fn is_unspared(generation: Option<u32>, spared: &BTreeSet<u32>) -> bool
+    ensures { result ≡ is_unspared (is_spared spared.now) generation }
+{
+    match generation {
+        Some(number) => !spared.contains(&number),
+        None => false,
+    }
+}

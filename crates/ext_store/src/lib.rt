@@ -1,0 +1,23 @@
+//! The paths of the store on a disk: what is read, written and removed there.
+//!
+//! A host is kept in a folder, in numbered generations. This crate knows where each thing of it stands, and has the loops
+//! over a disk and a depot: a file read whole, left-overs removed, a file written from bytes or from the depot. Each of
+//! them says what it means for a disk that tells: what stands afterwards, what is settled, which paths no stop can have
+//! changed. The crate that carries generations through stops stands on this one.
+#![tactic(auto)]
+
+mod errors;
+pub mod laws;
+mod left_overs;
+mod names;
+mod paths;
+mod reading;
+mod removal;
+
+pub use errors::{CleanErr, ReadErr};
+pub use left_overs::{MOST_LEFT_OVERS, is_left_over, remove_left_overs};
+pub use names::{generation_of, read_current};
+pub use paths::{
+    current_path, generation_path, home_folder, home_path, index_path, next_path, store_folder,
+};
+pub use reading::{Found, PIECE, read_file};
