@@ -69,3 +69,22 @@ def expect(found, wanted):
     for what, one, other in zip(("standard output", "standard error", "the status"), found, wanted):
         if one != other:
             raise Failed(f"{what} is {shortened(one)}, and not {shortened(other)}")
+
+
+def outcome(name, call):
+    """Runs a scene, tells of it where it didn't pass, and says how it ended."""
+    try:
+        call()
+        return "passed"
+    except Skipped as reason:
+        print(f"skipped: {name}: {reason}", flush=True)
+        return "skipped"
+    except Exception as reason:
+        print(f"FAILED: {name}: {reason or type(reason).__name__}", flush=True)
+        return "failed"
+
+
+def status_of(found):
+    """Counts how scenes ended on a line, and gives the status of the process."""
+    print(", ".join(f"{found.count(end)} {end}" for end in ("passed", "failed", "skipped")))
+    return 1 if "failed" in found else 0

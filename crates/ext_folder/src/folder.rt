@@ -1,0 +1,158 @@
+ghost use Rattle.std.specs.Prelude.{◌≡◌, ◌≤◌, length, false, is_ok, IsErr, IfOk, MatchResult};
+ghost use Rattle.ext_text.specs.Causes.{HasCause, Rose};
+ghost use Rattle.ext_folder.specs.Folder.{counted};
+
+use crate::folder_err::FolderErr;
+use crate::place::place;
+use ext_disk::Kind;
+use ext_io::{Failed, next_count, read_again};
+use ext_text::{Path, Text};
+use std::fs::{Files, Metadata, OpenFile};
+use std::io::{ErrorKind, Seek, SeekFrom};
+use std::marker::Model;
+use std::{fs, io};
+
+/// A folder of the system, and how often a call on it failed. Links are followed. A file is opened only where it was found
+/// to be one, since opening a pipe would wait for its other end.
+#[derive(Drop)]
+pub(crate) struct Folder<R> {
+    pub(crate) rt: R,
+    root: Text,
+    faults: u64,
+}
+
+impl<R> Model for Folder<R> {
+    ghost use Rattle.ext_folder.specs.Folder.{FolderView};
+
+    ghost Value = { FolderView };
+
+    ghost view = { λ f. record { root = f.root; faults = f.faults } };
+}
+
+impl<R: Files> Folder<R> {
+    pub(crate) fn new(rt: R, root: Text) -> Folder<R>
+        ensures { result ≡ record { root = root; faults = 0 } }
+    {
+        Folder {
+            rt,
+            root,
+            faults: 0,
+        }
+    }
+
+    /// What came of a call, which is counted where it was not done.
+    pub(crate) fn settle<T>(&mut self, outcome: Result<T, FolderErr>) -> Result<T, Failed>
+        ensures counted { self.new ≡ counted self.old (is_ok result) }
+        ensures count { self.old.faults ≤ self.new.faults }
+        ensures cause { HasCause result self.old.faults self.new.faults }
+        ensures same { MatchResult result (λ value. outcome ≡ Ok value) (λ _. IsErr outcome) }
+    {
+        match outcome {
+            Ok(value) => Ok(value),
+            Err(_failed) => {
+                self.count_fault();
+                Err(Failed)
+            }
+        }
+    }
+
+    /// Counts a call that was not done.
+    pub(crate) fn count_fault(&mut self)
+        ensures counted { self.new ≡ counted self.old false }
+        ensures count { self.old.faults ≤ self.new.faults }
+        ensures cause { Rose self.old.faults self.new.faults }
+    {
+        self.faults = next_count(self.faults);
+    }
+
+    /// The system's path of what stands at a path.
+    pub(crate) fn place(&self, path: &Path) -> Result<String, FolderErr> {
+        place(&self.root, path)
+    }
+
+    /// The same, where the path is not the root, which is neither made, renamed nor removed.
+    pub(crate) fn place_below(&self, path: &Path) -> Result<String, FolderErr> {
+        if path.names().is_empty() {
+            return Err(FolderErr::Failed);
+        }
+        self.place(path)
+    }
+
+    /// What stands at a place: a folder, a file, or nothing. Anything else is a fault, also a link that leads nowhere.
+    pub(crate) fn kind(&self, place: &str) -> Result<Option<Kind>, FolderErr> {
+        match found(&self.rt, place)? {
+            None => Ok(None),
+            Some(entry) if entry.is_dir() => Ok(Some(Kind::Dir)),
+            Some(entry) if entry.is_file() => Ok(Some(Kind::File(entry.len()))),
+            Some(_other) => Err(FolderErr::Failed),
+        }
+    }
+
+    /// What the system tells of the file at a place. That no file stands there is a fault.
+    pub(crate) fn file(&self, place: &str) -> Result<Metadata, FolderErr> {
+        let entry = fs::metadata(&self.rt, place)?;
+        if entry.is_file() {
+            Ok(entry)
+        } else {
+            Err(FolderErr::Failed)
+        }
+    }
+
+    /// That no folder stands at a place is a fault.
+    pub(crate) fn need_folder(&self, place: &str) -> Result<(), FolderErr> {
+        match self.kind(place)? {
+            Some(Kind::Dir) => Ok(()),
+            _ => Err(FolderErr::Failed),
+        }
+    }
+
+    /// That a folder stands at a place is a fault.
+    pub(crate) fn need_no_folder(&self, place: &str) -> Result<(), FolderErr> {
+        match self.kind(place)? {
+            Some(Kind::Dir) => Err(FolderErr::Failed),
+            _ => Ok(()),
+        }
+    }
+
+    /// Reads bytes of the file at a path, from the byte `at` on, and gives how many. At or past the end, by the file's size,
+    /// nothing is asked for: a file system knows a largest offset, and refuses to go past it.
+    pub(crate) fn read(&self, path: &Path, at: u64, buf: &mut [u8]) -> Result<usize, FolderErr>
+        ensures { IfOk result (λ count. count ≤ length buf.new) }
+    {
+        let place = self.place(path)?;
+        if at >= self.file(place.as_str())?.len() {
+            return Ok(0);
+        }
+        let mut file = fs::open(&self.rt, place.as_str())?;
+        file.seek(SeekFrom::Start(at))?;
+        Ok(read_again(&mut file, buf)?)
+    }
+
+    /// Waits until what was written to the entry at a place is on the disk: a file's bytes and length, a folder's names.
+    pub(crate) fn sync(&self, place: &str) -> Result<(), FolderErr> {
+        fs::open(&self.rt, place)?.sync_all()?;
+        Ok(())
+    }
+}
+
+// What stands at a place once links are followed, and nothing exactly where no entry does.
+fn found<R: Files>(rt: &R, place: &str) -> Result<Option<Metadata>, FolderErr> {
+    match fs::metadata(rt, place) {
+        Ok(entry) => Ok(Some(entry)),
+        Err(error) if is_missing(&error) => need_nothing(rt, place),
+        Err(error) => Err(error.into()),
+    }
+}
+
+// Nothing. A link that leads nowhere is an entry.
+fn need_nothing<R: Files>(rt: &R, place: &str) -> Result<Option<Metadata>, FolderErr> {
+    match fs::symlink_metadata(rt, place) {
+        Err(error) if is_missing(&error) => Ok(None),
+        _ => Err(FolderErr::Failed),
+    }
+}
+
+// Nothing stands there, or a file stands in the place of a folder on the way.
+fn is_missing(error: &io::Error) -> bool {
+    matches!(error.kind(), ErrorKind::NotFound | ErrorKind::NotADirectory)
+}

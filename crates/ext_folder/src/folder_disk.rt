@@ -1,0 +1,275 @@
+ghost use Rattle.std.specs.Prelude.{◌≡◌, ◌≤◌, length, is_ok, IfOk, IfErr};
+ghost use Rattle.ext_text.specs.Causes.{HasCause};
+ghost use Rattle.ext_disk.specs.Calls.{look, make_dir, make_file, append, sync_file, sync_dir, rename, remove, MayCall, Does};
+ghost use Rattle.ext_disk.specs.Lookups.{MayList, MayRead, Lists, ListCause, IsKindAt, IsReadOf};
+ghost use Rattle.ext_folder.specs.Folder.{counted, CountsListing};
+
+use crate::folder::Folder;
+use crate::folder_err::FolderErr;
+use crate::writer::Writer;
+use ext_disk::{Disk, Kind, ListErr};
+use ext_io::Failed;
+use ext_text::{Names, Path, Text};
+use std::alloc::Global;
+use std::fs;
+use std::fs::Files;
+use std::marker::Model;
+
+/// A folder of the system as a disk, which has what stands in it and below it. It tells nothing of that.
+///
+/// Links are followed, but `rename` and `remove` act on the entry itself; a link to a folder is a fault there. An entry
+/// that is neither a file nor a folder is a fault everywhere, and so is a link that leads nowhere. Everything that the
+/// system refuses is one, and so is want of memory, but in `list`.
+///
+/// The file that was made or appended to last stays open until it is synced, or until another one is made or appended to.
+/// It is used again only where its path still leads to it, so that no answer comes to differ.
+#[derive(Drop)]
+pub struct FolderDisk<R: Files> {
+    folder: Folder<R>,
+    last: Option<Writer<R>>,
+}
+
+impl<R: Files> Model for FolderDisk<R> {
+    ghost use Rattle.ext_folder.specs.Folder.{FolderView};
+
+    ghost Value = { FolderView };
+
+    ghost view = { λ d. d.folder };
+}
+
+impl<R: Files> FolderDisk<R> {
+    /// The disk in the folder at this path of the system. An empty path names no folder.
+    pub fn new(rt: R, root: Text) -> FolderDisk<R>
+        ensures { result ≡ record { root = root; faults = 0 } }
+    {
+        FolderDisk {
+            folder: Folder::new(rt, root),
+            last: None,
+        }
+    }
+
+    fn try_kind(&self, path: &Path) -> Result<Option<Kind>, FolderErr> {
+        let place = self.folder.place(path)?;
+        self.folder.kind(place.as_str())
+    }
+
+    fn try_make_dir(&self, path: &Path) -> Result<(), FolderErr> {
+        let place = self.folder.place_below(path)?;
+        fs::create_dir(&self.folder.rt, place.as_str())?;
+        Ok(())
+    }
+
+    fn try_make_file(&mut self, path: &Path) -> Result<(), FolderErr>
+        ensures { self.new ≡ self.old }
+    {
+        let place = self.folder.place_below(path)?;
+        self.last = Some(Writer::make(&self.folder.rt, place)?);
+        Ok(())
+    }
+
+    fn try_append(&mut self, path: &Path, bytes: &[u8]) -> Result<(), FolderErr>
+        ensures { self.new ≡ self.old }
+    {
+        let mut writer = self.take_writer(path)?;
+        let outcome = writer.append(bytes);
+        self.last = Some(writer);
+        outcome
+    }
+
+    // The file at the path, open for writing: the one that stayed open, where the path still leads to it.
+    fn take_writer(&mut self, path: &Path) -> Result<Writer<R>, FolderErr>
+        ensures { self.new ≡ self.old }
+    {
+        let place = self.folder.place(path)?;
+        let found = self.folder.file(place.as_str())?;
+        match self.last.take() {
+            Some(last) if last.is_at(place.as_str(), &found) => Ok(last),
+            _ => Writer::open(&self.folder.rt, place),
+        }
+    }
+
+    // A file that stayed open is synced by the handle that wrote it, and then closed.
+    fn try_sync_file(&mut self, path: &Path) -> Result<(), FolderErr>
+        ensures { self.new ≡ self.old }
+    {
+        let place = self.folder.place(path)?;
+        let found = self.folder.file(place.as_str())?;
+        match self.last.take() {
+            Some(last) if last.is_at(place.as_str(), &found) => last.sync(),
+            other => {
+                self.last = other;
+                self.folder.sync(place.as_str())
+            }
+        }
+    }
+
+    // A file can be opened and synced as well, so a folder has to be found first.
+    fn try_sync_dir(&self, dir: &Path) -> Result<(), FolderErr> {
+        let place = self.folder.place(dir)?;
+        self.folder.need_folder(place.as_str())?;
+        self.folder.sync(place.as_str())
+    }
+
+    fn try_rename(&mut self, from: &Path, to: &Path) -> Result<(), FolderErr>
+        ensures { self.new ≡ self.old }
+    {
+        let from = self.folder.place_below(from)?;
+        let to = self.folder.place_below(to)?;
+        self.folder.file(from.as_str())?;
+        self.folder.need_no_folder(to.as_str())?;
+        fs::rename(&self.folder.rt, from.as_str(), to.as_str())?;
+        self.close_at(from.as_str());
+        self.close_at(to.as_str());
+        Ok(())
+    }
+
+    fn try_remove(&mut self, path: &Path) -> Result<(), FolderErr>
+        ensures { self.new ≡ self.old }
+    {
+        let place = self.folder.place_below(path)?;
+        match self.folder.kind(place.as_str())? {
+            Some(Kind::Dir) => fs::remove_dir(&self.folder.rt, place.as_str())?,
+            Some(Kind::File(_size)) => fs::remove_file(&self.folder.rt, place.as_str())?,
+            None => return Err(FolderErr::Failed),
+        }
+        self.close_at(place.as_str());
+        Ok(())
+    }
+
+    // Closes the file that stayed open, where it was opened at the place or below it.
+    fn close_at(&mut self, place: &str)
+        ensures { self.new ≡ self.old }
+    {
+        match self.last.take() {
+            Some(last) if last.is_at_or_below(place) => {}
+            other => self.last = other,
+        }
+    }
+}
+
+impl<R: Files> Disk for FolderDisk<R> {
+    ghost use Rattle.ext_folder.specs.Folder.{disk_state};
+
+    ghost state = { disk_state };
+
+    ghost holds_a_tree = { λ _. tt };
+
+    /// Beside what each disk promises: exactly the calls that fail are counted, names that find no memory not among them.
+    fn list(&mut self, alloc: Global, dir: &Path) -> Result<Names, ListErr>
+        requires { MayList (disk_state self.old) dir.now }
+        ensures names { IfOk result (Lists (disk_state self.old) dir.now) }
+        ensures does { Does look (disk_state self.old) (disk_state self.new) (is_ok result) }
+        ensures cause { IfErr result (ListCause self.old.faults self.new.faults) }
+        ensures exact { CountsListing self.old self.new result }
+    {
+        match self.folder.list(alloc, dir) {
+            Ok(names) => Ok(names),
+            Err(FolderErr::OutOfMemory) => Err(ListErr::OutOfMemory),
+            Err(FolderErr::Failed) => {
+                self.folder.count_fault();
+                Err(ListErr::Failed)
+            }
+        }
+    }
+
+    /// Beside what each disk promises: exactly the calls that fail are counted.
+    fn kind(&mut self, path: &Path) -> Result<Option<Kind>, Failed>
+        ensures kind { IfOk result (IsKindAt (disk_state self.old) path.now) }
+        ensures does { Does look (disk_state self.old) (disk_state self.new) (is_ok result) }
+        ensures cause { HasCause result self.old.faults self.new.faults }
+        ensures exact { self.new ≡ counted self.old (is_ok result) }
+    {
+        let kind = self.try_kind(path);
+        self.folder.settle(kind)
+    }
+
+    /// Beside what each disk promises: exactly the calls that fail are counted.
+    fn read(&mut self, path: &Path, at: u64, buf: &mut [u8]) -> Result<usize, Failed>
+        requires { MayRead (disk_state self.old) path.now (length buf.old) }
+        ensures within { IfOk result (λ count. count ≤ length buf.new) }
+        ensures moved { IfOk result (IsReadOf (disk_state self.old) path.now at buf.new) }
+        ensures does { Does look (disk_state self.old) (disk_state self.new) (is_ok result) }
+        ensures cause { HasCause result self.old.faults self.new.faults }
+        ensures exact { self.new ≡ counted self.old (is_ok result) }
+    {
+        let count = self.folder.read(path, at, buf);
+        self.folder.settle(count)
+    }
+
+    /// Beside what each disk promises: exactly the calls that fail are counted.
+    fn make_dir(&mut self, path: &Path) -> Result<(), Failed>
+        requires { MayCall (make_dir path.now) (disk_state self.old) }
+        ensures does { Does (make_dir path.now) (disk_state self.old) (disk_state self.new) (is_ok result) }
+        ensures cause { HasCause result self.old.faults self.new.faults }
+        ensures exact { self.new ≡ counted self.old (is_ok result) }
+    {
+        let outcome = self.try_make_dir(path);
+        self.folder.settle(outcome)
+    }
+
+    /// Beside what each disk promises: exactly the calls that fail are counted.
+    fn make_file(&mut self, path: &Path) -> Result<(), Failed>
+        requires { MayCall (make_file path.now) (disk_state self.old) }
+        ensures does { Does (make_file path.now) (disk_state self.old) (disk_state self.new) (is_ok result) }
+        ensures cause { HasCause result self.old.faults self.new.faults }
+        ensures exact { self.new ≡ counted self.old (is_ok result) }
+    {
+        let outcome = self.try_make_file(path);
+        self.folder.settle(outcome)
+    }
+
+    /// Beside what each disk promises: exactly the calls that fail are counted.
+    fn append(&mut self, path: &Path, bytes: &[u8]) -> Result<(), Failed>
+        requires { MayCall (append path.now bytes.now) (disk_state self.old) }
+        ensures does { Does (append path.now bytes.now) (disk_state self.old) (disk_state self.new) (is_ok result) }
+        ensures cause { HasCause result self.old.faults self.new.faults }
+        ensures exact { self.new ≡ counted self.old (is_ok result) }
+    {
+        let outcome = self.try_append(path, bytes);
+        self.folder.settle(outcome)
+    }
+
+    /// Beside what each disk promises: exactly the calls that fail are counted.
+    fn sync_file(&mut self, path: &Path) -> Result<(), Failed>
+        requires { MayCall (sync_file path.now) (disk_state self.old) }
+        ensures does { Does (sync_file path.now) (disk_state self.old) (disk_state self.new) (is_ok result) }
+        ensures cause { HasCause result self.old.faults self.new.faults }
+        ensures exact { self.new ≡ counted self.old (is_ok result) }
+    {
+        let outcome = self.try_sync_file(path);
+        self.folder.settle(outcome)
+    }
+
+    /// Beside what each disk promises: exactly the calls that fail are counted.
+    fn sync_dir(&mut self, dir: &Path) -> Result<(), Failed>
+        requires { MayCall (sync_dir dir.now) (disk_state self.old) }
+        ensures does { Does (sync_dir dir.now) (disk_state self.old) (disk_state self.new) (is_ok result) }
+        ensures cause { HasCause result self.old.faults self.new.faults }
+        ensures exact { self.new ≡ counted self.old (is_ok result) }
+    {
+        let outcome = self.try_sync_dir(dir);
+        self.folder.settle(outcome)
+    }
+
+    /// Beside what each disk promises: exactly the calls that fail are counted.
+    fn rename(&mut self, from: &Path, to: &Path) -> Result<(), Failed>
+        requires { MayCall (rename from.now to.now) (disk_state self.old) }
+        ensures does { Does (rename from.now to.now) (disk_state self.old) (disk_state self.new) (is_ok result) }
+        ensures cause { HasCause result self.old.faults self.new.faults }
+        ensures exact { self.new ≡ counted self.old (is_ok result) }
+    {
+        let outcome = self.try_rename(from, to);
+        self.folder.settle(outcome)
+    }
+
+    /// Beside what each disk promises: exactly the calls that fail are counted.
+    fn remove(&mut self, path: &Path) -> Result<(), Failed>
+        requires { MayCall (remove path.now) (disk_state self.old) }
+        ensures does { Does (remove path.now) (disk_state self.old) (disk_state self.new) (is_ok result) }
+        ensures cause { HasCause result self.old.faults self.new.faults }
+        ensures exact { self.new ≡ counted self.old (is_ok result) }
+    {
+        let outcome = self.try_remove(path);
+        self.folder.settle(outcome)
+    }
+}

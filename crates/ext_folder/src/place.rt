@@ -1,0 +1,32 @@
+use crate::folder_err::FolderErr;
+use ext_text::{OutOfMemory, Path, Text};
+
+/// The system's path of what stands at a path below a root. An empty root names no folder, and neither does any path
+/// below it: the system finds nothing at the empty path.
+///
+/// # Errors
+/// `Failed` where the root is no UTF-8, and `OutOfMemory`.
+pub(crate) fn place(root: &Text, path: &Path) -> Result<String, FolderErr> {
+    match String::from_utf8(joined(root, path)?) {
+        Ok(place) => Ok(place),
+        Err(_not_text) => Err(FolderErr::Failed),
+    }
+}
+
+// The root, and the path after a slash. Without the test for an empty root that would be a path from the system's root.
+fn joined(root: &Text, path: &Path) -> Result<Vec<u8>, OutOfMemory> {
+    let mut bytes = root.copy()?.into_vec();
+    if !bytes.is_empty() && !path.names().is_empty() {
+        bytes.push(b'/')?;
+        path.append_to(&mut bytes)?;
+    }
+    Ok(bytes)
+}
+
+/// Whether a place is another one, or lies below it.
+pub(crate) fn is_at_or_below(place: &str, other: &str) -> bool {
+    match place.strip_prefix(other) {
+        Some(rest) => rest.is_empty() || rest.starts_with('/'),
+        None => false,
+    }
+}

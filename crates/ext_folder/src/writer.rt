@@ -1,0 +1,76 @@
+use crate::folder_err::FolderErr;
+use crate::place::is_at_or_below;
+use ext_io::{StdSink, write_all};
+use std::fs::{Files, Metadata, OpenFile, OpenOptions};
+use std::os::unix::fs::MetadataExt;
+
+/// A file that is open for writing at its end, and the place at which it was opened.
+///
+/// Linux tells a write-back that failed to the handles that were open by then. So the file that was written stays open,
+/// and its sync is asked of the handle that wrote.
+#[derive(Drop)]
+pub(crate) struct Writer<R: Files> {
+    place: String,
+    file: R::File,
+    device: u64,
+    number: u64,
+}
+
+impl<R: Files> Writer<R> {
+    /// The file at a place.
+    ///
+    /// # Errors
+    /// The system refused.
+    pub(crate) fn open(rt: &R, place: String) -> Result<Writer<R>, FolderErr> {
+        Writer::with(rt, place, false)
+    }
+
+    /// A new file, at a place where nothing stands.
+    ///
+    /// # Errors
+    /// The system refused, and so it does where anything stands there, a link too.
+    pub(crate) fn make(rt: &R, place: String) -> Result<Writer<R>, FolderErr> {
+        Writer::with(rt, place, true)
+    }
+
+    fn with(rt: &R, place: String, is_new: bool) -> Result<Writer<R>, FolderErr> {
+        let mut how = OpenOptions::new();
+        how.append(true).create_new(is_new);
+        let file = how.open(rt, place.as_str())?;
+        let found = file.metadata()?;
+        Ok(Writer {
+            place,
+            file,
+            device: found.dev(),
+            number: found.ino(),
+        })
+    }
+
+    /// Whether this is the file that was found at the place: opening it anew would open the same.
+    pub(crate) fn is_at(&self, place: &str, found: &Metadata) -> bool {
+        self.place.as_str() == place && self.device == found.dev() && self.number == found.ino()
+    }
+
+    /// Whether it was opened at the place or below it.
+    pub(crate) fn is_at_or_below(&self, place: &str) -> bool {
+        is_at_or_below(self.place.as_str(), place)
+    }
+
+    /// Writes all the bytes at the end.
+    ///
+    /// # Errors
+    /// The system refused, was interrupted too often or took nothing. Some of the bytes may have been written.
+    pub(crate) fn append(&mut self, bytes: &[u8]) -> Result<(), FolderErr> {
+        write_all(&mut StdSink::new(&mut self.file), bytes)?;
+        Ok(())
+    }
+
+    /// Waits until the file's bytes and its length are on the disk, and closes it.
+    ///
+    /// # Errors
+    /// The system refused, or could not write something back.
+    pub(crate) fn sync(self) -> Result<(), FolderErr> {
+        self.file.sync_all()?;
+        Ok(())
+    }
+}
