@@ -1,19 +1,20 @@
 -- What a graft answers: the tree with the part hung into it, or the first of its refusals.
-use Rattle.std.proofs.Common.{◌≡◌, ℕ, ◌+◌, ◌<◌, ◌≤◌, Bool, true, false, eqb, List, [], ◌∷◌, ◌++◌, length, get_or, take, Option, Some, None, Result, Ok, Err, is_some, refl, sym, ap, ◌∙◌, subst, map, append_assoc, arith}
-use Rattle.std.specs.Prelude.{IsTrue, OnErr, OnOk}
+use Rattle.std.proofs.Common.{◌≡◌, ℕ, ◌+◌, ◌<◌, ◌≤◌, Bool, true, eqb, List, [], ◌∷◌, ◌++◌, length, get_or, take, Result, Ok, Err, is_some, refl, sym, ap, ◌∙◌, subst, map, append_assoc, arith}
+use Rattle.std.specs.Prelude.{OnErr, OnOk}
 use Rattle.std.specs.List.{AllByRecursion}
 use Rattle.std.proofs.lemmas.Bool.{eqb-true, false≢true}
 use Rattle.std.proofs.lemmas.List.{map-append, take_more}
-use Rattle.ext_text.specs.Path.{IsPath, is_prefix, is_proper_prefix}
+use Rattle.ext_text.specs.Path.{IsPath, is_proper_prefix}
 use Rattle.ext_text.proofs.ForCallers.{all_append}
 use Rattle.ext_tree.specs.declared.entry.Entry.{Entry}
 use Rattle.ext_tree.specs.declared.tree.TreeErr.{TreeErr}
 use Rattle.ext_tree.specs.declared.tree.TreeErr.TheVariants.{OutOfMemory, Exists, NotDirectory, Limit, Path}
-use Rattle.ext_tree.specs.Graft.{AnswersGraft, Fits, IsGraft, IsOpen, IsTooLong}
+use Rattle.ext_tree.specs.Graft.{AnswersGraft, Fits, IsGraft, IsTooLong}
 use Rattle.ext_tree.specs.Grafting.{AnswersLimit, IsLongPath, StandsBelow, added, hung, joined}
 use Rattle.ext_tree.specs.Tree.{Entries, IsTree, IsTreeWithin, lookup, most_entries}
 use Rattle.ext_tree.proofs.GraftedLemmas.{tree_grafted}
-use Rattle.ext_tree.proofs.GraftJoinLemmas.{joined_grafted, open_above, sorted_joined}
+use Rattle.ext_tree.proofs.GraftJoinLemmas.{joined_grafted, open_above}
+use Rattle.ext_tree.proofs.GraftOrderLemmas.{sorted_joined}
 
 -- ---- the part's entries, one after another
 

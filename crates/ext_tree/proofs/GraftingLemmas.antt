@@ -1,13 +1,12 @@
 -- How a part is hung into a tree: what stands above the path, name by name, and how many entries there are.
-use Rattle.std.proofs.Common.{◌≡◌, ℕ, suc, zero, ◌+◌, ◌-◌, ◌<◌, ◌≤◌, Bool, true, false, cond, not, ◌&&◌, List, [], ◌∷◌, ◌++◌, length, get_or, take, drop, Option, Some, None, is_some, refl, sym, ap, ◌∙◌, subst, arith, length-append, length-take, length-drop, append_assoc}
+use Rattle.std.proofs.Common.{◌≡◌, ℕ, suc, ◌+◌, ◌-◌, ◌<◌, ◌≤◌, Bool, true, false, cond, not, ◌&&◌, List, [], ◌∷◌, ◌++◌, length, get_or, take, drop, Some, None, is_some, refl, sym, ap, ◌∙◌, subst, arith, length-append, length-take, length-drop, append_assoc}
 use mathlib.Core.Logic.{inl, inr}
-use Rattle.std.specs.Prelude.{IsTrue, nat_lt}
 use Rattle.std.specs.List.{AllByRecursion, filter, splice}
 use Rattle.std.specs.Ordering.{is_lt, ordering_reverse, eq_by_cmp}
 use Rattle.std.specs.FinMap.Entries.{where_key}
 use Rattle.std.proofs.lemmas.Bool.{false≢true, cases_lt}
 use Rattle.std.proofs.lemmas.Option.{slice_get_read}
-use Rattle.ext_text.specs.Path.{IsPath, path_cmp, is_prefix, is_proper_prefix}
+use Rattle.ext_text.specs.Path.{IsPath, path_cmp, is_prefix}
 use Rattle.ext_text.specs.Order.{paths_total}
 use Rattle.ext_text.proofs.ForCallers.{is_less, same_path, prefix_take, proper_first, take_prefix}
 use Rattle.ext_tree.specs.declared.entry.Entry.{Entry}
@@ -16,7 +15,7 @@ use Rattle.ext_tree.specs.declared.tree.TreeErr.TheVariants.{OutOfMemory, Exists
 use Rattle.ext_tree.specs.Graft.{Fits, IsBlocked, IsTooLong, is_non_directory_at, made}
 use Rattle.ext_tree.specs.Grafting.{IsLongPath, StandsBelow, directories, joined}
 use Rattle.ext_tree.specs.Slices.{is_after}
-use Rattle.ext_tree.specs.Tree.{Entries, IsTree, lookup, is_directory, is_directory_at}
+use Rattle.ext_tree.specs.Tree.{Entries, IsTree, lookup, is_directory_at}
 use Rattle.ext_tree.proofs.InsertionPointLemmas.{find_there}
 use Rattle.ext_tree.proofs.GraftLemmas.{directories_more, no_some}
 use Rattle.ext_tree.proofs.PrefixLemmas.{directory_some, prefixes}

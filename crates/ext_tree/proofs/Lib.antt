@@ -25,5 +25,6 @@ pub mod GraftLemmas
 pub mod GraftingLemmas
 pub mod GraftedLemmas
 pub mod GraftJoinLemmas
+pub mod GraftOrderLemmas
 pub mod GraftAnswersLemmas
 pub mod ForCallers

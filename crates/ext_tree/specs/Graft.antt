@@ -1,6 +1,6 @@
 -- A part hung into a tree: what stood at and below the path goes, missing parents and the path itself become directories of
 -- mode 755, which is this project's own choice, and the part's entries stand below it. At the root the tree becomes the part.
-use Rattle.std.specs.Prelude.{◌≡◌, ℕ, ◌<◌, ◌≤◌, Bool, true, false, not, ◌&&◌, List, [], ◌∷◌, ◌++◌, drop, length, if◌then◌else◌, Option, Some, None, is_some, Result, Ok, Err, IsTrue}
+use Rattle.std.specs.Prelude.{◌≡◌, ℕ, ◌<◌, ◌≤◌, Bool, false, not, ◌&&◌, List, [], ◌∷◌, ◌++◌, drop, length, if◌then◌else◌, Option, Some, None, is_some, Result, Ok, Err, IsTrue}
 use Rattle.std.specs.Ordering.{eq_by_cmp}
 use Rattle.ext_text.specs.Path.{IsPath, path_cmp, is_proper_prefix}
 use Rattle.ext_tree.specs.Tree.{Entries, IsTree, lookup, is_directory, most_entries}

@@ -97,17 +97,17 @@ fn push_directories<C: Drop>(
     let mut count = standing;
     'names: while count < path.names().len() {
         count += 1;
-        new.push((path.prefix(count)?, made_directory()))?;
+        new.push(directory_at(path, count)?)?;
     }
     Ok(())
 }
 
-// A directory of mode 755.
-fn made_directory<C>() -> Entry<C>
-    ensures { result ≡ made }
+// A directory of mode 755 at the first names of the path, so many of them.
+fn directory_at<C>(path: &Path, count: usize) -> Result<(Path, Entry<C>), OutOfMemory>
+    ensures { IfOk result (λ entry. entry ≡ (take count path.now, made)) }
 {
     match Mode::new(MADE) {
-        Some(mode) => Entry::Dir(mode),
+        Some(mode) => Ok((path.prefix(count)?, Entry::Dir(mode))),
         None => unreachable!(),
     }
 }

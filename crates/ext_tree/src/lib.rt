@@ -13,6 +13,8 @@ mod entry_line;
 mod fields;
 mod following;
 mod graft;
+#[cfg(test)]
+mod graft_tests;
 mod insertion_point;
 pub mod laws;
 mod part;

@@ -6,5 +6,5 @@ pub names-preserved : goal.names-preserved
 names-preserved g c = record {
   low = omega arith;
   high = omega (arith, ap length c.names-in-names.ensures.same);
-  so_far = directories_grown c.args.path.now c.args.standing c.names.count c.args.new.now.items c.names.new.items c.push.new.self.items c.names.invariant.low c.names.invariant.so_far (c.in_ok-push.ensures.items ∙ (λ i. c.names.new.items ++ (c.in_ok-prefix.ensures i, c.made_directory.ensures i) ∷ []));
+  so_far = directories_grown c.args.path.now c.args.standing c.names.count c.args.new.now.items c.names.new.items c.push.new.self.items c.names.invariant.low c.names.invariant.so_far (c.in_ok-push.ensures.items ∙ ap (λ e. c.names.new.items ++ e ∷ []) c.in_ok-directory_at.ensures);
 }

@@ -1,4 +1,4 @@
-use Rattle.std.proofs.Common.{◌≡◌, ◌+◌, ◌<◌, ◌∙◌, length, take, not, sym, ap, arith}
+use Rattle.std.proofs.Common.{◌+◌, ◌<◌, ◌∙◌, length, take, not, sym, ap, arith}
 use Rattle.ext_tree.specs.Graft.{is_non_directory_at}
 use Rattle.ext_tree.specs.Tree.{is_directory_at, lookup}
 use Rattle.ext_tree.proofs.GraftingLemmas.{blocked_here, directory_further, none_further}

@@ -1,4 +1,4 @@
-use Rattle.std.proofs.Common.{◌≡◌, ◌-◌, ◌<◌, ◌≤◌, ℕ, length, take}
+use Rattle.std.proofs.Common.{◌-◌, ◌<◌, ◌≤◌, ℕ, length, take}
 use Rattle.std.specs.Prelude.{IsTrue}
 use Rattle.ext_tree.specs.Tree.{is_directory_at, lookup}
 use Rattle.ext_tree.proofs.graft.standing_at.Given as goal
