@@ -1,2 +1,5 @@
 pub mod ChangedLemmas
 pub mod LocksLemmas
+pub mod SearchLemmas
+pub mod NameLemmas
+pub mod BaseLemmas

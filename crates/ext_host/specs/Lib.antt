@@ -1,6 +1,7 @@
 pub mod Held
 pub mod Shelf
 pub mod Host
+pub mod Base
 pub mod Locks
 pub mod Touch
 pub mod Stamped

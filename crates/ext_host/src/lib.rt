@@ -7,6 +7,7 @@
 #![tactic(auto)]
 
 mod attachment;
+mod base;
 mod body;
 mod both;
 mod copying;
