@@ -3,3 +3,5 @@ pub mod LocksLemmas
 pub mod SearchLemmas
 pub mod NameLemmas
 pub mod BaseLemmas
+pub mod DrawnLemmas
+pub mod TouchLemmas

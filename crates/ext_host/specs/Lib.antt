@@ -7,3 +7,5 @@ pub mod Touch
 pub mod Stamped
 pub mod DepotBodies
 pub mod Valid
+pub mod Drawn
+pub mod Laws

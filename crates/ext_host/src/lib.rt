@@ -16,6 +16,7 @@ mod held;
 mod here_shelf;
 mod home;
 mod host;
+pub mod laws;
 mod locks;
 mod manifest;
 mod past;
