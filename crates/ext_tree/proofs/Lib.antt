@@ -21,4 +21,9 @@ pub mod DecisionLemmas
 pub mod SomeFaultLemmas
 pub mod SlicesLemmas
 pub mod PartLemmas
+pub mod GraftLemmas
+pub mod GraftingLemmas
+pub mod GraftedLemmas
+pub mod GraftJoinLemmas
+pub mod GraftAnswersLemmas
 pub mod ForCallers

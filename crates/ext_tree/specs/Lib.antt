@@ -4,6 +4,8 @@ pub mod InsertionPoint
 pub mod Slices
 pub mod Part
 pub mod Cut
+pub mod Graft
+pub mod Grafting
 pub mod Following
 pub mod Fields
 pub mod EntryLine

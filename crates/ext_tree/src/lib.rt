@@ -12,6 +12,7 @@ mod entry;
 mod entry_line;
 mod fields;
 mod following;
+mod graft;
 mod insertion_point;
 pub mod laws;
 mod part;

@@ -1,5 +1,5 @@
 // Entries that stand one after another in path order, found by binary search and borrowed.
-ghost use Rattle.std.specs.Prelude.{◌≡◌, not, [], ◌∷◌, ◌++◌, IsTrue};
+ghost use Rattle.std.specs.Prelude.{◌≡◌, ◌≤◌, not, [], ◌∷◌, ◌++◌, drop, length, IsTrue};
 ghost use Rattle.std.specs.Ordering.{is_eq};
 ghost use Rattle.std.specs.FinMap.{is_sorted};
 ghost use Rattle.std.specs.FinMap.Entries.{where_key};
@@ -66,9 +66,17 @@ fn rest_after<'a, C>(entries: &'a [(Path, Entry<C>)], names: &[Name]) -> &'a [(P
     requires { IsTrue (is_sorted path_cmp entries.now) }
     ensures { result.now ≡ where_key path_cmp (is_after names.now) entries.now }
 {
-    let passed = entries.partition_point(|entry| !is_after(names, entry));
-    let (_passed, after) = entries.split_at(passed);
+    let (_passed, after) = entries.split_at(count_through(entries, names));
     after
+}
+
+// How many entries stand before what comes after the path and all that is below it.
+pub(crate) fn count_through<C>(entries: &[(Path, Entry<C>)], names: &[Name]) -> usize
+    requires { IsTrue (is_sorted path_cmp entries.now) }
+    ensures within { result ≤ length entries.now }
+    ensures after { drop result entries.now ≡ where_key path_cmp (is_after names.now) entries.now }
+{
+    entries.partition_point(|entry| !is_after(names, entry))
 }
 
 /// How a path's names stand to those of a directory and one more name, which are not joined for it. The name may be any
