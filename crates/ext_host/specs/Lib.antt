@@ -1,8 +1,11 @@
 pub mod Held
 pub mod Shelf
 pub mod Host
+pub mod Base
 pub mod Locks
 pub mod Touch
 pub mod Stamped
 pub mod DepotBodies
 pub mod Valid
+pub mod Drawn
+pub mod Laws

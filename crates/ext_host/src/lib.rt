@@ -7,6 +7,7 @@
 #![tactic(auto)]
 
 mod attachment;
+mod base;
 mod body;
 mod both;
 mod copying;
@@ -15,6 +16,7 @@ mod held;
 mod here_shelf;
 mod home;
 mod host;
+pub mod laws;
 mod locks;
 mod manifest;
 mod past;

@@ -1,0 +1,73 @@
+-- What holds of a host's manifests still holds of those that a change leaves.
+use Rattle.std.proofs.Common.{◌≡◌, ℕ, Bool, true, false, cond, not, List, [], ◌∷◌, map}
+use Rattle.std.specs.List.{AllByRecursion, filter}
+use Rattle.std.specs.declared.cmp.Ordering.{Ordering}
+use Rattle.std.specs.declared.cmp.Ordering.TheVariants.{Less}
+use Rattle.ext_text.specs.Path.{are_related, path_cmp}
+use Rattle.ext_tree.specs.declared.entry.Entry.{Entry}
+use Rattle.ext_host.specs.Held.{HeldFile}
+use Rattle.ext_host.specs.Laws.{TouchedIsValid}
+use Rattle.ext_host.specs.Touch.{untouched}
+use Rattle.ext_host.specs.Valid.{AreApart, AreAscending, AreManifests, HasItems, IsManifest}
+use Rattle.ext_host.specs.declared.manifest.Manifest.{Manifest}
+
+-- what holds of each holds of those that are kept
+all_kept : {X : Type 0} (P : X → Type 0) (f : X → Bool) (xs : List X) → AllByRecursion P xs → AllByRecursion P (filter f xs)
+all_kept P f [] all = tt
+all_kept P f (x ∷ xs) all =
+    elim (f x) as (λ b. AllByRecursion P (cond b (x ∷ filter f xs) (filter f xs))) [
+      | true ↦ (all.0, all_kept P f xs all.1)
+      | false ↦ all_kept P f xs all.1
+    ]
+
+-- the same of a value of each
+all_values : {X Y : Type 0} (g : X → Y) (P : Y → Type 0) (f : X → Bool) (xs : List X) → AllByRecursion P (map g xs) → AllByRecursion P (map g (filter f xs))
+all_values g P f [] all = tt
+all_values g P f (x ∷ xs) all =
+    elim (f x) as (λ b. AllByRecursion P (map g (cond b (x ∷ filter f xs) (filter f xs)))) [
+      | true ↦ (all.0, all_values g P f xs all.1)
+      | false ↦ all_values g P f xs all.1
+    ]
+
+ascending_kept : {X Y : Type 0} (R : Y → Y → Ordering) (g : X → Y) (f : X → Bool) (xs : List X) → AreAscending R (map g xs) → AreAscending R (map g (filter f xs))
+ascending_kept R g f [] up = tt
+ascending_kept R g f (x ∷ xs) up =
+    let rest = ascending_kept R g f xs up.1 in
+    elim (f x) as (λ b. AreAscending R (map g (cond b (x ∷ filter f xs) (filter f xs)))) [
+      | true ↦ (all_values g (λ y. R (g x) y ≡ Less) f xs up.0, rest)
+      | false ↦ rest
+    ]
+
+apart_kept : (f : Manifest → Bool) (manifests : List Manifest) → AreApart manifests → AreApart (filter f manifests)
+apart_kept f [] apart = tt
+apart_kept f (m ∷ manifests) apart =
+    let rest = apart_kept f manifests apart.1 in
+    elim (f m) as (λ b. AreApart (cond b (m ∷ filter f manifests) (filter f manifests))) [
+      | true ↦ (all_kept _ f manifests apart.0, rest)
+      | false ↦ rest
+    ]
+
+pub touched_is_valid : TouchedIsValid
+touched_is_valid host path valid =
+    let kept = valid.present.kept in
+    let f = λ (m : Manifest). not (are_related m.path path) in
+    record {
+      scope = valid.scope;
+      hierarchies = valid.hierarchies;
+      present = record {
+        lower = valid.present.lower;
+        limits = record { root = valid.present.limits.root; lower = valid.present.limits.lower; entries = valid.present.limits.entries; bytes = valid.present.limits.bytes };
+        sysext = valid.present.sysext;
+        confext = valid.present.confext;
+        attached = valid.present.attached;
+        kept = record {
+          each = all_kept IsManifest f host.kept kept.each;
+          order = ascending_kept path_cmp (λ (m : Manifest). m.path) f host.kept kept.order;
+          apart = apart_kept f host.kept kept.apart;
+          items = all_kept _ f host.kept kept.items;
+        };
+      };
+      past = valid.past;
+      past_count = valid.past_count;
+      past_order = valid.past_order;
+    }

@@ -1,0 +1,46 @@
+-- The laws of hosts.
+use Rattle.std.specs.Prelude.{◌≡◌, ℕ, ◌++◌, ◌⊎◌, List, [], ◌∷◌, Some}
+use Rattle.ext_tree.specs.Cut.{IsCut}
+use Rattle.ext_tree.specs.Part.{IsPart}
+use Rattle.ext_tree.specs.Tree.{Entries, lookup}
+use Rattle.ext_tree.specs.declared.entry.Entry.{Entry}
+use Rattle.ext_host.specs.Drawn.{AreDrawnFrom, IsDrawnFrom}
+use Rattle.ext_host.specs.Held.{HeldFile}
+use Rattle.ext_host.specs.Host.{IsBase}
+use Rattle.ext_host.specs.Touch.{untouched}
+use Rattle.ext_host.specs.Valid.{IsValidHost}
+use Rattle.ext_host.specs.declared.host.Host.{Host}
+
+-- a host is drawn from itself
+abbrev pub DrawnFromItself : Type 0
+DrawnFromItself = (host : Host) → IsDrawnFrom host host
+
+-- and from what a host is drawn from that it is drawn from
+abbrev pub DrawnThrough : Type 0
+DrawnThrough = (a b c : Host) → IsDrawnFrom a b → IsDrawnFrom b c → IsDrawnFrom a c
+
+-- each entry of the base is one that is seen or lies under the view, at the same path
+abbrev pub EntriesOfBase : Type 0
+EntriesOfBase = (host : Host) (es : Entries HeldFile) (path : List (List ℕ)) (e : Entry HeldFile) → IsBase host es → lookup es path ≡ Some e → (lookup host.root path ≡ Some e) ⊎ (lookup host.lower path ≡ Some e)
+
+-- each entry of a part is one of the tree, at the path below the part's
+abbrev pub EntriesOfPart : Type 0 → Type 0
+EntriesOfPart C = (es part : Entries C) (at path : List (List ℕ)) (e : Entry C) → IsPart es at part → lookup part path ≡ Some e → lookup es (at ++ path) ≡ Some e
+
+-- each entry of a tree without a path is one of the tree, at the same path
+abbrev pub EntriesOfCut : Type 0 → Type 0
+EntriesOfCut C = (es rest : Entries C) (at path : List (List ℕ)) (e : Entry C) → IsCut es at rest → lookup rest path ≡ Some e → lookup es path ≡ Some e
+
+-- so what they give is drawn from what they were given
+abbrev pub BaseIsDrawn : Type 0
+BaseIsDrawn = (host : Host) (es : Entries HeldFile) → IsBase host es → AreDrawnFrom (host.root ∷ host.lower ∷ []) (es ∷ [])
+
+abbrev pub PartIsDrawn : Type 0
+PartIsDrawn = (es part : Entries HeldFile) (at : List (List ℕ)) → IsPart es at part → AreDrawnFrom (es ∷ []) (part ∷ [])
+
+abbrev pub CutIsDrawn : Type 0
+CutIsDrawn = (es rest : Entries HeldFile) (at : List (List ℕ)) → IsCut es at rest → AreDrawnFrom (es ∷ []) (rest ∷ [])
+
+-- a valid host stays valid where a path is touched
+abbrev pub TouchedIsValid : Type 0
+TouchedIsValid = (host : Host) (path : List (List ℕ)) → IsValidHost host → IsValidHost (record host { kept = untouched path host.kept })
