@@ -1,0 +1,44 @@
+// What an entry is to a search: a mask, a file with bytes, something other than a directory.
+ghost use Rattle.std.specs.Prelude.{◌≡◌, ℕ};
+ghost use Rattle.ext_find.specs.Content.{is_full, is_mask};
+
+use ext_tree::{Entry, Stamp};
+
+/// Contents of files whose sizes are known.
+pub trait Measured {
+    /// How many bytes the file has.
+    ghost size: { Self → ℕ };
+
+    /// How many bytes the file has.
+    fn size(&self) -> u64
+        ensures { result ≡ Self.size self.now };
+}
+
+impl Measured for Stamp {
+    ghost size = { λ stamp. stamp.size };
+
+    fn size(&self) -> u64 {
+        self.size
+    }
+}
+
+// Whether it is a mask.
+pub(crate) fn is_mask<C: Measured>(entry: &Entry<C>) -> bool
+    ensures { result ≡ is_mask C.size entry.now }
+{
+    match entry {
+        Entry::Dir(_) | Entry::Opaque(_) | Entry::Hide => false,
+        Entry::File(_, content) => content.size() == 0,
+        Entry::Link(target) => target.bytes().cmp(b"/dev/null".as_slice()).is_eq(),
+    }
+}
+
+// Whether it is a file that is not empty.
+pub(crate) fn is_full<C: Measured>(entry: &Entry<C>) -> bool
+    ensures { result ≡ is_full C.size entry.now }
+{
+    match entry {
+        Entry::Dir(_) | Entry::Opaque(_) | Entry::Link(_) | Entry::Hide => false,
+        Entry::File(_, content) => content.size() != 0,
+    }
+}

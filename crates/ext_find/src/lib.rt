@@ -1,0 +1,25 @@
+//! The search for images: which extensions and portable services a host has, where they are, and what they are.
+//!
+//! [`find`] looks through the search directories of a class and gives each image, mask and image file once. Contracts say
+//! what it finds as a set: of each stem the usable entry that counts first. [`why_broken`] says what is amiss with one
+//! image. [`host_release`] reads the host's own release file. The crates that merge, attach and update images stand on
+//! this one.
+#![tactic(auto)]
+
+mod content;
+mod directories;
+mod ending;
+mod found;
+mod image;
+mod leading;
+mod pick;
+mod row;
+mod search;
+mod seat;
+mod stem;
+mod usable;
+mod version;
+
+pub use content::Measured;
+pub use found::{BreakWhy, Found, FoundItem, FoundKind};
+pub use image::why_broken;
