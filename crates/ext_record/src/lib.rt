@@ -12,7 +12,8 @@ mod printing;
 
 pub use homed::{Homed, kept_entry};
 pub use line::{
-    after_word, host_of, item_of, manifest_of, name_after, number_after, path_after, version_of,
+    MOST_COUNT, after_word, host_of, item_of, manifest_of, name_after, number_after, path_after,
+    version_of,
 };
 pub use out::{Counted, Out, Printed};
 pub use printing::{

@@ -1,0 +1,14 @@
+//! The index of a generation: what a store lists of a host, written, read and measured.
+//!
+//! An index is a text that says of a host what stands at each path, which images are merged and attached, and which files an
+//! update left, and of each file of it where the store keeps the bytes. Text 2 is written; text 1, without hierarchies and
+//! past trees, is read too. The lines come from the crate below; this one has their order, their counts and the rules that
+//! hold between them.
+#![tactic(auto)]
+
+pub mod laws;
+mod printing;
+mod sections;
+mod writing;
+
+pub use writing::{index_size, write_index};

@@ -1,0 +1,106 @@
+// The index of a host is printed, or only its length is told.
+ghost use Rattle.std.specs.Prelude.{◌≡◌, ◌++◌, ◌+◌, ◌∷◌, [], ℕ, List, codes, length, map, true, IfOk, OnOk};
+ghost use Rattle.std.specs.List.{flat_map};
+ghost use Rattle.ext_lines.specs.Lines.{lines_text};
+ghost use Rattle.ext_text.specs.declared.class.Class.{Class};
+ghost use Rattle.ext_record.specs.Lines.{hierarchy_line};
+ghost use Rattle.ext_record.specs.Out.{at_most_64_bits};
+ghost use Rattle.ext_index.specs.Index.{hierarchy_lines, index_lines, index_text, machine_lines, past_lines};
+
+use crate::printing::put_sections;
+use crate::sections::{sections_of_host, sections_of_past};
+use ext_host::{Host, Past};
+use ext_record::{Counted, Out, Printed, put_hierarchy, put_host, put_line, put_number};
+use ext_text::{Class, Name, OutOfMemory, Text};
+use std::alloc::Global;
+
+/// The index of a host in a generation, as text 2.
+///
+/// The generation is that of the index. Where the host is valid for it, the text is read back as the host; a file that is
+/// not kept is listed with a home in this generation, whose number is 0.
+///
+/// # Errors
+/// Out of memory alone.
+pub fn write_index(alloc: Global, host: &Host, generation: u32) -> Result<Text, OutOfMemory>
+    ensures { IfOk result (λ text. text ≡ index_text true generation host.now) }
+{
+    let mut out = Printed::new(alloc);
+    put_index(&mut out, generation, host)?;
+    Ok(out.into_text())
+}
+
+/// The length of the host's index in a generation, as text 2, each file that is not kept counted with a home in this
+/// generation; or 18,446,744,073,709,551,615 where it is longer. It takes no memory.
+pub fn index_size(host: &Host, generation: u32) -> u64
+    ensures { result ≡ at_most_64_bits (length (index_text true generation host.now)) }
+{
+    let mut out = Counted::new();
+    match put_index(&mut out, generation, host) {
+        Ok(()) => out.count(),
+        Err(never) => match never {},
+    }
+}
+
+// Prints the index of a host.
+fn put_index<O: Out>(out: &mut O, generation: u32, host: &Host) -> Result<(), O::Refused>
+    ensures { (before : List ℕ) → O.holds out.old before → OnOk result (O.holds out.new (before ++ index_text true generation host.now)) }
+{
+    put_machine(out, host)?;
+    put_sections(out, generation, sections_of_host(host))?;
+    put_number(out, b"past", host.past.len() as u64)?;
+    put_pasts(out, generation, host.past.as_slice())?;
+    put_line(out, b"end")
+}
+
+// Prints the first line, and those of the machine.
+fn put_machine<O: Out>(out: &mut O, host: &Host) -> Result<(), O::Refused>
+    ensures { (before : List ℕ) → O.holds out.old before → OnOk result (O.holds out.new (before ++ lines_text (machine_lines host.now))) }
+{
+    put_line(out, b"hostext-store 2")?;
+    put_host(out, host.arch, host.scope)?;
+    put_classes(out, host)
+}
+
+// Prints the hierarchies and how many there are.
+fn put_classes<O: Out>(out: &mut O, host: &Host) -> Result<(), O::Refused>
+    ensures { (before : List ℕ) → O.holds out.old before → OnOk result (O.holds out.new (before ++ lines_text (hierarchy_lines host.now))) }
+{
+    put_number(out, b"hierarchies", count_of_hierarchies(host))?;
+    put_hierarchies(out, Class::Sysext, host.sysext_hier.as_slice())?;
+    put_hierarchies(out, Class::Confext, host.confext_hier.as_slice())
+}
+
+// How many hierarchies there are.
+fn count_of_hierarchies(host: &Host) -> u64
+    ensures { result ≡ length host.now.sysext_hier + length host.now.confext_hier }
+{
+    (host.sysext_hier.as_slice().len() + host.confext_hier.as_slice().len()) as u64
+}
+
+// Prints the lines of a class's hierarchies.
+fn put_hierarchies<O: Out>(out: &mut O, class: Class, names: &[Name]) -> Result<(), O::Refused>
+    ensures { (before : List ℕ) → O.holds out.old before → OnOk result (O.holds out.new (before ++ lines_text (map (hierarchy_line class) names.now))) }
+{
+    'names: for name in names {
+        put_hierarchy(out, class, name)?;
+    }
+    Ok(())
+}
+
+// Prints past trees.
+fn put_pasts<O: Out>(out: &mut O, generation: u32, pasts: &[Past]) -> Result<(), O::Refused>
+    ensures { (before : List ℕ) → O.holds out.old before → OnOk result (O.holds out.new (before ++ lines_text (flat_map (past_lines generation) pasts.now))) }
+{
+    'pasts: for past in pasts {
+        put_past(out, generation, past)?;
+    }
+    Ok(())
+}
+
+// Prints a past tree.
+fn put_past<O: Out>(out: &mut O, generation: u32, past: &Past) -> Result<(), O::Refused>
+    ensures { (before : List ℕ) → O.holds out.old before → OnOk result (O.holds out.new (before ++ lines_text (past_lines generation past.now))) }
+{
+    put_number(out, b"g", u64::from(past.generation))?;
+    put_sections(out, generation, sections_of_past(past))
+}
