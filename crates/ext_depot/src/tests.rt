@@ -97,3 +97,15 @@ fn a_call_fails_where_it_is_listed(rt: HostRuntime) -> Result<(), Fail> {
     }
     Ok(())
 }
+
+#[test]
+fn a_read_fails_where_it_is_listed(rt: HostRuntime) -> Result<(), Fail> {
+    let fails = Calls::from_vec(vec![in rt.alloc(); 2]?);
+    let mut depot = filled(rt.alloc(), fails)?;
+    let path = Path::read(rt.alloc(), b"a.tree")?;
+    let mut buf = [b'?'; 4];
+    // Each turn asks for the size first, so that the second call is a read.
+    assert!(rt; read_where_there(&mut depot, &path, 13, &mut buf) == Err(Failed));
+    assert!(rt; read_where_there(&mut depot, &path, 13, &mut buf) == Ok(Some(2)));
+    Ok(())
+}

@@ -81,47 +81,6 @@ pub no_child_root : (dir : List (List ℕ)) → is_child dir [] ≡ false
 no_child_root [] = refl
 no_child_root (k ∷ dir) = refl
 
-both_absent : (b : Bool) → absent ≡ cond b (settled absent) absent
-both_absent true = refl
-both_absent false = refl
-
-settled_either : (tied child : Bool) (w v : Spot) (new old : Option Spot) → (tied ≡ true → place_of w ≡ cond child (settled (place_of v)) (place_of v))
-    → found_place new ≡ cond child (settled (found_place old)) (found_place old)
-    → found_place (cond tied (Some w) new) ≡ cond child (settled (found_place (cond tied (Some v) old))) (found_place (cond tied (Some v) old))
-settled_either true child w v new old here more = here refl
-settled_either false child w v new old here more = more
-
-settled_here : (dir q : List (List ℕ)) (e : List (List ℕ) × Spot) (w : Spot) (rest es : List (List (List ℕ) × Spot)) → place_of w ≡ cond (is_child dir e.0) (settled (place_of e.1)) (place_of e.1)
-    → found_place (lookup (is_at (path_cmp q)) rest) ≡ cond (is_child dir q) (settled (found_place (lookup (is_at (path_cmp q)) es))) (found_place (lookup (is_at (path_cmp q)) es))
-    → (kept : List (List (List ℕ) × Spot)) → kept ≡ (e.0, w) ∷ rest
-    → found_place (lookup (is_at (path_cmp q)) kept) ≡ cond (is_child dir q) (settled (found_place (lookup (is_at (path_cmp q)) (e ∷ es)))) (found_place (lookup (is_at (path_cmp q)) (e ∷ es)))
-settled_here dir q e w rest es here more kept is =
-    ap (λ l. found_place (lookup (is_at (path_cmp q)) l)) is
-    ∙ settled_either (is_at (path_cmp q) e.0) (is_child dir q) w e.1 (lookup (is_at (path_cmp q)) rest) (lookup (is_at (path_cmp q)) es)
-    (λ tied. here ∙ ap (λ k. cond (is_child dir k) (settled (place_of e.1)) (place_of e.1)) (sym (same_path q e.0 tied))) more
-
--- the spots that a closure kept which settles those in the folder, and keeps each
-pub settled_pairs : {F : Type 0} (T : F → List (List ℕ) → Spot → Bool → Spot → F → Type 0) (f : F) (dir : List (List ℕ))
-    → ((k : List (List ℕ)) (v : Spot) (b : Bool) (w : Spot) (g : F) → T f k v b w g → (b ≡ true) × (place_of w ≡ cond (is_child dir k) (settled (place_of v)) (place_of v)) × (g ≡ f))
-    → (es kept : List (List (List ℕ) × Spot)) → RetainsPairs T f es kept → (q : List (List ℕ))
-    → found_place (lookup (is_at (path_cmp q)) kept) ≡ cond (is_child dir q) (settled (found_place (lookup (is_at (path_cmp q)) es))) (found_place (lookup (is_at (path_cmp q)) es))
-settled_pairs T f dir calls [] kept keeps q = ap (λ l. found_place (lookup (is_at (path_cmp q)) l)) keeps ∙ both_absent (is_child dir q)
-settled_pairs T f dir calls (e ∷ es) kept keeps q =
-    let b = keeps.0 in
-    let w = keeps.1 in
-    let rest = keeps.3 in
-    let called = calls e.0 e.1 b w keeps.2 keeps.4 in
-    let more : RetainsPairs T f es rest = subst (λ g. RetainsPairs T g es rest) called.2 keeps.5 in
-    let is : kept ≡ (e.0, w) ∷ rest = keeps.6 ∙ ap (λ (x : Bool). cond x ((e.0, w) ∷ rest) rest) called.0 in
-    settled_here dir q e w rest es called.1 (settled_pairs T f dir calls es rest more q) kept is
-
--- the map after its spots in the folder were settled
-pub settled_at : (m n : Spots) (dir : List (List ℕ))
-    → ((q : List (List ℕ)) → found_place (get path_cmp n q) ≡ cond (is_child dir q) (settled (found_place (get path_cmp m q))) (found_place (get path_cmp m q)))
-    → (q : List (List ℕ)) → place_at n q ≡ settled_in dir (place_at m) q
-settled_at m n dir settles [] = sym (ap (λ b. cond b (settled root_place) root_place) (no_child_root dir))
-settled_at m n dir settles (k ∷ q) = settles (k ∷ q)
-
 pub on_ok : {T E : Type 0} (r : Result T E) (P Q : Type 0) → (P → Q) → OnOk r P → OnOk r Q
 on_ok (Ok x) P Q gives holds = gives holds
 on_ok (Err e) P Q gives holds = tt

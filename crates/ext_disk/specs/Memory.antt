@@ -1,5 +1,5 @@
--- What contracts see of a disk in memory.
-use Rattle.std.specs.Prelude.{◌≡◌, [], Some, None, Result, Ok, Err, true, false}
+-- What contracts see of a disk in memory: what it is as a disk, each path, and what it counts and keeps of its calls.
+use Rattle.std.specs.Prelude.{◌≡◌, ℕ, List, [], Option, Some, None, Bool, Result, Ok, Err, true, false}
 use Rattle.ext_disk.specs.Disk.{Places, Told, DiskState}
 use Rattle.ext_disk.specs.Deeds.{told_of, replay}
 use Rattle.ext_disk.specs.Meter.{IsMetered}
@@ -12,27 +12,47 @@ use Rattle.ext_disk.specs.declared.memory_disk.MemoryDisk.{MemoryDisk}
 abbrev pub told_by : History → Told
 told_by history = told_of history.given.items history.deeds.items history.appended
 
--- each path, as it stands now
-abbrev pub places_of : History → Places
-places_of history = replay history.given.items history.deeds.items
+-- each path that a history came to
+abbrev pub came_to : History → Places
+came_to history = replay history.given.items history.deeds.items
 
 -- it tells everything
 abbrev pub memory_state : MemoryDisk → DiskState
 memory_state disk = record { told = Some (told_by disk.history); faults = disk.meter.faults }
 
--- the call was metered; where a folder's names found no memory, as one that was done
-abbrev pub IsListMetered : {T : Type 0} → MemoryDisk → MemoryDisk → DiskCall → Result T ListErr → Type 0
-IsListMetered old new call (Ok _) = IsMetered old.meter new.meter call true
-IsListMetered old new call (Err Failed) = IsMetered old.meter new.meter call false
-IsListMetered old new call (Err OutOfMemory) = IsMetered old.meter new.meter call true
+-- each path, as it stands now
+abbrev pub places_of : MemoryDisk → Places
+places_of disk = came_to disk.history
 
--- no call was made of the disk, and none is to fail
-pub record IsUnused (disk : MemoryDisk) : Type 0 where
-  pub deeds : disk.history.deeds.items ≡ []
-  pub appended : disk.history.appended ≡ 0
-  pub fails : disk.meter.fails ≡ []
-  pub stop : disk.meter.stop ≡ None
+-- the sum of the bytes of the appends that were done
+abbrev pub appended_on : MemoryDisk → ℕ
+appended_on disk = disk.history.appended
+
+-- the record of its calls
+abbrev pub calls_of : MemoryDisk → List DiskCall
+calls_of disk = disk.meter.calls.items
+
+-- how many calls found no memory
+abbrev pub starved_of : MemoryDisk → ℕ
+starved_of disk = disk.meter.starved
+
+-- one call, done or failed: it fails exactly where it is to fail or found no memory, and is kept in the record
+abbrev pub IsCalled : MemoryDisk → MemoryDisk → DiskCall → Bool → Type 0
+IsCalled old new call done = IsMetered old.meter new.meter call done
+
+-- the same of `list`; where the names found no memory, as of one that was done
+abbrev pub IsListed : {T : Type 0} → MemoryDisk → MemoryDisk → DiskCall → Result T ListErr → Type 0
+IsListed old new call (Ok _) = IsCalled old new call true
+IsListed old new call (Err Failed) = IsCalled old new call false
+IsListed old new call (Err OutOfMemory) = IsCalled old new call true
+
+-- no call was made of the disk yet, and the calls of these numbers are to fail, and each one from the number of the stop on
+pub record IsUncalled (disk : MemoryDisk) (fails : List ℕ) (stop : Option ℕ) : Type 0 where
+  pub clock : (told_by disk.history).clock ≡ 0
+  pub appended : appended_on disk ≡ 0
+  pub fails_are : disk.meter.fails ≡ fails
+  pub stop_is : disk.meter.stop ≡ stop
   pub called : disk.meter.called ≡ 0
-  pub calls : disk.meter.calls.items ≡ []
-  pub starved : disk.meter.starved ≡ 0
-  pub faults : disk.meter.faults ≡ 0
+  pub calls : calls_of disk ≡ []
+  pub starved : starved_of disk ≡ 0
+  pub faults : (memory_state disk).faults ≡ 0

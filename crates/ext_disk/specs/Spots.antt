@@ -1,10 +1,10 @@
 -- A disk in memory: what its map says of each path.
-use Rattle.std.specs.Prelude.{◌≡◌, ℕ, true, List, [], ◌∷◌, ◌++◌, Option, Some, None, if◌then◌else◌}
+use Rattle.std.specs.Prelude.{◌≡◌, ℕ, Bool, true, not, ◌&&◌, List, [], ◌∷◌, ◌++◌, Option, Some, None, if◌then◌else◌}
 use Rattle.std.specs.Option.{option_map, is_some}
 use Rattle.std.specs.BTreeMap.{BTreeMap, get}
 use Rattle.ext_text.specs.Path.{path_cmp}
-use Rattle.ext_disk.specs.Disk.{Node, folder, file, Place, Places, Swing, absent, root_place, is_file, is_no_folder}
-use Rattle.ext_disk.specs.Calls.{child_name}
+use Rattle.ext_disk.specs.Disk.{Node, folder, file, Place, Places, Swing, absent, root_place, is_file, is_no_folder, is_settled}
+use Rattle.ext_disk.specs.Calls.{child_name, is_child}
 use Rattle.ext_disk.specs.declared.spot.Content.{Content}
 use Rattle.ext_disk.specs.declared.spot.Content.TheVariants.{Absent, Folder, File}
 use Rattle.ext_disk.specs.declared.spot.Spot.{Spot}
@@ -50,3 +50,11 @@ pub record IsGrown (d : Places) : Type 0 where
 -- the name of a path in a folder, where something stands there
 abbrev pub spot_name : List (List ℕ) → List (List ℕ) → Spot → Option (List ℕ)
 spot_name dir path spot = if is_some (node_of spot.content) then child_name dir path else None
+
+-- a path directly in the folder whose name is not settled
+abbrev pub is_open_in : List (List ℕ) → Places → List (List ℕ) → Bool
+is_open_in dir d q = is_child dir q && not (is_settled (d q))
+
+-- the same, of the path's own spot
+abbrev pub is_open : List (List ℕ) → List (List ℕ) → Spot → Bool
+is_open dir path spot = is_child dir path && not (is_settled (place_of spot))

@@ -2,7 +2,8 @@
 ghost use Rattle.std.specs.Prelude.{◌≡◌, IfOk};
 ghost use Rattle.ext_disk.specs.Calls.{make_dir, make_file, append, sync_file, sync_dir, rename, remove};
 
-use ext_text::{OutOfMemory, Path, Text};
+use crate::pieces::Piece;
+use ext_text::{OutOfMemory, Path};
 use std::alloc::Global;
 
 /// One of the calls that change something, with its paths and bytes.
@@ -10,7 +11,7 @@ use std::alloc::Global;
 pub(crate) enum Deed {
     MakeDir(Path),
     MakeFile(Path),
-    Append(Path, Text),
+    Append(Path, Piece),
     SyncFile(Path),
     SyncDir(Path),
     Rename(Path, Path),
@@ -36,8 +37,8 @@ impl Deed {
         ensures { IfOk result (λ deed. append path.now bytes.now ≡ call_of deed) }
     {
         let path = path.copy()?;
-        let bytes = Text::from_bytes(alloc, bytes)?;
-        Ok(Deed::Append(path, bytes))
+        let piece = Piece::from_bytes(alloc, bytes)?;
+        Ok(Deed::Append(path, piece))
     }
 
     pub(crate) fn sync_file(path: &Path) -> Result<Deed, OutOfMemory>

@@ -6,17 +6,19 @@ ghost use Rattle.ext_disk.specs.Spots.{place_of, place_at, IsGrown};
 ghost use Rattle.ext_disk.specs.Deeds.{IsWhole, call_of, empty_places, given_from, replay};
 
 use crate::deed::Deed;
+use crate::pieces::Pieces;
+use crate::settling::settle_in;
 use crate::spot::{Content, Spot};
 use crate::spots::{
-    Spots, append_at, harden_at, is_firm_at, leave_at, put_spot, reach_at, reserve, settle_in,
+    Spots, append_at, harden_at, is_firm_at, leave_at, put_spot, reach_at, reserve,
 };
 use crate::stopped::spots_of;
-use ext_text::{OutOfMemory, Path, Text};
+use ext_text::{OutOfMemory, Path};
 use std::alloc::Global;
 
 /// What stands on a disk in memory, what it began with, and everything that was done to it since: a stop at an earlier
-/// moment leaves what it may leave of what stood then, so the past is kept. Bytes are held twice, where they stand and
-/// where they came from.
+/// moment leaves what it may leave of what stood then, so the past is kept. Bytes that were appended are held once, in
+/// pieces that the file and the past share.
 #[derive(Debug, Drop)]
 pub(crate) struct History {
     pub(crate) alloc: Global,
@@ -91,7 +93,7 @@ fn sum_after(sum: u64, deed: &Deed) -> u64
     ensures { result ≡ appended_after (call_of deed.now) sum }
 {
     match deed {
-        Deed::Append(_path, bytes) => sum.saturating_add(bytes.bytes().len() as u64),
+        Deed::Append(_path, piece) => sum.saturating_add(piece.bytes().len() as u64),
         _ => sum,
     }
 }
@@ -107,15 +109,12 @@ fn apply(alloc: Global, spots: &mut Spots, deed: &Deed) -> Result<(), OutOfMemor
     match deed {
         Deed::MakeDir(path) => put_spot(spots, path, Spot::loose(Content::Folder, false)),
         Deed::MakeFile(path) => put_spot(spots, path, empty_file(alloc)),
-        Deed::Append(path, bytes) => append_at(spots, path, bytes.bytes()),
+        Deed::Append(path, piece) => append_at(spots, path, piece),
         Deed::SyncFile(path) => {
             harden_at(spots, path);
             Ok(())
         }
-        Deed::SyncDir(dir) => {
-            settle_in(spots, dir);
-            Ok(())
-        }
+        Deed::SyncDir(dir) => settle_in(alloc, spots, dir),
         Deed::Rename(from, to) => rename_in(alloc, spots, from, to),
         Deed::Remove(path) => put_spot(spots, path, Spot::loose(Content::Absent, false)),
     }
@@ -125,7 +124,7 @@ fn apply(alloc: Global, spots: &mut Spots, deed: &Deed) -> Result<(), OutOfMemor
 fn empty_file(alloc: Global) -> Spot
     ensures { place_of result ≡ loosened (Some (file [])) true }
 {
-    Spot::loose(Content::File(Text::new(alloc)), true)
+    Spot::loose(Content::File(Pieces::new(alloc)), true)
 }
 
 // Moves a file in its folder. At an error no place has changed.

@@ -18,6 +18,8 @@ mod listing;
 mod memory_disk;
 mod meter;
 mod pick;
+mod pieces;
+mod settling;
 mod spot;
 mod spots;
 mod stopped;

@@ -1,11 +1,12 @@
 // What a disk in memory holds of one path.
-ghost use Rattle.std.specs.Prelude.{◌≡◌, ◌++◌, true, false, None, Some, IfOk, OnOk, OnErr};
+ghost use Rattle.std.specs.Prelude.{◌≡◌, ◌++◌, true, false, None, Some, IfOk, OnOk, OnErr, codes};
 ghost use Rattle.ext_disk.specs.Disk.{Place, absent, file, is_file};
 ghost use Rattle.ext_disk.specs.Calls.{bytes_of, written, settled, left_place, reached_place};
 ghost use Rattle.ext_disk.specs.Picked.{junked};
 ghost use Rattle.ext_disk.specs.Spots.{node_of, place_of};
 
-use ext_text::{OutOfMemory, Text};
+use crate::pieces::{Piece, Pieces};
+use ext_text::OutOfMemory;
 use std::alloc::Global;
 use std::mem;
 
@@ -14,7 +15,7 @@ use std::mem;
 pub(crate) enum Content {
     Absent,
     Folder,
-    File(Text),
+    File(Pieces),
 }
 
 /// What stands at a path, and its marks. Of a swung path the new file is the one that stands there, so that the old one
@@ -28,14 +29,14 @@ pub(crate) struct Spot {
 }
 
 impl Content {
-    /// An equal content.
+    /// An equal content; the bytes of a file are not copied.
     pub(crate) fn copy(&self) -> Result<Content, OutOfMemory>
         ensures { IfOk result (λ copy. copy ≡ self.now) }
     {
         match self {
             Content::Absent => Ok(Content::Absent),
             Content::Folder => Ok(Content::Folder),
-            Content::File(text) => Ok(Content::File(text.copy()?)),
+            Content::File(pieces) => Ok(Content::File(pieces.copy()?)),
         }
     }
 
@@ -46,7 +47,7 @@ impl Content {
         match self {
             Content::Absent => Ok(Content::Absent),
             Content::Folder => Ok(Content::Folder),
-            Content::File(_bytes) => Ok(Content::File(Text::from_bytes(alloc, b"junk")?)),
+            Content::File(_pieces) => Ok(Content::File(junk(alloc)?)),
         }
     }
 }
@@ -76,14 +77,14 @@ impl Spot {
         }
     }
 
-    /// Adds bytes at the end of the file, which is soft from then on.
-    pub(crate) fn append(&mut self, bytes: &[u8]) -> Result<(), OutOfMemory>
+    /// Adds a piece at the end of the file, which is soft from then on.
+    pub(crate) fn append(&mut self, piece: &Piece) -> Result<(), OutOfMemory>
         requires { is_file (node_of self.old.content) ≡ true }
         ensures ok { OnOk result (place_of self.new
-            ≡ written (bytes_of (node_of self.old.content) ++ bytes.now) (place_of self.old)) }
+            ≡ written (bytes_of (node_of self.old.content) ++ piece.now) (place_of self.old)) }
         ensures err { OnErr result (place_of self.new ≡ place_of self.old) }
     {
-        append_to(&mut self.content, bytes)?;
+        append_to(&mut self.content, piece)?;
         self.loose = self.loose || self.swung.is_some();
         self.swung = None;
         self.soft = true;
@@ -133,15 +134,24 @@ impl Spot {
     }
 }
 
-// Adds bytes at the end of a file.
-fn append_to(content: &mut Content, bytes: &[u8]) -> Result<(), OutOfMemory>
+// The bytes that a stop may have put in the place of others.
+fn junk(alloc: Global) -> Result<Pieces, OutOfMemory>
+    ensures { IfOk result (λ pieces. pieces ≡ codes "junk") }
+{
+    let mut pieces = Pieces::new(alloc);
+    pieces.append(&Piece::from_bytes(alloc, b"junk")?)?;
+    Ok(pieces)
+}
+
+// Adds a piece at the end of a file.
+fn append_to(content: &mut Content, piece: &Piece) -> Result<(), OutOfMemory>
     requires { is_file (node_of content.old) ≡ true }
     ensures ok { OnOk result (node_of content.new
-        ≡ Some (file (bytes_of (node_of content.old) ++ bytes.now))) }
+        ≡ Some (file (bytes_of (node_of content.old) ++ piece.now))) }
     ensures err { OnErr result (content.new ≡ content.old) }
 {
     match content {
-        Content::File(text) => text.append(bytes),
+        Content::File(pieces) => pieces.append(piece),
         _ => Ok(()),
     }
 }

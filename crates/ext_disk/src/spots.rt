@@ -4,11 +4,12 @@ ghost use Rattle.std.specs.Option.{option_copied};
 ghost use Rattle.std.specs.BTreeMap.{get};
 ghost use Rattle.ext_text.specs.Path.{IsPath, path_cmp};
 ghost use Rattle.ext_disk.specs.Disk.{Place, file, is_file, is_settled, is_firm, at_prefixes};
-ghost use Rattle.ext_disk.specs.Calls.{put, child_name, is_child, bytes_of, written, settled, settled_in, left_place, reached_place};
+ghost use Rattle.ext_disk.specs.Calls.{put, child_name, bytes_of, written, left_place, reached_place};
 ghost use Rattle.ext_disk.specs.Lookups.{kind_of};
 ghost use Rattle.ext_disk.specs.Spots.{Spots, node_of, place_of, place_at, found_place};
 
 use crate::kind::Kind;
+use crate::pieces::{Piece, Pieces};
 use crate::spot::{Content, Spot};
 use ext_text::{Name, OutOfMemory, Path};
 use std::alloc::Global;
@@ -29,15 +30,15 @@ pub(crate) fn put_spot(spots: &mut Spots, path: &Path, spot: Spot) -> Result<(),
     Ok(())
 }
 
-/// Adds bytes at the end of the file at the path.
-pub(crate) fn append_at(spots: &mut Spots, path: &Path, bytes: &[u8]) -> Result<(), OutOfMemory>
+/// Adds a piece at the end of the file at the path.
+pub(crate) fn append_at(spots: &mut Spots, path: &Path, piece: &Piece) -> Result<(), OutOfMemory>
     requires { is_file (place_at spots.old path.now).node ≡ true }
     ensures ok { OnOk result ((q : List (List ℕ)) → place_at spots.new q
-        ≡ put path.now (written (bytes_of (place_at spots.old path.now).node ++ bytes.now) (place_at spots.old path.now)) (place_at spots.old) q) }
+        ≡ put path.now (written (bytes_of (place_at spots.old path.now).node ++ piece.now) (place_at spots.old path.now)) (place_at spots.old) q) }
     ensures err { OnErr result ((q : List (List ℕ)) → place_at spots.new q ≡ place_at spots.old q) }
 {
     match spots.get_mut(path) {
-        Some(spot) => spot.append(bytes),
+        Some(spot) => spot.append(piece),
         None => Ok(()),
     }
 }
@@ -90,25 +91,6 @@ pub(crate) fn reach_at(spots: &mut Spots, path: &Path, file: Content, firm: bool
     if let Some(spot) = spots.get_mut(path) {
         spot.reach(file, firm);
     }
-}
-
-/// Settles each name directly in the folder.
-pub(crate) fn settle_in(spots: &mut Spots, dir: &Path)
-    ensures { (q : List (List ℕ)) → place_at spots.new q ≡ settled_in dir.now (place_at spots.old) q }
-{
-    spots.retain(|path, spot| settle_child(dir, path, spot));
-}
-
-// Settles the name of a path where it is directly in the folder. It always stays in the map.
-fn settle_child(dir: &Path, path: &Path, spot: &mut Spot) -> bool
-    ensures stays { result ≡ true }
-    ensures settled { place_of spot.new
-        ≡ (if is_child dir.now path.now then settled (place_of spot.old) else place_of spot.old) }
-{
-    if name_in(dir, path).is_some() {
-        spot.settle();
-    }
-    true
 }
 
 /// The name of a path in a folder, where it is directly in it.
@@ -216,12 +198,12 @@ fn content_kind(content: &Content) -> Option<Kind>
     match content {
         Content::Absent => None,
         Content::Folder => Some(Kind::Dir),
-        Content::File(text) => Some(Kind::File(text.bytes().len() as u64)),
+        Content::File(pieces) => Some(Kind::File(pieces.size())),
     }
 }
 
 /// The bytes of the file at the path, where one stands there.
-pub(crate) fn bytes_at<'a>(spots: &'a Spots, path: &Path) -> Option<&'a [u8]>
+pub(crate) fn bytes_at<'a>(spots: &'a Spots, path: &Path) -> Option<&'a Pieces>
     ensures { MatchOption result (is_file (place_at spots.now path.now).node ≡ false)
         (λ bytes. (place_at spots.now path.now).node ≡ Some (file bytes.now)) }
 {
@@ -235,12 +217,12 @@ pub(crate) fn bytes_at<'a>(spots: &'a Spots, path: &Path) -> Option<&'a [u8]>
 }
 
 // The bytes of a file.
-fn file_bytes(content: &Content) -> Option<&[u8]>
+fn file_bytes(content: &Content) -> Option<&Pieces>
     ensures { MatchOption result (is_file (node_of content.now) ≡ false)
         (λ bytes. node_of content.now ≡ Some (file bytes.now)) }
 {
     match content {
-        Content::File(text) => Some(text.bytes()),
+        Content::File(pieces) => Some(pieces),
         _ => None,
     }
 }

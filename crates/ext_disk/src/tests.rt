@@ -3,7 +3,7 @@ mod script;
 
 use crate::tests::acts::{Act, list, perform, read, shown};
 use crate::tests::script::{PATHS, SCRIPT, Step};
-use crate::{Disk, Kind, MemoryDisk, Pick, laws};
+use crate::{Disk, DiskOp, Kind, MemoryDisk, Pick, laws};
 use ext_io::{Calls, Failed};
 use ext_text::{Path, Text};
 use std::alloc::Global;
@@ -142,87 +142,188 @@ fn stands(
     Ok(disk.kind(&Path::read(alloc, path)?)? == kind)
 }
 
+// Which call the record keeps last.
+fn last_op(disk: &MemoryDisk) -> Option<DiskOp> {
+    match disk.call(disk.calls().saturating_sub(1)) {
+        Some(call) => Some(call.op),
+        None => None,
+    }
+}
+
 #[test]
 fn what_stands_at_a_path_is_told(rt: HostRuntime) -> Result<(), Fail> {
     let mut disk = after(rt.alloc(), 8)?;
     for (path, kind) in &KINDS {
         assert!(rt; stands(rt.alloc(), &mut disk, path, *kind)?);
     }
+    assert!(rt; last_op(&disk) == Some(DiskOp::Kind));
     Ok(())
 }
 
-// The names in a folder after the first ten calls of the script, each before a slash.
-static NAMES: [(&[u8], &[u8]); 2] = [(b"", b"d/"), (b"d", b"a/b/")];
+// The names in a folder after so many calls of the script, each before a slash; `None` where no folder stands, which
+// can't be listed.
+static NAMES: [(usize, &[u8], Option<&[u8]>); 6] = [
+    (10, b"", Some(b"d/")),
+    (10, b"d", Some(b"a/b/")),
+    (1, b"d", Some(b"")),
+    (10, b"d/a", None),
+    (10, b"d/a/b", None),
+    (10, b"d/c", None),
+];
 
-fn lists(alloc: Global, disk: &mut MemoryDisk, dir: &[u8], names: &[u8]) -> Result<bool, Fail> {
-    let listed = list(alloc, disk, &Path::read(alloc, dir)?).ok_or("a folder")??;
+fn lists(alloc: Global, count: usize, dir: &[u8], names: Option<&[u8]>) -> Result<bool, Fail> {
+    let mut disk = after(alloc, count)?;
+    let Some(listed) = list(alloc, &mut disk, &Path::read(alloc, dir)?) else {
+        return Ok(names.is_none());
+    };
     let mut text = Text::new(alloc);
-    for name in listed.as_slice() {
+    for name in listed?.as_slice() {
         text.append(name.bytes())?;
         text.append(b"/")?;
     }
-    Ok(text.bytes() == names)
+    Ok(Some(text.bytes()) == names && last_op(&disk) == Some(DiskOp::List))
 }
 
 #[test]
 fn a_folder_is_listed_in_byte_order(rt: HostRuntime) -> Result<(), Fail> {
-    let mut disk = after(rt.alloc(), 10)?;
-    for (dir, names) in &NAMES {
-        assert!(rt; lists(rt.alloc(), &mut disk, dir, names)?);
+    for (count, dir, names) in &NAMES {
+        assert!(rt; lists(rt.alloc(), *count, dir, *names)?);
     }
     Ok(())
 }
 
-// Where a read of a file of ten bytes begins, the room for it, and what it gives.
-static READS: [(u64, usize, &[u8]); 7] = [
-    (0, 4, b"0123"),
-    (0, 10, b"0123456789"),
-    (0, 65_536, b"0123456789"),
-    (7, 4, b"789"),
-    (9, 1, b"9"),
-    (10, 4, b""),
-    (18_446_744_073_709_551_615, 4, b""),
+// A call at a name in a folder after the first ten calls of the script, and whether its condition holds there: at a path at
+// which nothing stands, at a file, at a folder, below a file, and at the root where it has a folder alone. Where it does not
+// hold the call can't be made of a disk that tells what stands on it.
+static ALLOWED: [(Act, &[u8], &[u8], bool); 28] = [
+    (Act::MakeDir, b"d", b"c", true),
+    (Act::MakeDir, b"d", b"a", false),
+    (Act::MakeDir, b"", b"d", false),
+    (Act::MakeDir, b"d/a", b"b", false),
+    (Act::MakeFile, b"d", b"c", true),
+    (Act::MakeFile, b"d", b"a", false),
+    (Act::MakeFile, b"", b"d", false),
+    (Act::MakeFile, b"d/a", b"b", false),
+    (Act::Append(b"one"), b"d", b"c", false),
+    (Act::Append(b"one"), b"d", b"a", true),
+    (Act::Append(b""), b"d", b"a", false),
+    (Act::Append(b"one"), b"", b"d", false),
+    (Act::Append(b"one"), b"d/a", b"b", false),
+    (Act::SyncFile, b"d", b"c", false),
+    (Act::SyncFile, b"d", b"a", true),
+    (Act::SyncFile, b"", b"d", false),
+    (Act::SyncDir, b"d/c", b"x", false),
+    (Act::SyncDir, b"d/a", b"x", false),
+    (Act::SyncDir, b"d", b"x", true),
+    (Act::SyncDir, b"", b"x", true),
+    (Act::Rename(b"e"), b"d", b"c", false),
+    (Act::Rename(b"c"), b"d", b"a", true),
+    (Act::Rename(b"a"), b"d", b"a", false),
+    (Act::Rename(b"e"), b"", b"d", false),
+    (Act::Remove, b"d", b"c", false),
+    (Act::Remove, b"d", b"a", true),
+    (Act::Remove, b"", b"d", false),
+    (Act::Remove, b"d/a", b"b", false),
 ];
+
+fn is_done(alloc: Global, act: Act, dir: &[u8], name: &[u8]) -> Result<bool, Fail> {
+    let mut disk = after(alloc, 10)?;
+    Ok(perform(alloc, &mut disk, act, dir, name)? == Some(Ok(())))
+}
+
+#[test]
+fn a_call_is_done_where_its_condition_holds(rt: HostRuntime) -> Result<(), Fail> {
+    for (act, dir, name, allowed) in &ALLOWED {
+        assert!(rt; is_done(rt.alloc(), *act, dir, name)? == *allowed);
+    }
+    Ok(())
+}
+
+// A path, where a read there begins, the room for it, and what it gives: a file of ten bytes, which were appended by five.
+// `None` where no file stands, which can't be read.
+static READS: [(&[u8], u64, usize, Option<&[u8]>); 13] = [
+    (b"a", 0, 4, Some(b"0123")),
+    (b"a", 0, 5, Some(b"01234")),
+    (b"a", 3, 4, Some(b"3456")),
+    (b"a", 0, 10, Some(b"0123456789")),
+    (b"a", 0, 65_536, Some(b"0123456789")),
+    (b"a", 7, 4, Some(b"789")),
+    (b"a", 9, 1, Some(b"9")),
+    (b"a", 10, 4, Some(b"")),
+    (b"a", 18_446_744_073_709_551_615, 4, Some(b"")),
+    (b"d", 0, 4, None),
+    (b"", 0, 4, None),
+    (b"b", 0, 4, None),
+    (b"a/b", 0, 4, None),
+];
+
+// A file and a folder.
+fn with_file(alloc: Global) -> Result<MemoryDisk, Fail> {
+    let mut disk = MemoryDisk::new(alloc, Calls::new(alloc), None);
+    perform(alloc, &mut disk, Act::MakeDir, b"", b"d")?.ok_or("not allowed")??;
+    for act in [Act::MakeFile, Act::Append(b"01234"), Act::Append(b"56789")] {
+        perform(alloc, &mut disk, act, b"", b"a")?.ok_or("not allowed")??;
+    }
+    Ok(disk)
+}
 
 fn reads(
     alloc: Global,
     disk: &mut MemoryDisk,
-    at: u64,
-    room: usize,
-    bytes: &[u8],
+    (path, at, room, bytes): (&[u8], u64, usize, Option<&[u8]>),
 ) -> Result<bool, Fail> {
     let mut buf = vec![in alloc; b'?'; room]?;
     if buf.is_empty() {
         return Ok(false);
     }
-    let count = read(disk, &Path::read(alloc, b"a")?, at, &mut buf).ok_or("a file")??;
-    Ok(buf.get(..count) == Some(bytes))
+    let Some(count) = read(disk, &Path::read(alloc, path)?, at, &mut buf) else {
+        return Ok(bytes.is_none());
+    };
+    Ok(buf.get(..count?) == bytes && last_op(disk) == Some(DiskOp::Read))
 }
 
 #[test]
 fn a_file_is_read_from_any_byte(rt: HostRuntime) -> Result<(), Fail> {
-    let alloc = rt.alloc();
-    let mut disk = MemoryDisk::new(alloc, Calls::new(alloc), None);
-    for act in [Act::MakeFile, Act::Append(b"01234"), Act::Append(b"56789")] {
-        perform(alloc, &mut disk, act, b"", b"a")?.ok_or("not allowed")??;
-    }
-    for (at, room, bytes) in &READS {
-        assert!(rt; reads(alloc, &mut disk, *at, *room, bytes)?, "from {at}");
+    let mut disk = with_file(rt.alloc())?;
+    for row in &READS {
+        assert!(rt; reads(rt.alloc(), &mut disk, *row)?);
     }
     Ok(())
 }
 
 #[test]
-fn a_folder_in_which_a_rename_failed_is_removed(rt: HostRuntime) -> Result<(), Fail> {
+fn a_file_is_read_whole_in_pieces_of_one(rt: HostRuntime) -> Result<(), Fail> {
     let alloc = rt.alloc();
+    let mut disk = with_file(alloc)?;
+    let path = Path::read(alloc, b"a")?;
+    let mut whole = Text::new(alloc);
+    for at in 0..11u64 {
+        let mut buf = [b'?'];
+        let count = read(&mut disk, &path, at, &mut buf).ok_or("a file")??;
+        whole.append(buf.get(..count).ok_or("within")?)?;
+    }
+    assert!(rt; whole.bytes() == b"0123456789".as_slice());
+    Ok(())
+}
+
+// The disk after a rename in a folder failed, and the folder was removed with the files in it.
+fn without_folder(alloc: Global) -> Result<MemoryDisk, Fail> {
     let mut disk = run(alloc, failing(alloc, 11)?, 10)?;
-    let failed = perform(alloc, &mut disk, Act::Rename(b"a"), b"d", b"b")?;
-    assert!(rt; failed == Some(Err(Failed)));
+    let renamed = perform(alloc, &mut disk, Act::Rename(b"a"), b"d", b"b")?.ok_or("not allowed")?;
+    let _failed = renamed.err().ok_or("it failed")?;
     perform(alloc, &mut disk, Act::Remove, b"d", b"a")?.ok_or("not allowed")??;
     perform(alloc, &mut disk, Act::Remove, b"d", b"b")?.ok_or("not allowed")??;
     perform(alloc, &mut disk, Act::Remove, b"", b"d")?.ok_or("not allowed")??;
-    // What was removed is loose, and what is loose vanishes.
-    assert!(rt; shows(alloc, &disk.after_stop(Pick::Old)?, b"")?);
+    Ok(disk)
+}
+
+#[test]
+fn a_folder_in_which_a_rename_failed_is_removed(rt: HostRuntime) -> Result<(), Fail> {
+    // What was removed is loose, and what is loose vanishes or stays away.
+    for pick in [Pick::Old, Pick::New, Pick::Junk] {
+        let disk = without_folder(rt.alloc())?.after_stop(pick)?;
+        assert!(rt; shows(rt.alloc(), &disk, b"")?);
+    }
     Ok(())
 }
 

@@ -3,7 +3,7 @@ ghost use Rattle.std.specs.Prelude.{◌≡◌, ◌≢◌, ◌<◌, ◌∷◌, �
 ghost use Rattle.ext_disk.specs.Disk.{is_file, is_folder, is_no_folder};
 ghost use Rattle.ext_disk.specs.Calls.{IsFree, CanRename, IsEmptyFolder};
 ghost use Rattle.ext_disk.specs.Spots.{place_at};
-ghost use Rattle.ext_disk.specs.Memory.{places_of};
+ghost use Rattle.ext_disk.specs.Memory.{came_to};
 
 use crate::disk::Disk;
 use crate::history::History;
@@ -78,7 +78,7 @@ fn is_file(history: &History, path: &Path) -> bool
 
 fn is_free(history: &History, dir: &Path, name: &Name, path: &Path) -> bool
     requires { path.now ≡ dir.now ++ name.now ∷ [] }
-    ensures { IsTrue result → IsFree (places_of history.now) path.now }
+    ensures { IsTrue result → IsFree (came_to history.now) path.now }
 {
     if !is_folder(history, dir) {
         return false;
@@ -129,7 +129,7 @@ fn settle(disk: &mut MemoryDisk, dir: &Path) -> Option<Result<(), Failed>> {
 fn can_rename(history: &History, dir: &Path, names: (&Name, &Name), from: &Path, to: &Path) -> bool
     requires from { from.now ≡ dir.now ++ names.0.now ∷ [] }
     requires to { to.now ≡ dir.now ++ names.1.now ∷ [] }
-    ensures { IsTrue result → CanRename (places_of history.now) from.now to.now }
+    ensures { IsTrue result → CanRename (came_to history.now) from.now to.now }
 {
     if from.cmp(to).is_eq() || is_folder(history, to) {
         return false;
@@ -153,7 +153,7 @@ fn rename(
 
 fn is_empty_folder(alloc: Global, history: &History, path: &Path) -> Result<bool, OutOfMemory>
     requires { path.now ≢ [] }
-    ensures { IfOk result (λ empty. IsTrue empty → IsEmptyFolder (places_of history.now) path.now) }
+    ensures { IfOk result (λ empty. IsTrue empty → IsEmptyFolder (came_to history.now) path.now) }
 {
     let names = names_in(alloc, &history.spots, path)?;
     if !is_folder(history, path) {
@@ -203,7 +203,9 @@ pub(crate) fn shown(alloc: Global, disk: &MemoryDisk, paths: &[&[u8]]) -> Result
         if let Some(file) = bytes_at(&disk.history.spots, &path) {
             text.append(bytes)?;
             text.append(b":")?;
-            text.append(file)?;
+            let mut room = [b'?'; 16];
+            let count = file.read(0, &mut room);
+            text.append(&room[..count])?;
             text.append(b" ")?;
         }
     }
