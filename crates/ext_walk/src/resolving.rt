@@ -31,11 +31,11 @@ pub fn resolve<C>(alloc: Global, tree: &Tree<C>, path: &Path) -> Result<Option<P
 ///
 /// # Errors
 /// `OutOfMemory` alone.
-pub fn end_of_path<'a, C>(
+pub fn end_of_path<'a: 'b, 'b, C>(
     alloc: Global,
     tree: &'a Tree<C>,
     image: &'a [Name],
-    names: &'a [Name],
+    names: &'b [Name],
 ) -> Result<Option<&'a [Name]>, OutOfMemory>
     ensures { IfOk result (ResolvesIn tree.now image.now names.now) }
 {
@@ -49,11 +49,11 @@ pub fn end_of_path<'a, C>(
 ///
 /// # Errors
 /// `OutOfMemory` alone.
-pub fn end_of_text<'a, C>(
+pub fn end_of_text<'a: 'b, 'b, C>(
     alloc: Global,
     tree: &'a Tree<C>,
     image: &'a [Name],
-    text: &'a [u8],
+    text: &'b [u8],
 ) -> Result<Option<&'a [Name]>, OutOfMemory>
     ensures { IfOk result (ResolvesIn tree.now image.now (parts text.now)) }
 {

@@ -35,10 +35,10 @@ pub enum Stop<'a> {
 }
 
 // The end of the walk along the names that are left.
-pub(crate) fn walk_end<'a, C>(
+pub(crate) fn walk_end<'a: 'b, 'b, C>(
     tree: &'a Tree<C>,
     image: &'a [Name],
-    names: Vec<&'a [u8]>,
+    names: Vec<&'b [u8]>,
 ) -> Result<Option<&'a [Name]>, OutOfMemory>
     ensures { IfOk result (ResolvesIn tree.now image.now (upcoming names.entry.items)) }
 {
@@ -62,11 +62,11 @@ pub(crate) fn walk_end<'a, C>(
 }
 
 // Goes along the names that are left, to the end or to the next link.
-fn to_link<'a, C>(
+fn to_link<'a, 'b, C>(
     tree: &'a Tree<C>,
     image: &'a [Name],
     from: &'a [Name],
-    left: &mut Vec<&'a [u8]>,
+    left: &mut Vec<&'b [u8]>,
 ) -> Stop<'a>
     ensures { (at : List (List ℕ)) → from.now ≡ image.now ++ at → Stops tree.now image.now at (upcoming left.old.items) (upcoming left.new.items) result }
 {
