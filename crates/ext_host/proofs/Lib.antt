@@ -7,3 +7,5 @@ pub mod DrawnLemmas
 pub mod TouchLemmas
 pub mod StampLemmas
 pub mod DefaultLemmas
+pub mod AscendingLemmas
+pub mod ForCallers
