@@ -2,6 +2,7 @@
 -- the changed entry. This belongs to the crate of trees.
 use Rattle.std.proofs.Common.{◌≡◌, ℕ, ◌≤◌, true, false, cond, ◌&&◌, List, [], ◌∷◌, map, Option, Some, None, is_some, refl, sym, ap, ◌∙◌, subst}
 use Rattle.std.proofs.lemmas.List.{length-map}
+use Rattle.std.proofs.lemmas.Bool.{false≢true}
 use Rattle.std.specs.Option.{option_map}
 use Rattle.std.specs.Ordering.{is_lt, eq_by_cmp}
 use Rattle.std.specs.FinMap.{is_sorted}
@@ -36,6 +37,10 @@ module _ {C D : Type 0} (change : List (List ℕ) → Entry C → Entry D) where
   some_mapped p None = refl
   some_mapped p (Some e) = refl
 
+  none_mapped : (p : List (List ℕ)) (found : Option (Entry C)) → option_map (change p) found ≡ None → found ≡ None
+  none_mapped p None h = refl
+  none_mapped p (Some e) h = absurd (false≢true (sym (ap is_some h)))
+
   module _ (keeps : (p : List (List ℕ)) (e : Entry C) → is_directory (change p e) ≡ is_directory e) where
     directory_mapped : (p : List (List ℕ)) (found : Option (Entry C)) → is_directory_at (option_map (change p) found) ≡ is_directory_at found
     directory_mapped p None = refl
@@ -59,4 +64,21 @@ module _ {C D : Type 0} (change : List (List ℕ) → Entry C → Entry D) where
     tree_changed_within es within = record {
       tree = tree_changed es within.tree;
       count = subst (λ n. n ≤ most_entries) (sym (length-map es (λ e. (e.0, change e.0 e.1)))) within.count;
+    }
+
+    -- and what is changed into a tree is a tree
+    pub tree_before : (es : Entries C) → IsTree (changed es) → IsTree es
+    tree_before es tree =
+        let there : (p : List (List ℕ)) → is_some (lookup es p) ≡ true → is_some (lookup (changed es) p) ≡ true = λ p h. ap is_some (lookup_changed p es) ∙ some_mapped p (lookup es p) ∙ h in
+        record {
+          sorted = sym (sorted_changed es) ∙ tree.sorted;
+          root = none_mapped [] (lookup es []) (sym (lookup_changed [] es) ∙ tree.root);
+          paths = λ p h. tree.paths p (there p h);
+          parents = λ p h. sym (directory_changed (parent p) es) ∙ tree.parents p (there p h);
+        }
+
+    pub tree_before_within : (es : Entries C) → IsTreeWithin (changed es) → IsTreeWithin es
+    tree_before_within es within = record {
+      tree = tree_before es within.tree;
+      count = subst (λ n. n ≤ most_entries) (length-map es (λ e. (e.0, change e.0 e.1))) within.count;
     }

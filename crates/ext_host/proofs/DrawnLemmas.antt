@@ -1,16 +1,20 @@
 -- Where the files of what is made of trees come from.
-use Rattle.std.proofs.Common.{◌≡◌, ℕ, suc, zero, ◌<◌, ◌≤◌, Bool, true, false, cond, List, [], ◌∷◌, ◌++◌, ◌⊎◌, inl, inr, Option, Some, None, is_some, refl, sym, ap, ◌∙◌, subst, arith}
-use Rattle.std.proofs.lemmas.Bool.{false≢true}
-use Rattle.std.specs.List.{Contains}
-use Rattle.ext_text.specs.Path.{is_prefix}
+use Rattle.std.proofs.Common.{◌≡◌, ℕ, suc, zero, ◌<◌, ◌≤◌, Bool, true, false, cond, not, ◌&&◌, List, [], ◌∷◌, ◌++◌, length, drop, ◌⊎◌, inl, inr, Option, Some, None, is_some, refl, sym, ap, ◌∙◌, subst, arith}
+use Rattle.std.proofs.lemmas.Bool.{and_parts, false≢true}
+use Rattle.std.proofs.lemmas.List.Elements.{All-contains, All-from_recursion}
+use Rattle.std.specs.Ordering.{eq_by_cmp}
+use Rattle.std.specs.List.{AllByRecursion, Contains}
+use Rattle.ext_text.specs.Path.{is_prefix, is_proper_prefix, path_cmp}
+use Rattle.ext_tree.specs.Graft.{IsGraft, made, or_made}
 use Rattle.ext_tree.specs.Refusals.{is_root}
-use Rattle.ext_tree.specs.Tree.{Entries, lookup}
+use Rattle.ext_tree.specs.Tree.{Entries, is_directory, lookup}
+use Rattle.ext_tree.proofs.ForCallers.{prefix_split}
 use Rattle.ext_tree.specs.declared.entry.Entry.{Entry}
 use Rattle.ext_tree.specs.declared.entry.Entry.TheVariants.{File}
 use Rattle.ext_host.specs.Drawn.{AreDrawnFrom, HasFile, IsFileOf}
 use Rattle.ext_host.specs.Held.{HeldFile}
 use Rattle.ext_host.specs.Host.{base_at, hierarchies_in, is_in, merged_hierarchies, present}
-use Rattle.ext_host.specs.Laws.{BaseIsDrawn, CutIsDrawn, DrawnFromItself, DrawnThrough, EntriesOfBase, EntriesOfCut, EntriesOfPart, PartIsDrawn}
+use Rattle.ext_host.specs.Laws.{BaseIsDrawn, CutIsDrawn, DrawnFromItself, DrawnOneByOne, DrawnThrough, EntriesOfBase, EntriesOfCut, EntriesOfGraft, EntriesOfPart, GraftIsDrawn, PartIsDrawn, TreesAreDrawn, TreesDrawnThrough}
 
 nothing_is : {X : Type 0} (x : X) → None ≡ Some x → ⊥
 nothing_is x h = false≢true (ap is_some h)
@@ -74,3 +78,61 @@ pub cut_is_drawn : CutIsDrawn
 cut_is_drawn es rest at is held home kept file =
     let f = of_one rest held file in
     record { tree = es; among = first_among es []; file = record { path = f.path; mode = f.mode; stands = entries_of_cut es rest at f.path (File f.mode held) is f.stands } }
+
+-- ---- grafts
+
+some_same : {X : Type 0} (x y : X) → Some x ≡ Some y → x ≡ y
+some_same x y h = cc
+
+-- where the entry at a path comes from
+abbrev Comes : {C : Type 0} → Entries C → Entries C → List (List ℕ) → List (List ℕ) → Entry C → Type 0
+Comes es part at path e = (lookup es path ≡ Some e) ⊎ (((rest : List (List ℕ)) × (path ≡ at ++ rest) × (lookup part rest ≡ Some e)) ⊎ (e ≡ made))
+
+-- an entry that stands, or else a made directory
+stands_or_made : {C : Type 0} (es part : Entries C) (at path : List (List ℕ)) (found : Option (Entry C)) (e : Entry C) → lookup es path ≡ found → or_made found ≡ Some e → Comes es part at path e
+stands_or_made es part at path None e is h = inr (inr (sym (some_same made e h)))
+stands_or_made es part at path (Some f) e is h = inl (is ∙ h)
+
+-- the entry, by the four cases of a path below the root
+grafted_below : {C : Type 0} (es part : Entries C) (at path : List (List ℕ)) (e : Entry C) (below here above : Bool) → (below ≡ true → path ≡ at ++ drop (length at) path) → cond below (lookup part (drop (length at) path)) (cond here (Some made) (cond above (or_made (lookup es path)) (lookup es path))) ≡ Some e → Comes es part at path e
+grafted_below es part at path e true here above split h = inr (inl (drop (length at) path, split refl, h))
+grafted_below es part at path e false true above split h = inr (inr (sym (some_same made e h)))
+grafted_below es part at path e false false true split h = stands_or_made es part at path (lookup es path) e refl h
+grafted_below es part at path e false false false split h = inl h
+
+pub entries_of_graft : {C : Type 0} → EntriesOfGraft C
+entries_of_graft es part new [] path e is stands = inr (inl (path, refl, sym (is.each path) ∙ stands))
+entries_of_graft es part new (n ∷ at) path e is stands =
+    grafted_below es part (n ∷ at) path e (is_proper_prefix (n ∷ at) path) (eq_by_cmp path_cmp path (n ∷ at)) (is_proper_prefix path (n ∷ at) && not (is_root path))
+    (λ below. prefix_split (n ∷ at) path (and_parts (is_prefix (n ∷ at) path) (not (is_prefix path (n ∷ at))) below).0)
+    (sym (is.each path) ∙ stands)
+
+file_not_made : (mode : ℕ) (held : HeldFile) → File mode held ≡ made → ⊥
+file_not_made mode held h = false≢true (ap is_directory h)
+
+pub graft_is_drawn : GraftIsDrawn
+graft_is_drawn es part new at is held home kept file =
+    let f = of_one new held file in
+    elim (entries_of_graft es part new at f.path (File f.mode held) is f.stands) [
+      | inl old ↦ record { tree = es; among = first_among es (part ∷ []); file = record { path = f.path; mode = f.mode; stands = old } }
+      | inr (inl hung) ↦ record { tree = part; among = second_among es part []; file = record { path = hung.0; mode = f.mode; stands = hung.2 } }
+      | inr (inr dir) ↦ absurd (file_not_made f.mode held dir)
+    ]
+
+-- ---- trees one by one
+
+pub trees_drawn_through : TreesDrawnThrough
+trees_drawn_through a b c first second held home kept file = first held home kept (second held home kept file)
+
+-- what holds of each holds of one that is among them
+one_of : {X : Type 0} (P : X → Type 0) (xs : List X) (x : X) → AllByRecursion P xs → Contains xs x → P x
+one_of P xs x all among = All-contains P xs x (All-from_recursion P xs all) among
+
+pub drawn_one_by_one : DrawnOneByOne
+drawn_one_by_one old new each held home kept file =
+    one_of (λ es. AreDrawnFrom old (es ∷ [])) new file.tree each file.among held home kept
+    (record { tree = file.tree; among = first_among file.tree []; file = file.file })
+
+pub trees_are_drawn : TreesAreDrawn
+trees_are_drawn old new each held home kept file =
+    record { tree = file.tree; among = one_of (Contains old) new file.tree each file.among; file = file.file }

@@ -5,3 +5,7 @@ pub mod NameLemmas
 pub mod BaseLemmas
 pub mod DrawnLemmas
 pub mod TouchLemmas
+pub mod StampLemmas
+pub mod DefaultLemmas
+pub mod AscendingLemmas
+pub mod ForCallers

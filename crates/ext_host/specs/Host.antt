@@ -1,6 +1,6 @@
 -- What a host has at its paths. Which directories an extension extends, its hierarchies, is after systemd-sysext(8); that a
 -- host chooses them is this project's own.
-use Rattle.std.specs.Prelude.{◌≡◌, ℕ, Bool, List, [], ◌∷◌, ◌++◌, if◌then◌else◌, Option, Some, None}
+use Rattle.std.specs.Prelude.{◌≡◌, ℕ, Bool, List, [], ◌∷◌, ◌++◌, if◌then◌else◌, Option, Some, None, codes}
 use Rattle.std.specs.List.{list_any}
 use Rattle.ext_text.specs.Path.{is_prefix}
 use Rattle.ext_text.specs.declared.class.Class.{Class}
@@ -25,6 +25,12 @@ abbrev pub hierarchies_of : Class → Hierarchies → List (List ℕ)
 hierarchies_of Sysext hierarchies = hierarchies.sysext
 hierarchies_of Confext hierarchies = hierarchies.confext
 hierarchies_of Portable hierarchies = []
+
+-- those of a host that chose none
+abbrev pub default_hierarchies : Class → List (List ℕ)
+default_hierarchies Sysext = codes "opt" ∷ codes "usr" ∷ []
+default_hierarchies Confext = codes "etc" ∷ []
+default_hierarchies Portable = []
 
 -- the path is at or below one of the names
 abbrev pub is_in : List (List ℕ) → List (List ℕ) → Bool

@@ -9,3 +9,4 @@ pub mod DepotBodies
 pub mod Valid
 pub mod Drawn
 pub mod Laws
+pub mod Samples

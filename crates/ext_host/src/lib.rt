@@ -14,15 +14,19 @@ mod copying;
 mod depot_bodies;
 mod held;
 mod here_shelf;
+mod hierarchies;
 mod home;
 mod host;
 pub mod laws;
 mod locks;
 mod manifest;
 mod past;
+pub mod samples;
 mod shelf;
 mod stamped;
 mod stamping;
+#[cfg(test)]
+mod tests;
 mod touch;
 
 pub use attachment::Attachment;
@@ -32,6 +36,7 @@ pub use copying::{Listed, copy_of_list, copy_of_merged};
 pub use depot_bodies::from_depot;
 pub use held::Held;
 pub use here_shelf::HereShelf;
+pub use hierarchies::default_hierarchies;
 pub use home::Home;
 pub use host::{Host, Plan};
 pub use manifest::{Item, Manifest};

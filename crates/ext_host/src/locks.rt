@@ -3,24 +3,13 @@ ghost use Rattle.std.specs.Prelude.{◌≡◌, [], ◌∷◌};
 ghost use Rattle.std.specs.Ordering.{eq_by_cmp};
 ghost use Rattle.ext_lines.specs.ByteOrder.{bytes_cmp};
 ghost use Rattle.ext_text.specs.Path.{are_related};
-ghost use Rattle.ext_host.specs.Host.{hierarchies_in, hierarchies_of, merged_hierarchies, present};
+ghost use Rattle.ext_host.specs.Host.{hierarchies_in, merged_hierarchies, present};
 ghost use Rattle.ext_host.specs.Locks.{locks};
 
 use crate::host::Host;
-use ext_text::{Class, Name, Path};
+use ext_text::{Name, Path};
 
 impl Host {
-    /// The names, directly below the root, that extensions of the class extend; none for portable services.
-    pub fn hierarchies(&self, class: Class) -> &[Name]
-        ensures { result.now ≡ hierarchies_of class (hierarchies_in self.now) }
-    {
-        match class {
-            Class::Sysext => self.sysext_hier.as_slice(),
-            Class::Confext => self.confext_hier.as_slice(),
-            Class::Portable => &[],
-        }
-    }
-
     /// Whether the path is in, at or above a hierarchy of a merged class. It takes no memory.
     pub fn locks(&self, path: &Path) -> bool
         ensures { result ≡ locks (merged_hierarchies (hierarchies_in self.now) (present self.now)) path.now }

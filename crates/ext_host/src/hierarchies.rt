@@ -1,0 +1,53 @@
+// The hierarchies of a host, and those of a host that chose none.
+ghost use Rattle.std.specs.Prelude.{◌≡◌, ◌++◌, ◌∷◌, [], IfOk, OnOk};
+ghost use Rattle.ext_text.specs.Name.{IsName};
+ghost use Rattle.ext_host.specs.Host.{default_hierarchies, hierarchies_in, hierarchies_of};
+
+use crate::host::Host;
+use ext_text::{Class, Name, NameErr, Names, OutOfMemory};
+use std::alloc::Global;
+
+impl Host {
+    /// The names, directly below the root, that extensions of the class extend; none for portable services.
+    pub fn hierarchies(&self, class: Class) -> &[Name]
+        ensures { result.now ≡ hierarchies_of class (hierarchies_in self.now) }
+    {
+        match class {
+            Class::Sysext => self.sysext_hier.as_slice(),
+            Class::Confext => self.confext_hier.as_slice(),
+            Class::Portable => &[],
+        }
+    }
+}
+
+/// The hierarchies that a class has where a host chose none: `opt` and `usr` for system extensions, `etc` for configuration
+/// extensions, none for portable services; systemd-sysext(8).
+///
+/// # Errors
+/// `OutOfMemory` alone.
+pub fn default_hierarchies(alloc: Global, class: Class) -> Result<Names, OutOfMemory>
+    ensures { IfOk result (λ names. names ≡ default_hierarchies class) }
+{
+    let mut names = Names::new(alloc);
+    match class {
+        Class::Sysext => {
+            append_name(alloc, &mut names, b"opt")?;
+            append_name(alloc, &mut names, b"usr")?;
+        }
+        Class::Confext => append_name(alloc, &mut names, b"etc")?,
+        Class::Portable => {}
+    }
+    Ok(names)
+}
+
+// Adds the name of these bytes.
+fn append_name(alloc: Global, names: &mut Names, bytes: &[u8]) -> Result<(), OutOfMemory>
+    requires { IsName bytes.now }
+    ensures { OnOk result (names.new ≡ names.old ++ bytes.now ∷ []) }
+{
+    match Name::read(alloc, bytes) {
+        Ok(name) => names.push(name),
+        Err(NameErr::OutOfMemory) => Err(OutOfMemory),
+        Err(NameErr::BadName) => unreachable!(),
+    }
+}
