@@ -5,3 +5,5 @@ pub mod RowLemmas
 pub mod PartedLemmas
 pub mod PickLemmas
 pub mod SeatLemmas
+pub mod KeepsLemmas
+pub mod FoundLemmas

@@ -9,3 +9,4 @@ pub mod Row
 pub mod Image
 pub mod Found
 pub mod Usable
+pub mod Keeps

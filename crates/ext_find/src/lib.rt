@@ -9,6 +9,7 @@
 mod content;
 mod directories;
 mod ending;
+mod finding;
 mod found;
 mod image;
 mod leading;
@@ -21,5 +22,6 @@ mod usable;
 mod version;
 
 pub use content::Measured;
+pub use finding::find;
 pub use found::{BreakWhy, Found, FoundItem, FoundKind};
 pub use image::why_broken;
