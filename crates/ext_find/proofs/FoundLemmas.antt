@@ -95,4 +95,3 @@ module _ {C : Type 0} (size : C → ℕ) (es : Entries C) (class : Class) (arch 
       from_seat stem item (Some seat) at is =
           let first = keeps.kept stem seat (sym (reordered.2 stem) ∙ at) in
           (first.0, first.1, subst (IsFirst size es class arch hierarchies first.0 first.1) (ap (λ o. unwrap_or o item) is) first.2)
-

@@ -34,7 +34,7 @@ one_opens es class index a b first other =
 equal_names : (a b : List ℕ) → a ≡ b → pointwise nat_eq a b ≡ true
 equal_names a b same = texts_ties a b ∙ tied_name a b same
 
-names_equal : (a b : List ℕ) → pointwise nat_eq a b ≡ true → a ≡ b
+pub names_equal : (a b : List ℕ) → pointwise nat_eq a b ≡ true → a ≡ b
 names_equal a b same = same_name a b (sym (texts_ties a b) ∙ same)
 
 module _ {S : Type 0} (old new : IndexMap (List ℕ) Seat S) where
