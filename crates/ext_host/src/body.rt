@@ -1,0 +1,31 @@
+ghost use Rattle.std.specs.Prelude.{◌≡◌, IfOk};
+
+use crate::home::Home;
+use ext_text::{OutOfMemory, Path, Text};
+
+/// Where the bytes of a file are.
+#[derive(Debug, Drop)]
+pub enum Body {
+    /// Here: these bytes.
+    Here(Text),
+    /// In a store, at this home.
+    Kept(Home),
+    /// In the depot, at this path. Only a plan's host has such bodies.
+    Depot(Path),
+}
+
+impl Body {
+    /// An equal body.
+    ///
+    /// # Errors
+    /// `OutOfMemory` alone.
+    pub fn copy(&self) -> Result<Body, OutOfMemory>
+        ensures { IfOk result (λ copy. copy ≡ self.now) }
+    {
+        match self {
+            Body::Here(text) => Ok(Body::Here(text.copy()?)),
+            Body::Kept(home) => Ok(Body::Kept(*home)),
+            Body::Depot(path) => Ok(Body::Depot(path.copy()?)),
+        }
+    }
+}
