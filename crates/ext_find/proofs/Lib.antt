@@ -7,3 +7,4 @@ pub mod PickLemmas
 pub mod SeatLemmas
 pub mod KeepsLemmas
 pub mod FoundLemmas
+pub mod ReleaseLemmas

@@ -10,3 +10,4 @@ pub mod Image
 pub mod Found
 pub mod Usable
 pub mod Keeps
+pub mod HostRelease

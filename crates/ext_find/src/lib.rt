@@ -14,10 +14,13 @@ mod found;
 mod image;
 mod leading;
 mod pick;
+mod release;
 mod row;
 mod search;
 mod seat;
 mod stem;
+#[cfg(test)]
+mod tests;
 mod usable;
 mod version;
 
@@ -25,3 +28,4 @@ pub use content::Measured;
 pub use finding::find;
 pub use found::{BreakWhy, Found, FoundItem, FoundKind};
 pub use image::why_broken;
+pub use release::{FindErr, host_release};
