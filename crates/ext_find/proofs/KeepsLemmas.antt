@@ -112,7 +112,7 @@ module _ {C : Type 0} (size : C → ℕ) (es : Entries C) (class : Class) (arch 
       is_first : (item : FoundItem) → IsUsableIn size es class arch hierarchies directory name item → is_some (kept_at old item.name) ≡ false → IsFirst size es class arch hierarchies index name item
       is_first item usable none = record { usable = record { directory = directory; opens = opens; entry = usable }; first = first }
         where
-          first : (j : ℕ) (other : List ℕ) (another : FoundItem) → IsUsable size es class arch hierarchies j other another → another.name ≡ item.name → CountsBefore size es class arch hierarchies j other index name → ⊥
+          first : (j : ℕ) (other : List ℕ) (another : FoundItem) → IsUsable size es class arch hierarchies j other another → another.name ≡ item.name → CountsBefore j other index name → ⊥
           first j other another earlier same (inl less) =
               false≢true (sym none ∙ ap (λ n. is_some (kept_at old n)) (sym same) ∙ keeps.all j other another (inl less) earlier)
           first j other another earlier same (inr here) =

@@ -8,3 +8,4 @@ pub mod SeatLemmas
 pub mod KeepsLemmas
 pub mod FoundLemmas
 pub mod ReleaseLemmas
+pub mod LawsLemmas

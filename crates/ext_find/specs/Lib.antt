@@ -11,3 +11,4 @@ pub mod Found
 pub mod Usable
 pub mod Keeps
 pub mod HostRelease
+pub mod Laws

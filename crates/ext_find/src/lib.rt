@@ -12,6 +12,7 @@ mod ending;
 mod finding;
 mod found;
 mod image;
+pub mod laws;
 mod leading;
 mod pick;
 mod release;

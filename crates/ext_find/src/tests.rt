@@ -1,7 +1,7 @@
 use super::*;
 use ext_host::{Held, HereShelf};
 use ext_text::{Arch, Class, ListOf, Mode, Name, Names, Path, Text};
-use ext_tree::{Entry, Tree, read_tree};
+use ext_tree::{Entry, Stamp, Tree, read_tree};
 use std::alloc::Global;
 use std::test::Fail;
 
@@ -124,6 +124,8 @@ fn images_are_tested_at_the_chosen_hierarchies(rt: HostRuntime) -> Result<(), Fa
     assert_eq!(rt; why, None);
     let why = why_broken(alloc, &tree, image.names(), Class::Portable, &chosen, &name)?;
     assert_eq!(rt; why, None);
+    laws::an_entry_gives_one_item::<Stamp>();
+    laws::there_is_one_found_list::<Stamp>();
     Ok(())
 }
 

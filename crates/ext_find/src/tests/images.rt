@@ -2,7 +2,7 @@
 use super::Row;
 use ext_text::Class;
 
-pub(super) const ROWS: [Row; 25] = [
+pub(super) const ROWS: [Row; 27] = [
     Row {
         shows: "a whole extension",
         class: Class::Sysext,
@@ -418,6 +418,55 @@ f 644 3 ba7816bf8f01cfea414140de5dae2223b00361a396177a9cb410ff61f20015ad usr/loc
 end
 ",
         found: b"c image usr/local/lib/confexts/c
+",
+    },
+    Row {
+        shows: "two whole extensions",
+        class: Class::Sysext,
+        tree: b"hostext-tree 1
+d 755 var
+d 755 var/lib
+d 755 var/lib/extensions
+d 755 var/lib/extensions/tools-10
+d 755 var/lib/extensions/tools-10/usr
+d 755 var/lib/extensions/tools-10/usr/lib
+d 755 var/lib/extensions/tools-10/usr/lib/extension-release.d
+f 644 3 ba7816bf8f01cfea414140de5dae2223b00361a396177a9cb410ff61f20015ad var/lib/extensions/tools-10/usr/lib/extension-release.d/extension-release.tools-10
+d 755 var/lib/extensions/tools-9
+d 755 var/lib/extensions/tools-9/usr
+d 755 var/lib/extensions/tools-9/usr/bin
+f 644 3 ba7816bf8f01cfea414140de5dae2223b00361a396177a9cb410ff61f20015ad var/lib/extensions/tools-9/usr/bin/t
+d 755 var/lib/extensions/tools-9/usr/lib
+d 755 var/lib/extensions/tools-9/usr/lib/extension-release.d
+f 644 3 ba7816bf8f01cfea414140de5dae2223b00361a396177a9cb410ff61f20015ad var/lib/extensions/tools-9/usr/lib/extension-release.d/extension-release.tools-9
+end
+",
+        found: b"tools-9 image var/lib/extensions/tools-9
+tools-10 image var/lib/extensions/tools-10
+",
+    },
+    Row {
+        shows: "a whole one beside one whose release file is faulty",
+        class: Class::Sysext,
+        tree: b"hostext-tree 1
+d 755 var
+d 755 var/lib
+d 755 var/lib/extensions
+d 755 var/lib/extensions/bad
+d 755 var/lib/extensions/bad/usr
+d 755 var/lib/extensions/bad/usr/lib
+d 755 var/lib/extensions/bad/usr/lib/extension-release.d
+f 644 3 ba7816bf8f01cfea414140de5dae2223b00361a396177a9cb410ff61f20015ad var/lib/extensions/bad/usr/lib/extension-release.d/extension-release.bad
+d 755 var/lib/extensions/ok
+d 755 var/lib/extensions/ok/usr
+d 755 var/lib/extensions/ok/usr/lib
+d 755 var/lib/extensions/ok/usr/lib/extension-release.d
+f 644 3 ba7816bf8f01cfea414140de5dae2223b00361a396177a9cb410ff61f20015ad var/lib/extensions/ok/usr/lib/extension-release.d/extension-release.ok
+f 644 3 ba7816bf8f01cfea414140de5dae2223b00361a396177a9cb410ff61f20015ad var/lib/extensions/ok/usr/x
+end
+",
+        found: b"bad image var/lib/extensions/bad
+ok image var/lib/extensions/ok
 ",
     },
     Row {
