@@ -5,3 +5,7 @@ pub mod RowLemmas
 pub mod PartedLemmas
 pub mod PickLemmas
 pub mod SeatLemmas
+pub mod KeepsLemmas
+pub mod FoundLemmas
+pub mod ReleaseLemmas
+pub mod LawsLemmas

@@ -26,6 +26,14 @@ use Rattle.ext_find.specs.declared.found.FoundItem.{FoundItem}
 use Rattle.ext_find.specs.declared.found.FoundKind.{FoundKind}
 use Rattle.ext_find.specs.declared.found.FoundKind.TheVariants.{Image, Masked, Raw, Broken}
 
+-- the first entry counts before the second: by its directory, then by its bytes
+abbrev pub CountsBefore : ℕ → List ℕ → ℕ → List ℕ → Type 0
+CountsBefore index name later_index later = (index < later_index) ⊎ ((index ≡ later_index) × (bytes_cmp name later ≡ Less))
+
+-- items with their names as keys
+abbrev pub by_name : List FoundItem → List (List ℕ × FoundItem)
+by_name items = map (λ item. (item.name, item)) items
+
 module _ {C : Type 0} (size : C → ℕ) (es : Entries C) (class : Class) (arch : Arch) (hierarchies : List (List ℕ)) where
   -- ---- what an entry gives
 
@@ -71,18 +79,10 @@ module _ {C : Type 0} (size : C → ℕ) (es : Entries C) (class : Class) (arch 
 
   -- ---- what is found
 
-  -- the first entry counts before the second: by its directory, then by its bytes
-  abbrev pub CountsBefore : ℕ → List ℕ → ℕ → List ℕ → Type 0
-  CountsBefore index name later_index later = (index < later_index) ⊎ ((index ≡ later_index) × (bytes_cmp name later ≡ Less))
-
   -- the entry gives the item, and none that counts before it is usable for the same stem
   pub record IsFirst (index : ℕ) (name : List ℕ) (item : FoundItem) : Type 0 where
     pub usable : IsUsable index name item
     pub first : (other_index : ℕ) (other : List ℕ) (another : FoundItem) → IsUsable other_index other another → another.name ≡ item.name → ¬ CountsBefore other_index other index name
-
-  -- items with their names as keys
-  abbrev pub by_name : List FoundItem → List (List ℕ × FoundItem)
-  by_name items = map (λ item. (item.name, item)) items
 
   -- each stem that has a usable entry, once, in the order of versions, with the first of them
   pub record IsFound (items : List FoundItem) : Type 0 where

@@ -9,3 +9,6 @@ pub mod Row
 pub mod Image
 pub mod Found
 pub mod Usable
+pub mod Keeps
+pub mod HostRelease
+pub mod Laws

@@ -2,6 +2,7 @@
 ghost use Rattle.std.specs.Prelude.{◌≡◌, ℕ};
 ghost use Rattle.ext_find.specs.Content.{is_full, is_mask};
 
+use ext_host::Held;
 use ext_tree::{Entry, Stamp};
 
 /// Contents of files whose sizes are known.
@@ -19,6 +20,14 @@ impl Measured for Stamp {
 
     fn size(&self) -> u64 {
         self.size
+    }
+}
+
+impl Measured for Held {
+    ghost size = { λ held. held.stamp.size };
+
+    fn size(&self) -> u64 {
+        self.stamp().size
     }
 }
 

@@ -9,17 +9,24 @@
 mod content;
 mod directories;
 mod ending;
+mod finding;
 mod found;
 mod image;
+pub mod laws;
 mod leading;
 mod pick;
+mod release;
 mod row;
 mod search;
 mod seat;
 mod stem;
+#[cfg(test)]
+mod tests;
 mod usable;
 mod version;
 
 pub use content::Measured;
+pub use finding::find;
 pub use found::{BreakWhy, Found, FoundItem, FoundKind};
 pub use image::why_broken;
+pub use release::{FindErr, host_release};

@@ -5,6 +5,7 @@ use ext_tree::Tree;
 use std::alloc::Global;
 
 // A search through a base for the images of a class.
+#[derive(Drop)]
 pub struct Search<'a, C: Measured> {
     pub(crate) alloc: Global,
     pub(crate) base: &'a Tree<C>,

@@ -1,0 +1,154 @@
+// The search itself.
+ghost use Rattle.std.specs.Prelude.{◌≡◌, ◌+◌, map, length, IfOk, OnOk};
+ghost use Rattle.ext_find.specs.Directories.{Opens};
+ghost use Rattle.ext_find.specs.Found.{IsFound};
+ghost use Rattle.ext_find.specs.Keeps.{Keeps, KeepsToo, before};
+ghost use Rattle.ext_find.specs.Usable.{item_with};
+
+use crate::content::Measured;
+use crate::directories::{count_of_directories, opened};
+use crate::found::{Found, FoundItem};
+use crate::row::next_name;
+use crate::search::Search;
+use crate::seat::Seat;
+use crate::stem::Stem;
+use crate::usable::usable_at;
+use ext_text::{Arch, Class, ListOf, Name, Names, OutOfMemory};
+use ext_tree::Tree;
+use indexmap::IndexMap;
+use std::alloc::Global;
+
+// What was found so far: of each stem the first usable entry.
+type Kept = IndexMap<Stem, Seat>;
+
+/// The images of a class that a host has, with its masks and its images in files, in the order of versions of the names.
+///
+/// The search directories are looked through in this order:
+///
+/// | class | directories |
+/// |---|---|
+/// | `Sysext` | `/etc/extensions`, `/run/extensions`, `/var/lib/extensions` |
+/// | `Confext` | `/run/confexts`, `/var/lib/confexts`, `/usr/local/lib/confexts`, `/usr/lib/confexts` |
+/// | `Portable` | `/etc/portables`, `/run/portables`, `/var/lib/portables`, `/usr/local/lib/portables`, `/usr/lib/portables` |
+///
+/// The stem of a name is what is left without one ending `.raw.v`, `.raw` or `.v`. Of each stem the first usable entry
+/// counts, by its directory, then by the bytes of its name; its kind does not matter. Usable are, of the names that do not
+/// begin with a dot:
+///
+/// - an empty file and a link to `/dev/null`: a mask, whatever the ending;
+/// - a name without an ending that leads to a directory: an image;
+/// - `N.v` that leads to a directory with candidates `N_VERSION` or `N_VERSION_ARCH`, names that lead to directories: the
+///   image that no other candidate exceeds, by the order of versions, and of one version by the bytes of the names. An
+///   architecture counts after a version alone, and then only the given one;
+/// - `N.raw` that leads to a file that is not empty, and `N.raw.v` that leads to a directory: an image in a file.
+///
+/// An image is broken as [`why_broken`](crate::why_broken) says, at the given hierarchies of its class; for `Portable` they
+/// are not looked at. An image whose place is past the limits of a path is not usable, and no other candidate is tried.
+///
+/// After systemd-sysext(8), systemd-confext(8), portablectl(1) and systemd.v(7); the order of the directories of the last
+/// two classes, the order within a directory, and what those pages are silent on, are this project's own choice.
+///
+/// The work grows with the names in the search directories and with what is looked at in each image, times logarithms.
+///
+/// # Errors
+/// `OutOfMemory` alone.
+pub fn find<C: Measured>(
+    alloc: Global,
+    base: &Tree<C>,
+    class: Class,
+    arch: Arch,
+    hierarchies: &Names,
+) -> Result<Found, OutOfMemory>
+    ensures { IfOk result (IsFound C.size base.now class arch hierarchies.now) }
+{
+    let search = Search {
+        alloc,
+        base,
+        class,
+        arch,
+        hierarchies,
+    };
+    let mut kept = IndexMap::new(alloc);
+    'directories: for index in 0..count_of_directories(class) {
+        keep_directory(&search, index, &mut kept)?;
+    }
+    kept.sort_keys()?;
+    items_of(alloc, kept)
+}
+
+// Keeps what is new in the search directory with this index.
+fn keep_directory<C: Measured>(
+    search: &Search<C>,
+    index: usize,
+    kept: &mut Kept,
+) -> Result<(), OutOfMemory>
+    requires { Keeps C.size search.now.base.now search.now.class search.now.arch search.now.hierarchies.now (before index) kept.old }
+    ensures { OnOk result (Keeps C.size search.now.base.now search.now.class search.now.arch search.now.hierarchies.now (before (index + 1)) kept.new) }
+{
+    match opened(search.alloc, search.base, search.class, index)? {
+        None => Ok(()),
+        Some(directory) => keep_names(search, index, directory, kept),
+    }
+}
+
+// Keeps what is new in the directory to which the search directory with this index leads.
+fn keep_names<C: Measured>(
+    search: &Search<C>,
+    index: usize,
+    directory: &[Name],
+    kept: &mut Kept,
+) -> Result<(), OutOfMemory>
+    requires opens { Opens search.now.base.now search.now.class index directory.now }
+    requires kept { Keeps C.size search.now.base.now search.now.class search.now.arch search.now.hierarchies.now (before index) kept.old }
+    ensures { OnOk result (Keeps C.size search.now.base.now search.now.class search.now.arch search.now.hierarchies.now (before (index + 1)) kept.new) }
+{
+    let mut rest = search.base.below(directory);
+    'names: loop {
+        match next_name(rest, directory) {
+            None => return Ok(()),
+            Some((name, more)) => {
+                keep_item(kept, usable_at(search, directory, name)?)?;
+                rest = more;
+            }
+        }
+    }
+}
+
+// Keeps an item whose stem has none yet.
+fn keep_item(kept: &mut Kept, item: Option<FoundItem>) -> Result<(), OutOfMemory>
+    ensures { OnOk result (KeepsToo kept.old kept.new item) }
+{
+    match item {
+        None => Ok(()),
+        Some(FoundItem { name, place, kind }) => {
+            let stem = Stem::new(name);
+            if !kept.contains_key(&stem) {
+                kept.insert(stem, Seat { place, kind })?;
+            }
+            Ok(())
+        }
+    }
+}
+
+// The items that were kept, in their order.
+fn items_of(alloc: Global, kept: Kept) -> Result<Found, OutOfMemory>
+    ensures { IfOk result (λ items. items ≡ map (λ e. item_with e.0 e.1) kept.entries) }
+{
+    let items = kept
+        .into_iter()
+        .map(|(stem, seat)| item_of(stem, seat))
+        .collect(alloc)?;
+    Ok(ListOf::from_vec(items))
+}
+
+// The item of this stem.
+fn item_of(stem: Stem, seat: Seat) -> FoundItem
+    ensures { result ≡ item_with stem seat }
+{
+    let Seat { place, kind } = seat;
+    FoundItem {
+        name: stem.into_name(),
+        place,
+        kind,
+    }
+}
