@@ -4,3 +4,6 @@ pub mod ReadingLemmas
 pub mod RemovalLemmas
 pub mod ClearingLemmas
 pub mod LeftOversLemmas
+pub mod WritingLemmas
+pub mod HashingLemmas
+pub mod CopyingLemmas

@@ -21,13 +21,13 @@ pub read_nothing : (o : Option Told) (path : List (List ℕ)) → IfSome o (λ d
 read_nothing None path = tt
 read_nothing (Some d) path = λ all is. refl
 
-begins_more : (all bytes piece : List ℕ) → all ≡ bytes ++ drop (length bytes) all → IsPieceAt all (length bytes) piece → all ≡ (bytes ++ piece) ++ drop (length (bytes ++ piece)) all
+pub begins_more : (all bytes piece : List ℕ) → all ≡ bytes ++ drop (length bytes) all → IsPieceAt all (length bytes) piece → all ≡ (bytes ++ piece) ++ drop (length (bytes ++ piece)) all
 begins_more all bytes piece begins is =
     begins ∙ ap (λ (l : List ℕ). bytes ++ l) is.moved
     ∙ sym (append_assoc bytes piece (drop (length bytes + length piece) all))
     ∙ ap (λ n. (bytes ++ piece) ++ drop n all) (sym (length-append bytes piece))
 
-told_more : (x y : Option Told) (path : List (List ℕ)) (bytes piece : List ℕ) → y ≡ x
+pub told_more : (x y : Option Told) (path : List (List ℕ)) (bytes piece : List ℕ) → y ≡ x
     → IfSome x (λ d. (all : List ℕ) → (d.places path).node ≡ Some (file all) → all ≡ bytes ++ drop (length bytes) all)
     → IfSome y (λ d. (all : List ℕ) → (d.places path).node ≡ Some (file all) → IsPieceAt all (length bytes) piece)
     → IfSome x (λ d. (all : List ℕ) → (d.places path).node ≡ Some (file all) → all ≡ (bytes ++ piece) ++ drop (length (bytes ++ piece)) all)
@@ -51,7 +51,7 @@ found_file None most f is gives = absurd (false≢true is)
 found_file (Some folder) most f is gives = absurd (false≢true is)
 found_file (Some (file all)) most f is gives = gives all refl
 
-whole_read : (all bytes : List ℕ) → all ≡ bytes ++ drop (length bytes) all → length all ≤ length bytes → all ≡ bytes
+pub whole_read : (all bytes : List ℕ) → all ≡ bytes ++ drop (length bytes) all → length all ≤ length bytes → all ≡ bytes
 whole_read all bytes begins short = begins ∙ ap (λ (l : List ℕ). bytes ++ l) (drop_of_length-le all short) ∙ append-nil bytes
 
 end_file : (all bytes : List ℕ) (most : ℕ) → all ≡ bytes → length bytes ≤ most → File bytes ≡ found_of most (Some (file all))

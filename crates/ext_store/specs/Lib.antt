@@ -3,3 +3,7 @@ pub mod LeftOvers
 pub mod Rows
 pub mod Reading
 pub mod Removal
+pub mod HeldFiles
+pub mod GenShelf
+pub mod Writing
+pub mod Copying

@@ -1,7 +1,9 @@
 -- Reading a file of the store whole, up to a limit.
-use Rattle.std.specs.Prelude.{◌≡◌, ℕ, ◌+◌, ◌≤◌, nat_le, if◌then◌else◌, true, List, ◌++◌, length, drop, Option, Some, None, IfSome}
+use Rattle.std.specs.Prelude.{◌≡◌, ℕ, ◌+◌, ◌≤◌, ◌==◌, nat_le, if◌then◌else◌, Bool, true, false, List, ◌++◌, length, drop, Option, Some, None, IfSome}
 use Rattle.ext_text.specs.Causes.{Rose}
 use Rattle.ext_disk.specs.Disk.{Node, folder, file, DiskState, is_file}
+use Rattle.ext_host.specs.declared.shelf.ShelfErr.{ShelfErr}
+use Rattle.ext_host.specs.declared.shelf.ShelfErr.TheVariants as shelf_errors
 use Rattle.ext_store.specs.declared.reading.Found.{Found}
 use Rattle.ext_store.specs.declared.reading.Found.TheVariants.{Absent, Folder, TooLong, File}
 use Rattle.ext_store.specs.declared.errors.ReadErr.{ReadErr}
@@ -22,6 +24,11 @@ abbrev pub ReadCause : ℕ → ℕ → ReadErr → Type 0
 ReadCause before after DiskFault = Rose before after
 ReadCause before after OutOfMemory = Unit {0}
 
+-- a file that was not read is not given by a shelf, for the same reason
+abbrev pub shelf_err : ReadErr → ShelfErr
+shelf_err DiskFault = shelf_errors.Fault
+shelf_err OutOfMemory = shelf_errors.OutOfMemory
+
 -- a file stands at the path, where it is told what does
 abbrev pub IsFileAt : DiskState → List (List ℕ) → Type 0
 IsFileAt disk path = IfSome disk.told (λ d. is_file (d.places path).node ≡ true)
@@ -38,3 +45,12 @@ IsPieceOf disk path at piece = IfSome disk.told (λ d. (all : List ℕ) → (d.p
 -- the file at the path begins with these bytes, where it is told what stands there
 abbrev pub BeginsWith : DiskState → List (List ℕ) → List ℕ → Type 0
 BeginsWith disk path bytes = IfSome disk.told (λ d. (all : List ℕ) → (d.places path).node ≡ Some (file all) → all ≡ bytes ++ drop (length bytes) all)
+
+abbrev pub is_file_of : ℕ → Option Node → Bool
+is_file_of size None = false
+is_file_of size (Some folder) = false
+is_file_of size (Some (file bytes)) = length bytes == size
+
+-- a file of this size stands at the path, where it is told what does
+abbrev pub HasSize : DiskState → List (List ℕ) → ℕ → Type 0
+HasSize disk path size = IfSome disk.told (λ d. is_file_of size (d.places path).node ≡ true)

@@ -1,7 +1,9 @@
 // Why the store was not read or written.
 use ext_disk::ListErr;
+use ext_host::ShelfErr;
 use ext_io::Failed;
 use ext_text::OutOfMemory;
+use ext_tree::Stamp;
 use thiserror::Error;
 
 /// Why a file of the store was not read.
@@ -34,6 +36,20 @@ impl From<Failed> for ReadErr {
 
     fn from(_failed: Failed) -> ReadErr {
         ReadErr::DiskFault
+    }
+}
+
+impl From<ReadErr> for ShelfErr {
+    ghost use Rattle.std.specs.Prelude.{◌≡◌};
+    ghost use Rattle.ext_store.specs.Reading.{shelf_err};
+
+    ghost from_gives = { λ e f. f ≡ shelf_err e };
+
+    fn from(refused: ReadErr) -> ShelfErr {
+        match refused {
+            ReadErr::DiskFault => ShelfErr::Fault,
+            ReadErr::OutOfMemory => ShelfErr::OutOfMemory,
+        }
     }
 }
 
@@ -84,5 +100,41 @@ impl From<ListErr> for CleanErr {
             ListErr::Failed => CleanErr::DiskFault,
             ListErr::OutOfMemory => CleanErr::OutOfMemory,
         }
+    }
+}
+
+/// Why a file of the depot was not copied into the store.
+#[derive(Clone, Copy, Debug, PartialEq, Eq, Error)]
+pub enum CopyErr {
+    /// Out of memory.
+    #[error("out of memory")]
+    OutOfMemory,
+    /// The disk had a fault.
+    #[error("disk fault")]
+    DiskFault,
+    /// The depot had a fault.
+    #[error("depot fault")]
+    DepotFault,
+    /// The depot has no such file.
+    #[error("not in the depot")]
+    NotInDepot,
+    /// The file of the depot is another than the one that is listed.
+    #[error("a file of the depot is not the listed one")]
+    Mismatch {
+        /// The stamp that it is listed with.
+        listed: Stamp,
+        /// The stamp of what was read: of the whole file, or of one byte more than are listed.
+        found: Stamp,
+    },
+}
+
+impl From<OutOfMemory> for CopyErr {
+    ghost use Rattle.std.specs.Prelude.{◌≡◌};
+    ghost use Rattle.ext_store.specs.declared.errors.CopyErr.TheVariants as copy_errors;
+
+    ghost from_gives = { λ _ e. e ≡ copy_errors.OutOfMemory };
+
+    fn from(_refused: OutOfMemory) -> CopyErr {
+        CopyErr::OutOfMemory
     }
 }

@@ -6,18 +6,27 @@
 //! changed. The crate that carries generations through stops stands on this one.
 #![tactic(auto)]
 
+mod copying;
 mod errors;
+mod gen_shelf;
+mod hashing;
+mod held_files;
 pub mod laws;
 mod left_overs;
 mod names;
 mod paths;
 mod reading;
 mod removal;
+mod writing;
 
-pub use errors::{CleanErr, ReadErr};
+pub use copying::copy_from_depot;
+pub use errors::{CleanErr, CopyErr, ReadErr};
+pub use gen_shelf::GenShelf;
+pub use held_files::{file, piece, verify};
 pub use left_overs::{MOST_LEFT_OVERS, is_left_over, remove_left_overs};
 pub use names::{generation_of, read_current};
 pub use paths::{
     current_path, generation_path, home_folder, home_path, index_path, next_path, store_folder,
 };
 pub use reading::{Found, PIECE, read_file};
+pub use writing::{make_folder, settle_folder, write_file};

@@ -1,7 +1,8 @@
 // A file of the store, read whole.
-ghost use Rattle.std.specs.Prelude.{◌≡◌, ℕ, ◌^◌, ◌<◌, ◌≤◌, List, ◌++◌, length, OnOk, IfOk, IfErr};
+ghost use Rattle.std.specs.Prelude.{◌≡◌, ℕ, ◌+◌, ◌<◌, ◌≤◌, min, List, ◌++◌, length, OnOk, IfOk, IfErr};
 ghost use Rattle.ext_disk.specs.Since.{Rests};
 ghost use Rattle.ext_store.specs.Reading.{IsFoundAt, ReadCause, IsFileAt, IsPieceOf};
+ghost use Rattle.ext_store.specs.HeldFiles.{path_told, IsReadFrom};
 
 use crate::errors::ReadErr;
 use ext_disk::{Disk, Kind};
@@ -35,7 +36,6 @@ pub fn read_file<D: Disk>(
     path: &Path,
     most: usize,
 ) -> Result<Found, ReadErr>
-    requires { most < 2 ^ 32 }
     ensures found { IfOk result (IsFoundAt (D.state disk.old) path.now most) }
     ensures rests { Rests (D.state disk.old) (D.state disk.new) }
     ensures cause { IfErr result (ReadCause (D.state disk.old).faults (D.state disk.new).faults) }
@@ -55,22 +55,28 @@ fn read_whole<D: Disk>(
     path: &Path,
     most: usize,
 ) -> Result<Found, ReadErr>
-    requires few { most < 2 ^ 32 }
-    requires file { IsFileAt (D.state disk.old) path.now }
+    requires { IsFileAt (D.state disk.old) path.now }
     ensures found { IfOk result (IsFoundAt (D.state disk.old) path.now most) }
     ensures rests { Rests (D.state disk.old) (D.state disk.new) }
     ensures cause { IfErr result (ReadCause (D.state disk.old).faults (D.state disk.new).faults) }
 {
-    let mut buffer = zeros(alloc, PIECE.min(most + 1))?;
+    let mut buffer = zeros(alloc, room_for(most))?;
     let mut bytes = Vec::new(alloc);
     'pieces: while bytes.len() <= most {
-        let room = PIECE.min(most + 1 - bytes.len());
+        let room = room_for(most - bytes.len());
         let count = read_piece(disk, path, &mut buffer[..room], &mut bytes)?;
         if count == 0 {
             return Ok(Found::File(Text::from_vec(bytes)));
         }
     }
     Ok(Found::TooLong)
+}
+
+/// The room for so many bytes and one more, or for a piece.
+pub(crate) fn room_for(left: usize) -> usize
+    ensures { result ≡ min 65536 (left + 1) }
+{
+    if left < PIECE { left + 1 } else { PIECE }
 }
 
 // Reads once from where the bytes end, adds what was read to them, and gives how much that was.
@@ -91,6 +97,29 @@ fn read_piece<D: Disk>(
     let count = disk.read(path, bytes.len() as u64, buffer)?;
     append(bytes, &buffer[..count])?;
     Ok(count)
+}
+
+/// Reads bytes of the file at a path, from the byte `at` on, to the beginning of a buffer that has room for one at least, and
+/// gives how many: 0 exactly where no file stands there or it ends at or before `at`.
+///
+/// # Errors
+/// A fault of the disk, only where it counted one. The disk is as before.
+pub(crate) fn read_from<D: Disk>(
+    disk: &mut D,
+    path: &Path,
+    at: u64,
+    buf: &mut [u8],
+) -> Result<usize, ReadErr>
+    requires { 0 < length buf.old }
+    ensures within { IfOk result (λ n. n ≤ length buf.new) }
+    ensures read { IfOk result (IsReadFrom (path_told (D.state disk.old) path.now) at buf.new) }
+    ensures rests { Rests (D.state disk.old) (D.state disk.new) }
+    ensures cause { IfErr result (ReadCause (D.state disk.old).faults (D.state disk.new).faults) }
+{
+    match disk.kind(path)? {
+        Some(Kind::File(_)) => Ok(disk.read(path, at, buf)?),
+        _ => Ok(0),
+    }
 }
 
 /// A buffer of so many bytes.

@@ -5,4 +5,4 @@ use Rattle.ext_store.proofs.reading.read_whole.Goals as goal
 pub returns-clause-found : goal.returns-clause-found
 returns-clause-found g c =
     read_too_long (g.D.Disk.state c.args.disk.now).told c.args.path.now c.args.most c.pieces.bytes.items
-    c.requires.file c.pieces.invariant.0.begins (omega arith)
+    c.requires c.pieces.invariant.0.begins (omega arith)
