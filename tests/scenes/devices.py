@@ -240,6 +240,19 @@ def roots(folder):
         depot.expect(*((f"read {name} 0 9", f"bytes {name}") for name in "abcd"))
 
 
+def what_one_device_wrote_new_ones_find(folder):
+    pieces = ["a" * 65_536, "b" * 65_536, "cü"]
+    with Device("disk", folder) as disk:
+        disk.expect(*each(("make_dir d", "make_file d/a", *(f"append d/a {piece}" for piece in pieces), "sync_file d/a", "sync_dir d"), "done"))
+        disk.expect(*each(("make_file next", "append next g-1", "sync_file next", "sync_dir ", "rename next current", "sync_dir "), "done"))
+    for kind, size in ("disk", "kind"), ("depot", "size"):
+        with Device(kind, folder) as device:
+            device.expect((f"{size} d/a", "file 131075"), (f"{size} next", "nothing"), ("read current 0 9", "bytes g-1"))
+            device.expect(("read d/a 0 200000", f"bytes {''.join(pieces)}"), ("read d/a 131071 4", "bytes bcü"), ("read d/a 131075 9", "bytes "))
+    with Device("disk", folder) as disk:
+        disk.expect(("append d/a d", "done"), ("read d/a 131072 9", "bytes cüd"), ("list ", "names current d"), ("list d", "names a"))
+
+
 def what_stays_open_changes_no_answer(folder):
     """A file that was appended to is replaced, taken away or renamed, through the disk or from outside."""
     Path(folder, "d").mkdir()
@@ -274,7 +287,7 @@ def in_a_folder(call, *given):
 CALLS = [
     *(a_link_to_a_folder_is_followed_and_stays, a_link_to_a_file_is_followed_and_moved_itself, a_file_where_a_folder_should_be_on_the_way),
     *(what_is_missing, a_folder_that_is_not_empty_and_names_that_are_taken, names_that_are_none_are_not_listed),
-    *(names_that_make_no_path_are_not_listed, names_come_in_byte_order, without_permission, roots, what_stays_open_changes_no_answer),
+    *(names_that_make_no_path_are_not_listed, names_come_in_byte_order, without_permission, roots, what_one_device_wrote_new_ones_find, what_stays_open_changes_no_answer),
 ]
 
 

@@ -3,7 +3,7 @@ ghost use Rattle.ext_text.specs.Causes.{HasCause, Rose};
 ghost use Rattle.ext_folder.specs.Folder.{counted};
 
 use crate::folder_err::FolderErr;
-use crate::place::place;
+use crate::location::location;
 use ext_disk::Kind;
 use ext_io::{Failed, next_count, read_again};
 use ext_text::{Path, Text};
@@ -66,21 +66,21 @@ impl<R: Files> Folder<R> {
     }
 
     /// The system's path of what stands at a path.
-    pub(crate) fn place(&self, path: &Path) -> Result<String, FolderErr> {
-        place(&self.root, path)
+    pub(crate) fn location(&self, path: &Path) -> Result<String, FolderErr> {
+        location(&self.root, path)
     }
 
     /// The same, where the path is not the root, which is neither made, renamed nor removed.
-    pub(crate) fn place_below(&self, path: &Path) -> Result<String, FolderErr> {
+    pub(crate) fn location_below_root(&self, path: &Path) -> Result<String, FolderErr> {
         if path.names().is_empty() {
             return Err(FolderErr::Failed);
         }
-        self.place(path)
+        self.location(path)
     }
 
-    /// What stands at a place: a folder, a file, or nothing. Anything else is a fault, also a link that leads nowhere.
-    pub(crate) fn kind(&self, place: &str) -> Result<Option<Kind>, FolderErr> {
-        match found(&self.rt, place)? {
+    /// What stands at a location: a folder, a file, or nothing. Anything else is a fault, also a link that leads nowhere.
+    pub(crate) fn kind(&self, location: &str) -> Result<Option<Kind>, FolderErr> {
+        match found(&self.rt, location)? {
             None => Ok(None),
             Some(entry) if entry.is_dir() => Ok(Some(Kind::Dir)),
             Some(entry) if entry.is_file() => Ok(Some(Kind::File(entry.len()))),
@@ -88,9 +88,9 @@ impl<R: Files> Folder<R> {
         }
     }
 
-    /// What the system tells of the file at a place. That no file stands there is a fault.
-    pub(crate) fn file(&self, place: &str) -> Result<Metadata, FolderErr> {
-        let entry = fs::metadata(&self.rt, place)?;
+    /// What the system tells of the file at a location. That no file stands there is a fault.
+    pub(crate) fn file(&self, location: &str) -> Result<Metadata, FolderErr> {
+        let entry = fs::metadata(&self.rt, location)?;
         if entry.is_file() {
             Ok(entry)
         } else {
@@ -98,17 +98,17 @@ impl<R: Files> Folder<R> {
         }
     }
 
-    /// That no folder stands at a place is a fault.
-    pub(crate) fn need_folder(&self, place: &str) -> Result<(), FolderErr> {
-        match self.kind(place)? {
+    /// That no folder stands at a location is a fault.
+    pub(crate) fn need_folder(&self, location: &str) -> Result<(), FolderErr> {
+        match self.kind(location)? {
             Some(Kind::Dir) => Ok(()),
             _ => Err(FolderErr::Failed),
         }
     }
 
-    /// That a folder stands at a place is a fault.
-    pub(crate) fn need_no_folder(&self, place: &str) -> Result<(), FolderErr> {
-        match self.kind(place)? {
+    /// That a folder stands at a location is a fault.
+    pub(crate) fn need_no_folder(&self, location: &str) -> Result<(), FolderErr> {
+        match self.kind(location)? {
             Some(Kind::Dir) => Err(FolderErr::Failed),
             _ => Ok(()),
         }
@@ -119,34 +119,34 @@ impl<R: Files> Folder<R> {
     pub(crate) fn read(&self, path: &Path, at: u64, buf: &mut [u8]) -> Result<usize, FolderErr>
         ensures { IfOk result (λ count. count ≤ length buf.new) }
     {
-        let place = self.place(path)?;
-        if at >= self.file(place.as_str())?.len() {
+        let location = self.location(path)?;
+        if at >= self.file(location.as_str())?.len() {
             return Ok(0);
         }
-        let mut file = fs::open(&self.rt, place.as_str())?;
+        let mut file = fs::open(&self.rt, location.as_str())?;
         file.seek(SeekFrom::Start(at))?;
         Ok(read_again(&mut file, buf)?)
     }
 
-    /// Waits until what was written to the entry at a place is on the disk: a file's bytes and length, a folder's names.
-    pub(crate) fn sync(&self, place: &str) -> Result<(), FolderErr> {
-        fs::open(&self.rt, place)?.sync_all()?;
+    /// Waits until what was written to the entry at a location is on the disk: a file's bytes and length, a folder's names.
+    pub(crate) fn sync(&self, location: &str) -> Result<(), FolderErr> {
+        fs::open(&self.rt, location)?.sync_all()?;
         Ok(())
     }
 }
 
-// What stands at a place once links are followed, and nothing exactly where no entry does.
-fn found<R: Files>(rt: &R, place: &str) -> Result<Option<Metadata>, FolderErr> {
-    match fs::metadata(rt, place) {
+// What stands at a location once links are followed, and nothing exactly where no entry does.
+fn found<R: Files>(rt: &R, location: &str) -> Result<Option<Metadata>, FolderErr> {
+    match fs::metadata(rt, location) {
         Ok(entry) => Ok(Some(entry)),
-        Err(error) if is_missing(&error) => need_nothing(rt, place),
+        Err(error) if is_missing(&error) => need_nothing(rt, location),
         Err(error) => Err(error.into()),
     }
 }
 
 // Nothing. A link that leads nowhere is an entry.
-fn need_nothing<R: Files>(rt: &R, place: &str) -> Result<Option<Metadata>, FolderErr> {
-    match fs::symlink_metadata(rt, place) {
+fn need_nothing<R: Files>(rt: &R, location: &str) -> Result<Option<Metadata>, FolderErr> {
+    match fs::symlink_metadata(rt, location) {
         Err(error) if is_missing(&error) => Ok(None),
         _ => Err(FolderErr::Failed),
     }

@@ -41,8 +41,8 @@ impl<R: Files> FolderDepot<R> {
 
     // The size of the file at the path, if one stands there.
     fn file_size(&self, path: &Path) -> Result<Option<u64>, FolderErr> {
-        let place = self.folder.place(path)?;
-        match self.folder.kind(place.as_str())? {
+        let location = self.folder.location(path)?;
+        match self.folder.kind(location.as_str())? {
             Some(Kind::File(size)) => Ok(Some(size)),
             Some(Kind::Dir) | None => Ok(None),
         }

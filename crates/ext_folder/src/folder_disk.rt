@@ -49,21 +49,21 @@ impl<R: Files> FolderDisk<R> {
     }
 
     fn try_kind(&self, path: &Path) -> Result<Option<Kind>, FolderErr> {
-        let place = self.folder.place(path)?;
-        self.folder.kind(place.as_str())
+        let location = self.folder.location(path)?;
+        self.folder.kind(location.as_str())
     }
 
     fn try_make_dir(&self, path: &Path) -> Result<(), FolderErr> {
-        let place = self.folder.place_below(path)?;
-        fs::create_dir(&self.folder.rt, place.as_str())?;
+        let location = self.folder.location_below_root(path)?;
+        fs::create_dir(&self.folder.rt, location.as_str())?;
         Ok(())
     }
 
     fn try_make_file(&mut self, path: &Path) -> Result<(), FolderErr>
         ensures { self.new ≡ self.old }
     {
-        let place = self.folder.place_below(path)?;
-        self.last = Some(Writer::make(&self.folder.rt, place)?);
+        let location = self.folder.location_below_root(path)?;
+        self.last = Some(Writer::make(&self.folder.rt, location)?);
         Ok(())
     }
 
@@ -80,11 +80,11 @@ impl<R: Files> FolderDisk<R> {
     fn take_writer(&mut self, path: &Path) -> Result<Writer<R>, FolderErr>
         ensures { self.new ≡ self.old }
     {
-        let place = self.folder.place(path)?;
-        let found = self.folder.file(place.as_str())?;
+        let location = self.folder.location(path)?;
+        let found = self.folder.file(location.as_str())?;
         match self.last.take() {
-            Some(last) if last.is_at(place.as_str(), &found) => Ok(last),
-            _ => Writer::open(&self.folder.rt, place),
+            Some(last) if last.is_at(location.as_str(), &found) => Ok(last),
+            _ => Writer::open(&self.folder.rt, location),
         }
     }
 
@@ -92,29 +92,29 @@ impl<R: Files> FolderDisk<R> {
     fn try_sync_file(&mut self, path: &Path) -> Result<(), FolderErr>
         ensures { self.new ≡ self.old }
     {
-        let place = self.folder.place(path)?;
-        let found = self.folder.file(place.as_str())?;
+        let location = self.folder.location(path)?;
+        let found = self.folder.file(location.as_str())?;
         match self.last.take() {
-            Some(last) if last.is_at(place.as_str(), &found) => last.sync(),
+            Some(last) if last.is_at(location.as_str(), &found) => last.sync(),
             other => {
                 self.last = other;
-                self.folder.sync(place.as_str())
+                self.folder.sync(location.as_str())
             }
         }
     }
 
     // A file can be opened and synced as well, so a folder has to be found first.
     fn try_sync_dir(&self, dir: &Path) -> Result<(), FolderErr> {
-        let place = self.folder.place(dir)?;
-        self.folder.need_folder(place.as_str())?;
-        self.folder.sync(place.as_str())
+        let location = self.folder.location(dir)?;
+        self.folder.need_folder(location.as_str())?;
+        self.folder.sync(location.as_str())
     }
 
     fn try_rename(&mut self, from: &Path, to: &Path) -> Result<(), FolderErr>
         ensures { self.new ≡ self.old }
     {
-        let from = self.folder.place_below(from)?;
-        let to = self.folder.place_below(to)?;
+        let from = self.folder.location_below_root(from)?;
+        let to = self.folder.location_below_root(to)?;
         self.folder.file(from.as_str())?;
         self.folder.need_no_folder(to.as_str())?;
         fs::rename(&self.folder.rt, from.as_str(), to.as_str())?;
@@ -126,22 +126,22 @@ impl<R: Files> FolderDisk<R> {
     fn try_remove(&mut self, path: &Path) -> Result<(), FolderErr>
         ensures { self.new ≡ self.old }
     {
-        let place = self.folder.place_below(path)?;
-        match self.folder.kind(place.as_str())? {
-            Some(Kind::Dir) => fs::remove_dir(&self.folder.rt, place.as_str())?,
-            Some(Kind::File(_size)) => fs::remove_file(&self.folder.rt, place.as_str())?,
+        let location = self.folder.location_below_root(path)?;
+        match self.folder.kind(location.as_str())? {
+            Some(Kind::Dir) => fs::remove_dir(&self.folder.rt, location.as_str())?,
+            Some(Kind::File(_size)) => fs::remove_file(&self.folder.rt, location.as_str())?,
             None => return Err(FolderErr::Failed),
         }
-        self.close_at(place.as_str());
+        self.close_at(location.as_str());
         Ok(())
     }
 
-    // Closes the file that stayed open, where it was opened at the place or below it.
-    fn close_at(&mut self, place: &str)
+    // Closes the file that stayed open, where it was opened at the location or below it.
+    fn close_at(&mut self, location: &str)
         ensures { self.new ≡ self.old }
     {
         match self.last.take() {
-            Some(last) if last.is_at_or_below(place) => {}
+            Some(last) if last.is_at_or_below(location) => {}
             other => self.last = other,
         }
     }

@@ -11,7 +11,7 @@ mod folder_depot;
 mod folder_disk;
 mod folder_err;
 mod listing;
-mod place;
+mod location;
 mod writer;
 
 pub use folder_depot::FolderDepot;

@@ -28,11 +28,11 @@ impl<R: Files> Folder<R> {
         ensures sorted { IfOk result (IsStrictlySortedBy bytes_cmp) }
         ensures paths { IfOk result (AllByRecursion (λ n. IsPath (dir.now ++ n ∷ []))) }
     {
-        let mut place = self.place(dir)?;
-        self.need_folder(place.as_str())?;
+        let mut location = self.location(dir)?;
+        self.need_folder(location.as_str())?;
         // Only with a slash is a link to a folder followed.
-        grown(place.push('/'))?;
-        let mut listed = self.rt.open_dir(place.as_str())?;
+        grown(location.push('/'))?;
+        let mut listed = self.rt.open_dir(location.as_str())?;
         in_order(alloc, dir, names_of(alloc, &mut listed)?)
     }
 }
@@ -42,7 +42,7 @@ impl<R: Files> Folder<R> {
 fn names_of<D: Read>(alloc: Global, listed: &mut D) -> Result<BTreeSet<Name>, FolderErr> {
     let mut names = BTreeSet::new(alloc);
     let mut piece = grown(vec![in alloc; 0u8; PIECE])?;
-    for _ in 0..u64::MAX {
+    'pieces: for _ in 0..u64::MAX {
         let count = read_again(listed, &mut piece)?;
         if count == 0 {
             return Ok(names);
@@ -54,7 +54,7 @@ fn names_of<D: Read>(alloc: Global, listed: &mut D) -> Result<BTreeSet<Name>, Fo
 
 // Adds the names of a piece of a listing, each of which ends with a byte 0. No piece ends inside a name.
 fn add_names(alloc: Global, names: &mut BTreeSet<Name>, piece: &[u8]) -> Result<(), FolderErr> {
-    for bytes in piece.split(|byte| *byte == 0) {
+    'names: for bytes in piece.split(|byte| *byte == 0) {
         if !is_left_out(bytes) {
             grown(names.insert(read_name(alloc, bytes)?))?;
         }

@@ -1,59 +1,61 @@
 use crate::folder_err::FolderErr;
-use crate::place::is_at_or_below;
+use crate::location::is_at_or_below;
 use ext_io::{StdSink, write_all};
 use std::fs::{Files, Metadata, OpenFile, OpenOptions};
 use std::os::unix::fs::MetadataExt;
 
-/// A file that is open for writing at its end, and the place at which it was opened.
+/// A file that is open for writing at its end, and the location at which it was opened.
 ///
 /// Linux tells a write-back that failed to the handles that were open by then. So the file that was written stays open,
 /// and its sync is asked of the handle that wrote.
 #[derive(Drop)]
 pub(crate) struct Writer<R: Files> {
-    place: String,
+    location: String,
     file: R::File,
     device: u64,
     number: u64,
 }
 
 impl<R: Files> Writer<R> {
-    /// The file at a place.
+    /// The file at a location.
     ///
     /// # Errors
     /// The system refused.
-    pub(crate) fn open(rt: &R, place: String) -> Result<Writer<R>, FolderErr> {
-        Writer::with(rt, place, false)
+    pub(crate) fn open(rt: &R, location: String) -> Result<Writer<R>, FolderErr> {
+        Writer::with(rt, location, false)
     }
 
-    /// A new file, at a place where nothing stands.
+    /// A new file, at a location where nothing stands.
     ///
     /// # Errors
     /// The system refused, and so it does where anything stands there, a link too.
-    pub(crate) fn make(rt: &R, place: String) -> Result<Writer<R>, FolderErr> {
-        Writer::with(rt, place, true)
+    pub(crate) fn make(rt: &R, location: String) -> Result<Writer<R>, FolderErr> {
+        Writer::with(rt, location, true)
     }
 
-    fn with(rt: &R, place: String, is_new: bool) -> Result<Writer<R>, FolderErr> {
+    fn with(rt: &R, location: String, is_new: bool) -> Result<Writer<R>, FolderErr> {
         let mut how = OpenOptions::new();
         how.append(true).create_new(is_new);
-        let file = how.open(rt, place.as_str())?;
+        let file = how.open(rt, location.as_str())?;
         let found = file.metadata()?;
         Ok(Writer {
-            place,
+            location,
             file,
             device: found.dev(),
             number: found.ino(),
         })
     }
 
-    /// Whether this is the file that was found at the place: opening it anew would open the same.
-    pub(crate) fn is_at(&self, place: &str, found: &Metadata) -> bool {
-        self.place.as_str() == place && self.device == found.dev() && self.number == found.ino()
+    /// Whether this is the file that was found at the location: opening it anew would open the same.
+    pub(crate) fn is_at(&self, location: &str, found: &Metadata) -> bool {
+        self.location.as_str() == location
+            && self.device == found.dev()
+            && self.number == found.ino()
     }
 
-    /// Whether it was opened at the place or below it.
-    pub(crate) fn is_at_or_below(&self, place: &str) -> bool {
-        is_at_or_below(self.place.as_str(), place)
+    /// Whether it was opened at the location or below it.
+    pub(crate) fn is_at_or_below(&self, location: &str) -> bool {
+        is_at_or_below(self.location.as_str(), location)
     }
 
     /// Writes all the bytes at the end.

@@ -6,9 +6,9 @@ use ext_text::{OutOfMemory, Path, Text};
 ///
 /// # Errors
 /// `Failed` where the root is no UTF-8, and `OutOfMemory`.
-pub(crate) fn place(root: &Text, path: &Path) -> Result<String, FolderErr> {
+pub(crate) fn location(root: &Text, path: &Path) -> Result<String, FolderErr> {
     match String::from_utf8(joined(root, path)?) {
-        Ok(place) => Ok(place),
+        Ok(location) => Ok(location),
         Err(_not_text) => Err(FolderErr::Failed),
     }
 }
@@ -23,9 +23,9 @@ fn joined(root: &Text, path: &Path) -> Result<Vec<u8>, OutOfMemory> {
     Ok(bytes)
 }
 
-/// Whether a place is another one, or lies below it.
-pub(crate) fn is_at_or_below(place: &str, other: &str) -> bool {
-    match place.strip_prefix(other) {
+/// Whether a location is another one, or lies below it.
+pub(crate) fn is_at_or_below(location: &str, other: &str) -> bool {
+    match location.strip_prefix(other) {
         Some(rest) => rest.is_empty() || rest.starts_with('/'),
         None => false,
     }
