@@ -1,25 +1,24 @@
 -- The names that are settled in a folder of a disk in memory: those that are not settled, found among the spots from the
 -- folder on, up to the first one that is not below it.
-use Rattle.std.proofs.Common.{◌≡◌, ℕ, ◌⊎◌, Bool, true, false, not, cond, ◌&&◌, ◌||◌, List, [], ◌∷◌, ◌++◌, Option, Some, None, refl, sym, ap, ◌∙◌, subst, inl, inr, IsSome, ◌≢◌, append-nil, append_assoc}
+use Rattle.std.proofs.Common.{◌≡◌, ℕ, Bool, true, false, not, cond, ◌&&◌, ◌||◌, List, [], ◌∷◌, ◌++◌, Option, Some, None, refl, sym, ap, ◌∙◌, subst, inl, inr, IsSome, ◌≢◌, append-nil, append_assoc}
 use Rattle.std.proofs.lemmas.Bool.{false≢true, true≢false, and_parts}
 use Rattle.std.proofs.lemmas.Map.Keys.{sorted_head, sorted_tail}
 use Rattle.std.specs.BTreeMap.{is_at, get, WritesThrough}
-use Rattle.std.specs.BTreeMap.Range.{is_from_start, range_contains, entries_between}
+use Rattle.std.specs.BTreeMap.Range.{range_contains, entries_between}
 use Rattle.std.specs.Map.{lookup, keys_of}
-use Rattle.std.specs.List.{AllByRecursion, list_any, filter}
+use Rattle.std.specs.List.{AllByRecursion, list_any}
 use Rattle.std.specs.List.Sorted.{IsStrictlySortedBy}
 use Rattle.std.specs.Option.{is_some}
 use Rattle.std.specs.declared.cmp.Ordering.{Ordering}
 use Rattle.std.specs.declared.cmp.Ordering.TheVariants.{Less, Equal, Greater}
-use Rattle.std.specs.declared.ops.Bound.{Bound}
-use Rattle.std.specs.declared.ops.Bound.TheVariants.{Included, Excluded, Unbounded}
+use Rattle.std.specs.declared.ops.Bound.TheVariants.{Included, Unbounded}
 use Rattle.std.specs.Ordering.{is_gt, is_le, eq_by_cmp, ordering_then}
 use Rattle.ext_text.specs.Name.{bytes_cmp}
 use Rattle.ext_text.specs.Path.{path_cmp, is_prefix}
 use Rattle.ext_text.proofs.ForCallers.{is_equal, same_path, tied_path, convex}
-use Rattle.ext_disk.specs.Disk.{Place, Places, Swing, absent, root_place, is_settled}
+use Rattle.ext_disk.specs.Disk.{Place, Places, Swing, root_place, is_settled}
 use Rattle.ext_disk.specs.Calls.{put, is_child, settled, settled_in}
-use Rattle.ext_disk.specs.Spots.{Spots, place_of, place_at, found_place, is_open_in, is_open}
+use Rattle.ext_disk.specs.Spots.{Spots, place_of, place_at, found_place, is_unsettled_in, is_unsettled}
 use Rattle.ext_disk.specs.declared.spot.Spot.{Spot}
 use Rattle.ext_disk.proofs.Paths.{contrapose, child_prefix}
 use Rattle.ext_disk.proofs.Growth.{tied_or}
@@ -29,9 +28,9 @@ use Rattle.ext_disk.proofs.SpotsLemmas.{put_at, found_at, put_back, no_child_roo
 -- ---- the paths that are to be settled
 
 -- the paths directly in the folder whose names are not settled, in the order of the spots
-abbrev pub open_of : List (List ℕ) → Entries → List (List (List ℕ))
-open_of dir [] = []
-open_of dir (e ∷ es) = cond (is_open dir e.0 e.1) (e.0 ∷ open_of dir es) (open_of dir es)
+abbrev pub unsettled_of : List (List ℕ) → Entries → List (List (List ℕ))
+unsettled_of dir [] = []
+unsettled_of dir (e ∷ es) = cond (is_unsettled dir e.0 e.1) (e.0 ∷ unsettled_of dir es) (unsettled_of dir es)
 
 and_false : (a : Bool) → (a && false) ≡ false
 and_false true = refl
@@ -48,22 +47,22 @@ any_turn q k paths true false rest is more none = more ∙ none refl
 any_turn q k paths false true rest is more none = ap (λ b. b || list_any (eq_by_cmp path_cmp q) paths) is ∙ more
 any_turn q k paths false false rest is more none = more
 
-open_turn : (dir q : List (List ℕ)) (e : List (List ℕ) × Spot) (later : Option Spot) (tied : Bool) → (tied ≡ true → q ≡ e.0)
-    → cond tied (is_open dir e.0 e.1) (is_child dir q && not (is_settled (found_place later))) ≡ (is_child dir q && not (is_settled (found_place (cond tied (Some e.1) later))))
-open_turn dir q e later true here = ap (λ k. is_child dir k && not (is_settled (place_of e.1))) (sym (here refl))
-open_turn dir q e later false here = refl
+unsettled_turn : (dir q : List (List ℕ)) (e : List (List ℕ) × Spot) (later : Option Spot) (tied : Bool) → (tied ≡ true → q ≡ e.0)
+    → cond tied (is_unsettled dir e.0 e.1) (is_child dir q && not (is_settled (found_place later))) ≡ (is_child dir q && not (is_settled (found_place (cond tied (Some e.1) later))))
+unsettled_turn dir q e later true here = ap (λ k. is_child dir k && not (is_settled (place_of e.1))) (sym (here refl))
+unsettled_turn dir q e later false here = refl
 
-pub any_open : (dir q : List (List ℕ)) (es : Entries) → IsStrictlySortedBy path_cmp (keys_of es)
-    → list_any (eq_by_cmp path_cmp q) (open_of dir es) ≡ (is_child dir q && not (is_settled (found_place (lookup (is_at (path_cmp q)) es))))
-any_open dir q [] sorted = sym (and_false (is_child dir q))
-any_open dir q (e ∷ es) sorted =
+pub any_unsettled : (dir q : List (List ℕ)) (es : Entries) → IsStrictlySortedBy path_cmp (keys_of es)
+    → list_any (eq_by_cmp path_cmp q) (unsettled_of dir es) ≡ (is_child dir q && not (is_settled (found_place (lookup (is_at (path_cmp q)) es))))
+any_unsettled dir q [] sorted = sym (and_false (is_child dir q))
+any_unsettled dir q (e ∷ es) sorted =
     let tied = eq_by_cmp path_cmp q e.0 in
     let later = lookup (is_at (path_cmp q)) es in
-    any_turn q e.0 (open_of dir es) tied (is_open dir e.0 e.1) (is_child dir q && not (is_settled (found_place later))) refl (any_open dir q es (sorted_tail path_cmp e.0 (keys_of es) sorted))
+    any_turn q e.0 (unsettled_of dir es) tied (is_unsettled dir e.0 e.1) (is_child dir q && not (is_settled (found_place later))) refl (any_unsettled dir q es (sorted_tail path_cmp e.0 (keys_of es) sorted))
     (λ is.
     let none : later ≡ None = ap (λ k. lookup (is_at (path_cmp k)) es) (same_path q e.0 is) ∙ none_later e.0 es (sorted_head path_cmp e.0 (keys_of es) sorted) in
     ap (λ o. is_child dir q && not (is_settled (found_place o))) none ∙ and_false (is_child dir q))
-    ∙ open_turn dir q e later tied (λ is. same_path q e.0 is)
+    ∙ unsettled_turn dir q e later tied (λ is. same_path q e.0 is)
 
 -- ---- only spots from the folder on are asked
 
@@ -99,16 +98,16 @@ from_low dir q is = low_from_le (path_cmp dir q) (and_parts (is_le (path_cmp dir
 child_from : (dir q : List (List ℕ)) → is_child dir q ≡ true → is_from dir q ≡ true
 child_from dir q child = ap (λ b. b && true) (le_from_low (path_cmp dir q) (prefix_low dir q (child_prefix dir q child)))
 
-filtered_turn : (dir : List (List ℕ)) (e : List (List ℕ) × Spot) (t : Bool) (rest es : Entries) → (is_open dir e.0 e.1 ≡ true → t ≡ true) → open_of dir rest ≡ open_of dir es
-    → open_of dir (cond t (e ∷ rest) rest) ≡ open_of dir (e ∷ es)
-filtered_turn dir e true rest es kept more = ap (λ l. cond (is_open dir e.0 e.1) (e.0 ∷ l) l) more
-filtered_turn dir e false rest es kept more = more ∙ ap (λ o. cond o (e.0 ∷ open_of dir es) (open_of dir es)) (sym (contrapose _ _ kept refl))
+filtered_turn : (dir : List (List ℕ)) (e : List (List ℕ) × Spot) (t : Bool) (rest es : Entries) → (is_unsettled dir e.0 e.1 ≡ true → t ≡ true) → unsettled_of dir rest ≡ unsettled_of dir es
+    → unsettled_of dir (cond t (e ∷ rest) rest) ≡ unsettled_of dir (e ∷ es)
+filtered_turn dir e true rest es kept more = ap (λ l. cond (is_unsettled dir e.0 e.1) (e.0 ∷ l) l) more
+filtered_turn dir e false rest es kept more = more ∙ ap (λ o. cond o (e.0 ∷ unsettled_of dir es) (unsettled_of dir es)) (sym (contrapose _ _ kept refl))
 
-pub open_from : (dir : List (List ℕ)) (es : Entries) → open_of dir (spots_from dir es) ≡ open_of dir es
-open_from dir [] = refl
-open_from dir (e ∷ es) =
+pub unsettled_from : (dir : List (List ℕ)) (es : Entries) → unsettled_of dir (spots_from dir es) ≡ unsettled_of dir es
+unsettled_from dir [] = refl
+unsettled_from dir (e ∷ es) =
     filtered_turn dir e (is_from dir e.0) (spots_from dir es) es
-    (λ unsettled. child_from dir e.0 (and_parts (is_child dir e.0) (not (is_settled (place_of e.1))) unsettled).0) (open_from dir es)
+    (λ unsettled. child_from dir e.0 (and_parts (is_child dir e.0) (not (is_settled (place_of e.1))) unsettled).0) (unsettled_from dir es)
 
 all_turn : (P : List (List ℕ) → Type 0) (t : Bool) (e : List (List ℕ) × Spot) (rest : Entries) → (t ≡ true → P e.0) → AllByRecursion P (keys_of rest) → AllByRecursion P (keys_of (cond t (e ∷ rest) rest))
 all_turn P true e rest here more = (here refl, more)
@@ -141,31 +140,31 @@ all_past dir p [] out low less = tt
 all_past dir p (k ∷ ks) out low less =
     (contrapose _ _ (λ child. convex dir p k low (ap is_gt less.0) (child_prefix dir k child)) out, all_past dir p ks out low less.1)
 
-none_open : (dir : List (List ℕ)) (es : Entries) → AllByRecursion (λ k. is_child dir k ≡ false) (keys_of es) → open_of dir es ≡ []
-none_open dir [] none = refl
-none_open dir (e ∷ es) none =
-    ap (λ b. cond (b && not (is_settled (place_of e.1))) (e.0 ∷ open_of dir es) (open_of dir es)) none.0 ∙ none_open dir es none.1
+none_unsettled : (dir : List (List ℕ)) (es : Entries) → AllByRecursion (λ k. is_child dir k ≡ false) (keys_of es) → unsettled_of dir es ≡ []
+none_unsettled dir [] none = refl
+none_unsettled dir (e ∷ es) none =
+    ap (λ b. cond (b && not (is_settled (place_of e.1))) (e.0 ∷ unsettled_of dir es) (unsettled_of dir es)) none.0 ∙ none_unsettled dir es none.1
 
-pub open_past : (dir : List (List ℕ)) (left : Entries) (e : List (List ℕ) × Spot) (es : Entries) → left ≡ e ∷ es → is_prefix dir e.0 ≡ false
-    → AllByRecursion (λ k. is_gt (path_cmp dir k) ≡ false) (keys_of left) → IsStrictlySortedBy path_cmp (keys_of left) → open_of dir left ≡ []
-open_past dir left e es is out low sorted =
+pub unsettled_past : (dir : List (List ℕ)) (left : Entries) (e : List (List ℕ) × Spot) (es : Entries) → left ≡ e ∷ es → is_prefix dir e.0 ≡ false
+    → AllByRecursion (λ k. is_gt (path_cmp dir k) ≡ false) (keys_of left) → IsStrictlySortedBy path_cmp (keys_of left) → unsettled_of dir left ≡ []
+unsettled_past dir left e es is out low sorted =
     let low_here = (subst (λ l. AllByRecursion (λ k. is_gt (path_cmp dir k) ≡ false) (keys_of l)) is low).0 in
     let sorted_here = subst (λ l. IsStrictlySortedBy path_cmp (keys_of l)) is sorted in
-    ap (open_of dir) is
-    ∙ none_open dir (e ∷ es) (contrapose _ _ (child_prefix dir e.0) out, all_past dir e.0 (keys_of es) out low_here (sorted_head path_cmp e.0 (keys_of es) sorted_here))
+    ap (unsettled_of dir) is
+    ∙ none_unsettled dir (e ∷ es) (contrapose _ _ (child_prefix dir e.0) out, all_past dir e.0 (keys_of es) out low_here (sorted_head path_cmp e.0 (keys_of es) sorted_here))
 
 -- ---- as they are gathered
 
 -- what is left of the spots, and the paths so far
-pub record IsOpenSoFar (dir : List (List ℕ)) (spots : Spots) (unsettled : List (List (List ℕ))) (left : Entries) : Type 0 where
-  pub so_far : unsettled ++ open_of dir left ≡ open_of dir spots.entries
+pub record IsUnsettledSoFar (dir : List (List ℕ)) (spots : Spots) (unsettled : List (List (List ℕ))) (left : Entries) : Type 0 where
+  pub so_far : unsettled ++ unsettled_of dir left ≡ unsettled_of dir spots.entries
   pub sorted : IsStrictlySortedBy path_cmp (keys_of left)
   pub low : AllByRecursion (λ k. is_gt (path_cmp dir k) ≡ false) (keys_of left)
 
-pub open_first : (dir : List (List ℕ)) (spots : Spots) (unsettled : List (List (List ℕ))) (left : Entries) → unsettled ≡ [] → left ≡ spots_from dir spots.entries → IsStrictlySortedBy path_cmp (keys_of spots.entries)
-    → IsOpenSoFar dir spots unsettled left
-open_first dir spots unsettled left none is sorted = subst (IsOpenSoFar dir spots unsettled) (sym is) (record {
-  so_far = ap (λ l. l ++ open_of dir (spots_from dir spots.entries)) none ∙ open_from dir spots.entries;
+pub unsettled_first : (dir : List (List ℕ)) (spots : Spots) (unsettled : List (List (List ℕ))) (left : Entries) → unsettled ≡ [] → left ≡ spots_from dir spots.entries → IsStrictlySortedBy path_cmp (keys_of spots.entries)
+    → IsUnsettledSoFar dir spots unsettled left
+unsettled_first dir spots unsettled left none is sorted = subst (IsUnsettledSoFar dir spots unsettled) (sym is) (record {
+  so_far = ap (λ l. l ++ unsettled_of dir (spots_from dir spots.entries)) none ∙ unsettled_from dir spots.entries;
   sorted = sorted_from dir spots.entries sorted;
   low = all_low dir spots.entries;
 })
@@ -174,27 +173,27 @@ gathered_turn : (unsettled : List (List (List ℕ))) (p : List (List ℕ)) (rest
 gathered_turn unsettled p rest true = append_assoc unsettled (p ∷ []) rest
 gathered_turn unsettled p rest false = append_assoc unsettled [] rest
 
-pub open_next : (dir : List (List ℕ)) (spots : Spots) (unsettled more : List (List (List ℕ))) (left : Entries) (e : List (List ℕ) × Spot) (es : Entries) → IsOpenSoFar dir spots unsettled left → left ≡ e ∷ es
-    → more ≡ unsettled ++ cond (is_open dir e.0 e.1) (e.0 ∷ []) [] → IsOpenSoFar dir spots more es
-open_next dir spots unsettled more left e es so_far is more_is =
-    let here = subst (IsOpenSoFar dir spots unsettled) is so_far in
+pub unsettled_next : (dir : List (List ℕ)) (spots : Spots) (unsettled more : List (List (List ℕ))) (left : Entries) (e : List (List ℕ) × Spot) (es : Entries) → IsUnsettledSoFar dir spots unsettled left → left ≡ e ∷ es
+    → more ≡ unsettled ++ cond (is_unsettled dir e.0 e.1) (e.0 ∷ []) [] → IsUnsettledSoFar dir spots more es
+unsettled_next dir spots unsettled more left e es so_far is more_is =
+    let here = subst (IsUnsettledSoFar dir spots unsettled) is so_far in
     record {
-      so_far = ap (λ l. l ++ open_of dir es) more_is ∙ gathered_turn unsettled e.0 (open_of dir es) (is_open dir e.0 e.1) ∙ here.so_far;
+      so_far = ap (λ l. l ++ unsettled_of dir es) more_is ∙ gathered_turn unsettled e.0 (unsettled_of dir es) (is_unsettled dir e.0 e.1) ∙ here.so_far;
       sorted = sorted_tail path_cmp e.0 (keys_of es) here.sorted;
       low = here.low.1;
     }
 
-open_at : (spots : Spots) (dir q : List (List ℕ)) → (is_child dir q && not (is_settled (found_place (lookup (is_at (path_cmp q)) spots.entries)))) ≡ is_open_in dir (place_at spots) q
-open_at spots dir [] =
+unsettled_at : (spots : Spots) (dir q : List (List ℕ)) → (is_child dir q && not (is_settled (found_place (lookup (is_at (path_cmp q)) spots.entries)))) ≡ is_unsettled_in dir (place_at spots) q
+unsettled_at spots dir [] =
     and_first (is_child dir []) _ (no_child_root dir) ∙ sym (and_first (is_child dir []) _ (no_child_root dir))
-open_at spots dir (n ∷ q) = refl
+unsettled_at spots dir (n ∷ q) = refl
 
 -- where none is left that is to be settled, they are all of them
-pub open_all : (dir : List (List ℕ)) (spots : Spots) (unsettled : List (List (List ℕ))) (left : Entries) → IsOpenSoFar dir spots unsettled left → open_of dir left ≡ [] → IsStrictlySortedBy path_cmp (keys_of spots.entries)
-    → (q : List (List ℕ)) → list_any (eq_by_cmp path_cmp q) unsettled ≡ is_open_in dir (place_at spots) q
-open_all dir spots unsettled left so_far none sorted q =
-    let whole : unsettled ≡ open_of dir spots.entries = sym (append-nil unsettled) ∙ ap (λ l. unsettled ++ l) (sym none) ∙ so_far.so_far in
-    ap (list_any (eq_by_cmp path_cmp q)) whole ∙ any_open dir q spots.entries sorted ∙ open_at spots dir q
+pub unsettled_all : (dir : List (List ℕ)) (spots : Spots) (unsettled : List (List (List ℕ))) (left : Entries) → IsUnsettledSoFar dir spots unsettled left → unsettled_of dir left ≡ [] → IsStrictlySortedBy path_cmp (keys_of spots.entries)
+    → (q : List (List ℕ)) → list_any (eq_by_cmp path_cmp q) unsettled ≡ is_unsettled_in dir (place_at spots) q
+unsettled_all dir spots unsettled left so_far none sorted q =
+    let whole : unsettled ≡ unsettled_of dir spots.entries = sym (append-nil unsettled) ∙ ap (λ l. unsettled ++ l) (sym none) ∙ so_far.so_far in
+    ap (list_any (eq_by_cmp path_cmp q)) whole ∙ any_unsettled dir q spots.entries sorted ∙ unsettled_at spots dir q
 
 -- ---- settled in turn
 
@@ -274,7 +273,7 @@ settle_next d e f paths more p so_far here is q =
     ∙ ap (λ b. cond b (settled (d q)) (d q)) (sym (ap (list_any (eq_by_cmp path_cmp q)) is ∙ any_push q paths p))
 
 -- those that were to be settled are settled, and so the folder is
-pub settled_all : (d e : Places) (dir : List (List ℕ)) (paths : List (List (List ℕ))) → ((q : List (List ℕ)) → list_any (eq_by_cmp path_cmp q) paths ≡ is_open_in dir d q)
+pub settled_all : (d e : Places) (dir : List (List ℕ)) (paths : List (List (List ℕ))) → ((q : List (List ℕ)) → list_any (eq_by_cmp path_cmp q) paths ≡ is_unsettled_in dir d q)
     → ((q : List (List ℕ)) → e q ≡ cond (list_any (eq_by_cmp path_cmp q) paths) (settled (d q)) (d q)) → (q : List (List ℕ)) → e q ≡ settled_in dir d q
 settled_all d e dir paths unsettled each q =
     each q ∙ ap (λ b. cond b (settled (d q)) (d q)) (unsettled q) ∙ settled_where (is_child dir q) (d q) (is_settled (d q)) refl

@@ -2,14 +2,12 @@
 use Rattle.std.proofs.Common.{◌≡◌, ◌≢◌, ℕ, Bool, true, false, cond, List, [], ◌∷◌, Option, Some, None, IsSome, Result, Ok, Err, OnOk, OnErr, refl, sym, ap, ◌∙◌, subst}
 use Rattle.std.proofs.lemmas.Bool.{false≢true, true≢false}
 use Rattle.std.specs.BTreeMap.{get, is_at, Updates, WritesThrough}
-use Rattle.std.specs.Map.{lookup}
-use Rattle.std.specs.Map.Calls.{RetainsPairs}
 use Rattle.std.specs.Option.{is_some}
 use Rattle.std.specs.Ordering.{eq_by_cmp}
 use Rattle.ext_text.specs.Path.{path_cmp}
 use Rattle.ext_text.proofs.ForCallers.{same_path}
-use Rattle.ext_disk.specs.Disk.{Place, Places, root_place, absent, is_file}
-use Rattle.ext_disk.specs.Calls.{put, is_child, settled, settled_in}
+use Rattle.ext_disk.specs.Disk.{Place, Places, absent, is_file}
+use Rattle.ext_disk.specs.Calls.{put, is_child}
 use Rattle.ext_disk.specs.Spots.{Spots, place_of, place_at, found_place}
 use Rattle.ext_disk.specs.declared.spot.Spot.{Spot}
 

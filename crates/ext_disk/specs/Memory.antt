@@ -1,5 +1,5 @@
 -- What contracts see of a disk in memory: what it is as a disk, each path, and what it counts and keeps of its calls.
-use Rattle.std.specs.Prelude.{◌≡◌, ℕ, List, [], Option, Some, None, Bool, Result, Ok, Err, true, false}
+use Rattle.std.specs.Prelude.{◌≡◌, ℕ, List, [], Option, Some, Bool, Result, Ok, Err, true, false}
 use Rattle.ext_disk.specs.Disk.{Places, Told, DiskState}
 use Rattle.ext_disk.specs.Deeds.{told_of, replay}
 use Rattle.ext_disk.specs.Meter.{IsMetered}

@@ -52,9 +52,9 @@ abbrev pub spot_name : List (List ℕ) → List (List ℕ) → Spot → Option (
 spot_name dir path spot = if is_some (node_of spot.content) then child_name dir path else None
 
 -- a path directly in the folder whose name is not settled
-abbrev pub is_open_in : List (List ℕ) → Places → List (List ℕ) → Bool
-is_open_in dir d q = is_child dir q && not (is_settled (d q))
+abbrev pub is_unsettled_in : List (List ℕ) → Places → List (List ℕ) → Bool
+is_unsettled_in dir d q = is_child dir q && not (is_settled (d q))
 
 -- the same, of the path's own spot
-abbrev pub is_open : List (List ℕ) → List (List ℕ) → Spot → Bool
-is_open dir path spot = is_child dir path && not (is_settled (place_of spot))
+abbrev pub is_unsettled : List (List ℕ) → List (List ℕ) → Spot → Bool
+is_unsettled dir path spot = is_child dir path && not (is_settled (place_of spot))

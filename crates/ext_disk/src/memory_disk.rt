@@ -159,7 +159,7 @@ impl Disk for MemoryDisk {
     {
         self.meter.admit(DiskOp::Read, path, buf.len() as u64)?;
         match bytes_at(&self.history.spots, path) {
-            Some(bytes) => Ok(bytes.read(at, buf)),
+            Some(file) => Ok(file.read(at, buf)),
             None => Ok(0),
         }
     }

@@ -58,8 +58,8 @@ pub(crate) struct Part {
     pub(crate) piece: Piece,
 }
 
-/// The bytes of a file: one piece after another. An append costs one more piece, a copy shares them all, and a byte is
-/// found by a search.
+/// The bytes of a file: one piece after another. An append adds one and touches no other, a copy shares them all, and a
+/// byte is found by a search for its piece.
 #[derive(Debug, Drop)]
 pub(crate) struct Pieces {
     parts: Vec<Part>,
@@ -149,8 +149,8 @@ fn share_parts(shared: &mut Vec<Part>, parts: &[Part]) -> Result<(), OutOfMemory
     Ok(())
 }
 
-// The index of a part, and how many bytes from its first one on the byte `at` of the file stands. It is the part that has
-// the byte, or the last one.
+// The index of the part that has the byte `at` of the file, or of the last one where none has, and how many bytes of that
+// part come before it.
 fn part_at(parts: &[Part], at: usize) -> (usize, usize)
     requires { AreLaid 0 parts.now }
     ensures within { result.0 ≤ length parts.now }
@@ -165,7 +165,8 @@ fn part_at(parts: &[Part], at: usize) -> (usize, usize)
     }
 }
 
-// Copies bytes of the parts, without so many of the first ones, to the beginning of the buffer, and gives how many.
+// Copies bytes of the parts, but for so many of the first ones, to the beginning of the buffer until it is full, and gives
+// how many.
 fn read_parts(parts: &[Part], passed: usize, buf: &mut [u8]) -> usize
     requires { 0 < length buf.old }
     ensures within { result ≤ length buf.new }

@@ -1,4 +1,4 @@
-use Rattle.std.proofs.Common.{◌≡◌, ◌∙◌, ◌++◌, length, refl, sym, ap, arith}
+use Rattle.std.proofs.Common.{◌∙◌, ◌++◌, length, refl, sym, ap, arith}
 use Rattle.ext_disk.specs.Pieces.{joined}
 use Rattle.ext_disk.specs.declared.pieces.Part.{Part}
 use Rattle.ext_disk.proofs.PiecesLemmas.{pieces_push, joined_push}

@@ -1,4 +1,4 @@
-use Rattle.std.proofs.Common.{◌≡◌, ◌∙◌, drop, sym, ap, subst}
+use Rattle.std.proofs.Common.{◌∙◌, drop, sym, ap, subst}
 use Rattle.std.proofs.lemmas.List.{take_rest}
 use Rattle.ext_io.specs.Device.{IsReadAt}
 use Rattle.ext_disk.specs.Pieces.{joined}
