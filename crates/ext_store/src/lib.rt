@@ -17,6 +17,8 @@ mod names;
 mod paths;
 mod reading;
 mod removal;
+#[cfg(test)]
+mod tests;
 mod writing;
 
 pub use copying::copy_from_depot;
