@@ -13,7 +13,7 @@ use Rattle.ext_text.specs.Path.{path_cmp, is_prefix}
 use Rattle.ext_text.proofs.ForCallers.{same_path, tied_path, prefix_self}
 use Rattle.ext_disk.specs.Disk.{Node, folder, file, Place, Places, Told, DiskState, BothTold, IsTree, IsDisk, is_file, is_no_folder, is_settled, at_prefixes}
 use Rattle.ext_disk.specs.Since.{Rests}
-use Rattle.ext_disk.specs.Calls.{Call, make_dir, make_file, append, sync_file, sync_dir, IsFree, Does, DoesTold, EndsTold, IsWithin, Fails, put, loosened, written, bytes_of, settled, settled_in, is_child, child_name}
+use Rattle.ext_disk.specs.Calls.{Call, make_dir, make_file, append, sync_file, sync_dir, IsFree, Does, DoesTold, EndsTold, IsWithin, Fails, put, loosened, written, bytes_of, settled, is_child, child_name}
 use Rattle.ext_disk.specs.Fixed.{touches}
 use Rattle.ext_disk.proofs.ForCallers.{spares_then, spares_wider, spares_itself, rests_spares, call_spares_out_of_reach}
 use Rattle.ext_store.specs.Writing.{is_at, nowhere, WorksTold, Works, IsMade, IsWritten, IsFileOf, Holds, is_settled_to, SettlesIn, Appends}

@@ -2,9 +2,9 @@ ghost use Rattle.std.specs.Prelude.{◌≡◌, ◌∷◌, ◌++◌, [], IsTrue, 
 ghost use Rattle.ext_disk.specs.Calls.{make_file, MayCall};
 
 use crate::{
-    CopyErr, Found, GenShelf, copy_from_depot, current_path, file, generation_path, home_path,
-    index_path, is_left_over, laws, make_folder, next_path, piece, read_current, read_file,
-    remove_left_overs, settle_folder, store_folder, verify, write_file,
+    CompareErr, CopyErr, Found, GenShelf, copy_from_depot, current_path, file, generation_path,
+    home_path, index_path, is_left_over, is_same_as_kept, laws, make_folder, next_path, piece,
+    read_current, read_file, remove_left_overs, settle_folder, store_folder, verify, write_file,
 };
 use ext_depot::MemoryDepot;
 use ext_disk::{Disk, DiskOp, Kind, MemoryDisk};
@@ -226,12 +226,18 @@ static COPIES: [(Option<&[u8]>, &[u8], u64); 6] = [
     (None, b"abc", 99),
 ];
 
+// A depot with a file of these bytes, or with none.
+fn depot_of(alloc: Global, path: &Path, bytes: Option<&[u8]>) -> Result<MemoryDepot, Fail> {
+    let mut files = MemoryDepot::new(alloc, Calls::new(alloc));
+    if let Some(bytes) = bytes {
+        files.put(path.copy()?, Text::from_bytes(alloc, bytes)?)?;
+    }
+    Ok(files)
+}
+
 fn copied(alloc: Global, depot: Option<&[u8]>, listed: &[u8]) -> Result<u64, Fail> {
     let from = Path::read(alloc, b"images/a")?;
-    let mut files = MemoryDepot::new(alloc, Calls::new(alloc));
-    if let Some(bytes) = depot {
-        files.put(from.copy()?, Text::from_bytes(alloc, bytes)?)?;
-    }
+    let mut files = depot_of(alloc, &from, depot)?;
     let mut disk = MemoryDisk::new(alloc, Calls::new(alloc), None);
     let dir = store_folder(alloc);
     let name = Name::read(alloc, b"a")?;
@@ -258,6 +264,45 @@ fn copied(alloc: Global, depot: Option<&[u8]>, listed: &[u8]) -> Result<u64, Fai
 fn a_copy_is_what_is_listed(rt: HostRuntime) -> Result<(), Fail> {
     for (depot, listed, size) in &COPIES {
         assert!(rt; copied(rt.alloc(), *depot, listed)? == *size);
+    }
+    Ok(())
+}
+
+// What the depot has and what is listed, and what a comparison with a kept file of the bytes `abc` says.
+static COMPARED: [(Option<&[u8]>, &[u8], &[u8]); 5] = [
+    (Some(b"abc"), b"abc", b"same"),
+    (Some(b"abd"), b"abc", b"mismatch"),
+    (Some(b"abcd"), b"abc", b"mismatch"),
+    (None, b"abc", b"not in the depot"),
+    (Some(b"abd"), b"abd", b"damaged"),
+];
+
+fn comparison(alloc: Global, depot: Option<&[u8]>, listed: &[u8]) -> Result<&'static [u8], Fail> {
+    let from = Path::read(alloc, b"images/a")?;
+    let mut files = depot_of(alloc, &from, depot)?;
+    let mut disk = filled(alloc)?;
+    let home = Home {
+        generation: 2,
+        file: 0,
+    };
+    let stamp = stamp_of(listed);
+    if stamp.size > 3 {
+        return Err("too long".into());
+    }
+    match is_same_as_kept(alloc, &mut disk, &home, &mut files, &from, &stamp) {
+        Ok(true) => Ok(b"same"),
+        Ok(false) => Ok(b"other"),
+        Err(CompareErr::Mismatch { .. }) => Ok(b"mismatch"),
+        Err(CompareErr::NotInDepot) => Ok(b"not in the depot"),
+        Err(CompareErr::Damaged { .. }) => Ok(b"damaged"),
+        Err(_) => Err("a fault".into()),
+    }
+}
+
+#[test]
+fn a_file_of_the_depot_is_compared_with_a_kept_one(rt: HostRuntime) -> Result<(), Fail> {
+    for (depot, listed, text) in &COMPARED {
+        assert!(rt; comparison(rt.alloc(), *depot, listed)? == *text);
     }
     Ok(())
 }
