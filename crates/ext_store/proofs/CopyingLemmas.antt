@@ -71,7 +71,7 @@ pub begins_nothing : (contents : Option Files) (path : List (List ℕ)) → IfSo
 begins_nothing None path there = tt
 begins_nothing (Some files) path there = begins_bytes (files path) there
 
-begins_then : (told : shelf.Told) (bytes piece : List ℕ) (at : ℕ) → length bytes ≡ at → Begins told bytes → IsPieceTold told at piece → Begins told (bytes ++ piece)
+pub begins_then : (told : shelf.Told) (bytes piece : List ℕ) (at : ℕ) → length bytes ≡ at → Begins told bytes → IsPieceTold told at piece → Begins told (bytes ++ piece)
 begins_then untold bytes piece at long begins next = tt
 begins_then missing bytes piece at long begins next = begins
 begins_then (stored all) bytes piece at long begins next = begins_more all bytes piece begins (subst (λ n. IsPieceAt all n piece) (sym long) next)
@@ -81,7 +81,7 @@ no_piece [] none = refl
 no_piece (b ∷ piece) none = absurd (omega (arith, none))
 
 -- what was read is all that there is, or one byte more than so many
-read_up_to : (told : shelf.Told) (size at n : ℕ) (bytes piece : List ℕ) → length bytes ≡ at → length piece ≡ n → at ≤ size → at + n ≤ size + 1 → (n ≡ 0) ⊎ (size < at + n)
+pub read_up_to : (told : shelf.Told) (size at n : ℕ) (bytes piece : List ℕ) → length bytes ≡ at → length piece ≡ n → at ≤ size → at + n ≤ size + 1 → (n ≡ 0) ⊎ (size < at + n)
     → Begins told bytes → IsPieceTold told at piece → IsReadUpTo told size (bytes ++ piece)
 read_up_to untold size at n bytes piece long longer within most end begins next = tt
 read_up_to missing size at n bytes piece long longer within most end begins next = begins
@@ -232,7 +232,7 @@ keeps_made path size old new d works stands before kept = record {
 
 -- ---- the copy is whole
 
-told_whole : (told : shelf.Told) (size : ℕ) (bytes : List ℕ) → IsReadUpTo told size bytes → length bytes ≤ size → IsTold told bytes
+pub told_whole : (told : shelf.Told) (size : ℕ) (bytes : List ℕ) → IsReadUpTo told size bytes → length bytes ≤ size → IsTold told bytes
 told_whole untold size bytes read fits = tt
 told_whole missing size bytes read fits = read
 told_whole (stored all) size bytes read fits = read ∙ take_all (size + 1) all (short all read)

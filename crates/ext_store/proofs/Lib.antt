@@ -7,3 +7,4 @@ pub mod LeftOversLemmas
 pub mod WritingLemmas
 pub mod HashingLemmas
 pub mod CopyingLemmas
+pub mod ComparingLemmas

@@ -13,7 +13,7 @@ use Rattle.ext_text.specs.Path.{path_cmp, is_prefix}
 use Rattle.ext_text.proofs.ForCallers.{same_path, tied_path, prefix_self}
 use Rattle.ext_disk.specs.Disk.{Node, folder, file, Place, Places, Told, DiskState, BothTold, IsTree, IsDisk, is_file, is_no_folder, is_settled, at_prefixes}
 use Rattle.ext_disk.specs.Since.{Rests}
-use Rattle.ext_disk.specs.Calls.{Call, make_dir, make_file, append, sync_file, sync_dir, IsFree, Does, DoesTold, EndsTold, IsWithin, Fails, put, loosened, written, bytes_of, settled, settled_in, is_child, child_name}
+use Rattle.ext_disk.specs.Calls.{Call, make_dir, make_file, append, sync_file, sync_dir, IsFree, Does, DoesTold, EndsTold, IsWithin, Fails, put, loosened, written, bytes_of, settled, is_child, child_name}
 use Rattle.ext_disk.specs.Fixed.{touches}
 use Rattle.ext_disk.proofs.ForCallers.{spares_then, spares_wider, spares_itself, rests_spares, call_spares_out_of_reach}
 use Rattle.ext_store.specs.Writing.{is_at, nowhere, WorksTold, Works, IsMade, IsWritten, IsFileOf, Holds, is_settled_to, SettlesIn, Appends}
@@ -266,21 +266,28 @@ same_soft : (b : Bool) (x : Place) → (cond b (settled x) x).soft ≡ x.soft
 same_soft true x = refl
 same_soft false x = refl
 
-settles : (dir : List (List ℕ)) (d e : Told) → DoesTold (sync_dir dir) true d e → SettlesIn dir d e
-settles dir d e told = λ above n.
-    let is : e.places ≡ settled_in dir d.places = told.ends.0 in
-    let here : is_settled (e.places (dir ++ n ∷ [])) ≡ true =
-    ap (λ (x : Places). is_settled (x (dir ++ n ∷ []))) is
-    ∙ ap (λ b. is_settled (cond b (settled (d.places (dir ++ n ∷ []))) (d.places (dir ++ n ∷ [])))) (ap is_some (child_is dir n)) in
-    let to : is_settled_to e.places (dir ++ n ∷ []) ≡ true =
+settled_name : (dir : List (List ℕ)) (d e : Told) → DoesTold (sync_dir dir) true d e → (n : List ℕ) → is_settled (e.places (dir ++ n ∷ [])) ≡ true
+settled_name dir d e told n =
+    ap (λ (x : Places). is_settled (x (dir ++ n ∷ []))) told.ends.0
+    ∙ ap (λ b. is_settled (cond b (settled (d.places (dir ++ n ∷ []))) (d.places (dir ++ n ∷ [])))) (ap is_some (child_is dir n))
+
+settled_up_to : (dir : List (List ℕ)) (d e : Told) → DoesTold (sync_dir dir) true d e → is_settled_to d.places dir ≡ true → (n : List ℕ) → is_settled_to e.places (dir ++ n ∷ []) ≡ true
+settled_up_to dir d e told above n =
     at_child (λ q. is_settled (e.places q)) dir n
     (settled_weaker (λ q. is_settled (d.places q)) (λ q. is_settled (e.places q)) dir
-    (λ q was. ap (λ (x : Places). is_settled (x q)) is ∙ still_settled (is_child dir q) (d.places q) was) above)
-    here in (
-      to,
-      λ hard. and_from _ _ to
-          (not_from_false _ (ap (λ (x : Places). (x (dir ++ n ∷ [])).soft) is ∙ same_soft (is_child dir (dir ++ n ∷ [])) (d.places (dir ++ n ∷ [])) ∙ hard)),
-    )
+    (λ q was. ap (λ (x : Places). is_settled (x q)) told.ends.0 ∙ still_settled (is_child dir q) (d.places q) was) above)
+    (settled_name dir d e told n)
+
+settles : (dir : List (List ℕ)) (d e : Told) → DoesTold (sync_dir dir) true d e → SettlesIn dir d e
+settles dir d e told = record {
+  names = settled_name dir d e told;
+  firm = λ above n.
+      let to = settled_up_to dir d e told above n in (
+        to,
+        λ hard. and_from _ _ to
+            (not_from_false _ (ap (λ (x : Places). (x (dir ++ n ∷ [])).soft) told.ends.0 ∙ same_soft (is_child dir (dir ++ n ∷ [])) (d.places (dir ++ n ∷ [])) ∙ hard)),
+      );
+}
 
 pub folder_settled : (dir : List (List ℕ)) (x y : Option Told) → BothTold (DoesTold (sync_dir dir) true) x y → BothTold (SettlesIn dir) x y
 folder_settled dir x y does = told_map (DoesTold (sync_dir dir) true) (SettlesIn dir) (settles dir) x y does

@@ -7,3 +7,4 @@ pub mod HeldFiles
 pub mod GenShelf
 pub mod Writing
 pub mod Copying
+pub mod Comparing

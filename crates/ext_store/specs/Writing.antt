@@ -49,11 +49,12 @@ Holds P state = IfSome state.told (λ d. P d.places)
 abbrev pub is_settled_to : Places → List (List ℕ) → Bool
 is_settled_to d p = at_prefixes (λ q. is_settled (d q)) p
 
--- of a folder that is settled itself, each name is settled: what stands there is firm, but for a file whose bytes are not
--- settled
-abbrev pub SettlesIn : List (List ℕ) → Told → Told → Type 0
-SettlesIn dir d e = is_settled_to d.places dir ≡ true
-    → (n : List ℕ) → (is_settled_to e.places (dir ++ n ∷ []) ≡ true) × ((d.places (dir ++ n ∷ [])).soft ≡ false → is_firm e.places (dir ++ n ∷ []) ≡ true)
+-- each name directly in the folder is settled. Where the folder is settled itself, up to the root, what stands there is firm,
+-- but for a file whose bytes are not settled
+pub record SettlesIn (dir : List (List ℕ)) (d e : Told) : Type 0 where
+  pub names : (n : List ℕ) → is_settled (e.places (dir ++ n ∷ [])) ≡ true
+  pub firm : is_settled_to d.places dir ≡ true → (n : List ℕ)
+      → (is_settled_to e.places (dir ++ n ∷ []) ≡ true) × ((d.places (dir ++ n ∷ [])).soft ≡ false → is_firm e.places (dir ++ n ∷ []) ≡ true)
 
 -- ---- one call
 

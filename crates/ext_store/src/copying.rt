@@ -146,8 +146,8 @@ fn feed<D: Disk, P: Depot>(
     }
 }
 
-// Whether nothing more is to be read after so many bytes, where so many were left of the listed size.
-fn is_last(count: usize, left: u64) -> bool
+/// Whether nothing more is to be read after so many bytes, where so many were left of the listed size.
+pub(crate) fn is_last(count: usize, left: u64) -> bool
     ensures { IsTrue result ↔ ((count ≡ 0) ⊎ (left < count)) }
 {
     count == 0 || left < count as u64
@@ -168,8 +168,8 @@ fn append_copied<D: Disk>(disk: &mut D, path: &Path, piece: &[u8]) -> Result<(),
     }
 }
 
-// The stamp of so many bytes that a hasher holds.
-fn stamp(size: u64, hasher: Sha256) -> Stamp
+/// The stamp of so many bytes that a hasher holds.
+pub(crate) fn stamp(size: u64, hasher: Sha256) -> Stamp
     ensures { (m : List ℕ) → Holds256 hasher m → length m ≡ size → IsStampOf m result }
 {
     Stamp {
@@ -178,8 +178,11 @@ fn stamp(size: u64, hasher: Sha256) -> Stamp
     }
 }
 
-// Reads once from the byte `at` on, hashes what was read, and gives how much that was.
-fn hash_piece<P: Depot>(
+/// Reads once from the byte `at` on, hashes what was read, and gives how much that was.
+///
+/// # Errors
+/// The depot had a fault.
+pub(crate) fn hash_piece<P: Depot>(
     depot: &mut P,
     from: &Path,
     at: u64,

@@ -1,6 +1,6 @@
 // Why the store was not read or written.
 use ext_disk::ListErr;
-use ext_host::ShelfErr;
+use ext_host::{Home, ShelfErr};
 use ext_io::Failed;
 use ext_text::OutOfMemory;
 use ext_tree::Stamp;
@@ -136,5 +136,91 @@ impl From<OutOfMemory> for CopyErr {
 
     fn from(_refused: OutOfMemory) -> CopyErr {
         CopyErr::OutOfMemory
+    }
+}
+
+/// Why a file of the depot was not compared with one that the store keeps.
+#[derive(Clone, Copy, Debug, PartialEq, Eq, Error)]
+pub enum CompareErr {
+    /// Out of memory.
+    #[error("out of memory")]
+    OutOfMemory,
+    /// The disk had a fault.
+    #[error("disk fault")]
+    DiskFault,
+    /// The depot had a fault.
+    #[error("depot fault")]
+    DepotFault,
+    /// The kept file is another than the one that is listed.
+    #[error("a kept file is damaged")]
+    Damaged {
+        /// Where the file is kept.
+        home: Home,
+        /// The stamp that it is listed with.
+        listed: Stamp,
+        /// The stamp of the file that stands there; `None` exactly where no file of the listed size does.
+        found: Option<Stamp>,
+    },
+    /// The depot has no such file.
+    #[error("not in the depot")]
+    NotInDepot,
+    /// The file of the depot is another than the one that is listed.
+    #[error("a file of the depot is not the listed one")]
+    Mismatch {
+        /// The stamp that it is listed with.
+        listed: Stamp,
+        /// The stamp of what was read: of the whole file, or of one byte more than are listed.
+        found: Stamp,
+    },
+}
+
+impl From<OutOfMemory> for CompareErr {
+    ghost use Rattle.std.specs.Prelude.{◌≡◌};
+    ghost use Rattle.ext_store.specs.declared.errors.CompareErr.TheVariants as compare_errors;
+
+    ghost from_gives = { λ _ e. e ≡ compare_errors.OutOfMemory };
+
+    fn from(_refused: OutOfMemory) -> CompareErr {
+        CompareErr::OutOfMemory
+    }
+}
+
+impl From<ShelfErr> for CompareErr {
+    ghost use Rattle.std.specs.Prelude.{◌≡◌};
+    ghost use Rattle.ext_store.specs.Comparing.{compare_err_of_shelf};
+
+    ghost from_gives = { λ e f. f ≡ compare_err_of_shelf e };
+
+    fn from(refused: ShelfErr) -> CompareErr {
+        match refused {
+            ShelfErr::OutOfMemory => CompareErr::OutOfMemory,
+            ShelfErr::Fault => CompareErr::DiskFault,
+            ShelfErr::Damaged {
+                home,
+                listed,
+                found,
+            } => CompareErr::Damaged {
+                home,
+                listed,
+                found,
+            },
+        }
+    }
+}
+
+impl From<CopyErr> for CompareErr {
+    ghost use Rattle.std.specs.Prelude.{◌≡◌};
+    ghost use Rattle.ext_store.specs.Comparing.{compare_err_of_copy};
+
+    ghost from_gives = { λ e f. f ≡ compare_err_of_copy e };
+
+    fn from(refused: CopyErr) -> CompareErr {
+        match refused {
+            CopyErr::OutOfMemory => CompareErr::OutOfMemory,
+            CopyErr::DiskFault => CompareErr::DiskFault,
+            CopyErr::DepotFault => CompareErr::DepotFault,
+            CopyErr::NotInDepot => CompareErr::NotInDepot,
+            CopyErr::Mismatch { listed, found } => CompareErr::Mismatch { listed, found },
+        }
     }
 }

@@ -6,6 +6,7 @@ use std::alloc::Global;
 
 /// A shelf over the disk of a store: it gives the files that are here, and those that the store keeps. No call changes what
 /// the disk means but its count of faults.
+#[derive(Drop)]
 pub struct GenShelf<'a, D: Disk> {
     /// The disk.
     pub disk: &'a mut D,

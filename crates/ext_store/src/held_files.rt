@@ -126,8 +126,11 @@ fn stamped(text: Text, home: &Home, listed: &Stamp) -> Result<Text, ShelfErr>
     }
 }
 
-// Compares a kept file with its stamp.
-fn verify_kept<D: Disk>(
+/// Compares a kept file with its stamp.
+///
+/// # Errors
+/// As for `verify`.
+pub(crate) fn verify_kept<D: Disk>(
     alloc: Global,
     disk: &mut D,
     home: &Home,

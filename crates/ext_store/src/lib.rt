@@ -6,6 +6,7 @@
 //! changed. The crate that carries generations through stops stands on this one.
 #![tactic(auto)]
 
+mod comparing;
 mod copying;
 mod errors;
 mod gen_shelf;
@@ -17,10 +18,13 @@ mod names;
 mod paths;
 mod reading;
 mod removal;
+#[cfg(test)]
+mod tests;
 mod writing;
 
+pub use comparing::is_same_as_kept;
 pub use copying::copy_from_depot;
-pub use errors::{CleanErr, CopyErr, ReadErr};
+pub use errors::{CleanErr, CompareErr, CopyErr, ReadErr};
 pub use gen_shelf::GenShelf;
 pub use held_files::{file, piece, verify};
 pub use left_overs::{MOST_LEFT_OVERS, is_left_over, remove_left_overs};
