@@ -7,9 +7,15 @@
 #![tactic(auto)]
 
 #[cfg(test)]
+mod depots;
+#[cfg(test)]
+mod grafts;
+#[cfg(test)]
 mod layers;
 #[cfg(test)]
 mod lines;
+#[cfg(test)]
+mod parts;
 #[cfg(test)]
 mod release;
 #[cfg(test)]
@@ -19,6 +25,12 @@ mod streams;
 #[cfg(test)]
 mod text;
 #[cfg(test)]
+mod tree_texts;
+#[cfg(test)]
+mod trees;
+#[cfg(test)]
 mod verdicts;
 #[cfg(test)]
 mod versions;
+#[cfg(test)]
+mod walks;
