@@ -1,5 +1,5 @@
 use super::*;
-use ext_host::{Held, HereShelf};
+use ext_host::{Body, Held, Shelf, ShelfErr};
 use ext_text::{Arch, Class, ListOf, Mode, Name, Names, Path, Text};
 use ext_tree::{Entry, Stamp, Tree, read_tree};
 use std::alloc::Global;
@@ -129,6 +129,33 @@ fn images_are_tested_at_the_chosen_hierarchies(rt: HostRuntime) -> Result<(), Fa
     Ok(())
 }
 
+// A shelf that gives the bytes that are here, and for every other file has no memory.
+#[derive(Drop)]
+struct EachShelf;
+
+impl Shelf for EachShelf {
+    ghost use Rattle.std.specs.Prelude.{true, refl};
+    ghost use Rattle.ext_host.specs.Shelf.{untold};
+
+    ghost serves = { λ _ _. true };
+
+    ghost told = { λ _ _. untold };
+
+    ghost faults = { λ _. 0 };
+
+    ghost stays = { λ _ _. Unit {0} };
+
+    ghost stays_laws = { record { same = λ _. tt; through = λ _ _ _ _ _. tt; served = λ _ _ _ _. refl; tells = λ _ _ _ _. refl } };
+
+    fn bytes(&mut self, _alloc: Global, held: &Held) -> Result<Text, ShelfErr> {
+        match held.body() {
+            Body::Here(text) => Ok(text.copy()?),
+            Body::Kept(_) => Err(ShelfErr::OutOfMemory),
+            Body::Depot(_) => Err(ShelfErr::OutOfMemory),
+        }
+    }
+}
+
 // A host whose two release files hold these bytes; no bytes: there is no such file.
 fn host(alloc: Global, own: Option<&[u8]>, vendor: Option<&[u8]>) -> Result<Tree<Held>, Fail> {
     let mode = Mode::new(0o755).ok_or("a mode")?;
@@ -156,7 +183,7 @@ fn host(alloc: Global, own: Option<&[u8]>, vendor: Option<&[u8]>) -> Result<Tree
 #[test]
 fn the_host_has_the_first_release_file(rt: HostRuntime) -> Result<(), Fail> {
     let alloc = rt.alloc();
-    let mut shelf = HereShelf;
+    let mut shelf = EachShelf;
     let both = host(alloc, Some(b"ID=own\n"), Some(b"ID=vendor\n"))?;
     let release = host_release(alloc, &both, &mut shelf)?.ok_or("a release")?;
     assert_eq!(rt; release.value("ID"), Some("own"));
