@@ -6,13 +6,16 @@ use std::alloc::Global;
 use std::test::Fail;
 
 // The index of a host on which nothing stands, 133 bytes.
-const EMPTY: &[u8] = b"hostext-store 2\nhost x86-64 system\nhierarchies 3\nh sysext opt\nh sysext usr\nh confext etc\nattached 0\nkept 0\nroot 0\nlower 0\npast 0\nend\n";
+const EMPTY: &[u8] =
+    b"hostext-store 2\nhost x86-64 system\nhierarchies 3\nh sysext opt\nh sysext usr\nh confext etc\nattached 0\nkept 0\nroot 0\nlower 0\npast 0\nend\n";
 
 // The index of the host below in generation 2.
-const FULL: &[u8] = b"hostext-store 2\nhost x86-64 system\nhierarchies 3\nh sysext opt\nh sysext usr\nh confext etc\nsysext 2\nn app\nn tools\nconfext 1\nn site\nattached 2\na etc 1\ni db\ns var/lib/portables/db\np etc/portables/db\na run 0\ni web\ns opt/web\nkept 1\nk 1 srv\nm e3b0c44298fc1c149afbf4c8996fb92427ae41e4649b934ca495991b7852b855 srv/x\nroot 2\nd 755 usr\nf 644 0 e3b0c44298fc1c149afbf4c8996fb92427ae41e4649b934ca495991b7852b855 2 00000 usr/a\nlower 1\nd 700 etc\npast 1\ng 1\nsysext 1\nn app\nattached 0\nkept 0\nroot 1\nd 755 usr\nlower 0\nend\n";
+const FULL: &[u8] =
+    b"hostext-store 2\nhost x86-64 system\nhierarchies 3\nh sysext opt\nh sysext usr\nh confext etc\nsysext 2\nn app\nn tools\nconfext 1\nn site\nattached 2\na etc 1\ni db\ns var/lib/portables/db\np etc/portables/db\na run 0\ni web\ns opt/web\nkept 1\nk 1 srv\nm e3b0c44298fc1c149afbf4c8996fb92427ae41e4649b934ca495991b7852b855 srv/x\nroot 2\nd 755 usr\nf 644 0 e3b0c44298fc1c149afbf4c8996fb92427ae41e4649b934ca495991b7852b855 2 00000 usr/a\nlower 1\nd 700 etc\npast 1\ng 1\nsysext 1\nn app\nattached 0\nkept 0\nroot 1\nd 755 usr\nlower 0\nend\n";
 
 // A tree text of a directory and an empty file.
-const USR: &[u8] = b"hostext-tree 1\nd 755 usr\nf 644 0 e3b0c44298fc1c149afbf4c8996fb92427ae41e4649b934ca495991b7852b855 usr/a\nend\n";
+const USR: &[u8] =
+    b"hostext-tree 1\nd 755 usr\nf 644 0 e3b0c44298fc1c149afbf4c8996fb92427ae41e4649b934ca495991b7852b855 usr/a\nend\n";
 
 const DIRECTORY: &[u8] = b"hostext-tree 1\nd 755 usr\nend\n";
 
@@ -111,9 +114,16 @@ fn full_host(alloc: Global) -> Result<Host, Fail> {
     host.lower = tree(alloc, ETC)?;
     host.sysext = Some(names(alloc, &[b"app", b"tools"])?);
     host.confext = Some(names(alloc, &[b"site"])?);
-    let db = attachment(alloc, b"db", b"var/lib/portables/db", false, &[b"etc/portables/db"])?;
+    let db = attachment(
+        alloc,
+        b"db",
+        b"var/lib/portables/db",
+        false,
+        &[b"etc/portables/db"],
+    )?;
     host.attached.push(db)?;
-    host.attached.push(attachment(alloc, b"web", b"opt/web", true, &[])?)?;
+    host.attached
+        .push(attachment(alloc, b"web", b"opt/web", true, &[])?)?;
     host.kept.push(manifest(alloc)?)?;
     host.past.push(past(alloc)?)?;
     Ok(host)
