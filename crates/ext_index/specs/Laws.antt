@@ -1,10 +1,9 @@
 -- Indexes that can be computed: that of an empty host as each text.
-use Rattle.std.specs.Prelude.{◌≡◌, ℕ, true, false, List, [], ◌∷◌, codes, length, None}
+use Rattle.std.specs.Prelude.{ℕ, List, [], ◌∷◌, codes, None}
 use Rattle.ext_lines.specs.Lines.{lines_text}
 use Rattle.ext_text.specs.declared.arch.Arch.TheVariants.{X86_64}
 use Rattle.ext_text.specs.declared.scope.Scope.TheVariants.{System}
 use Rattle.ext_host.specs.declared.host.Host.{Host}
-use Rattle.ext_index.specs.Index.{index_text}
 
 -- a host on which nothing stands, with the default hierarchies
 abbrev pub empty_host : Host

@@ -9,6 +9,8 @@
 pub mod laws;
 mod printing;
 mod sections;
+#[cfg(test)]
+mod tests;
 mod writing;
 
 pub use writing::{index_size, write_index};

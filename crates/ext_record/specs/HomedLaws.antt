@@ -1,6 +1,5 @@
 -- The fields of a stamp and a home tell both, and where they end, and hold no newline.
-use Rattle.std.proofs.Common.{◌≡◌, ℕ, ◌<◌, ◌≤◌, ◌%◌, List, [], ◌∷◌, ◌++◌, arith, ap}
-use Rattle.std.specs.Prelude.{decimal}
+use Rattle.std.proofs.Common.{◌≡◌, ℕ, ◌<◌, ◌≤◌, ◌%◌, List, ◌∷◌, ◌++◌, arith, ap}
 use Rattle.ext_lines.specs.Hexadecimal.{five_digits}
 use Rattle.ext_lines.specs.Split.{Lacks}
 use Rattle.ext_lines.proofs.ForCallers.{decimal_lacks, five_injective, five_lacks, hex_lacks, split_once}

@@ -11,7 +11,7 @@
 -- Each other line is a word with a number (`sysext`, `confext`, `hierarchies`, `attached`, `kept`, `root`, `lower`, `past`, `g`), with
 -- a name (`n`, `i`) or with a path (`s`, `p`); or it is the line of an entry, or `end`. Numbers are decimal without a
 -- leading zero, HEX is the digest in lower-case hexadecimal digits.
-use Rattle.std.specs.Prelude.{◌≡◌, ◌≢◌, ℕ, ◌<◌, ◌≤◌, Bool, if◌then◌else◌, List, ◌∷◌, ◌++◌, length, codes, decimal}
+use Rattle.std.specs.Prelude.{ℕ, ◌<◌, Bool, if◌then◌else◌, List, ◌∷◌, ◌++◌, length, codes, decimal}
 use Rattle.hex.specs.Hex.{encode_lower}
 use Rattle.ext_text.specs.Arch.{arch_name}
 use Rattle.ext_text.specs.Class.{class_name}

@@ -1,10 +1,7 @@
 use Rattle.std.proofs.Common.{ℕ, List, ◌++◌, take}
-use Rattle.std.specs.Prelude.{map}
 use Rattle.std.specs.List.{flat_map}
 use Rattle.ext_lines.specs.Lines.{lines_text}
-use Rattle.ext_record.specs.Homes.{line_of_entry}
-use Rattle.ext_record.specs.Lines.{path_line, worded}
-use Rattle.ext_index.specs.Index.{attachment_lines, line_of_item, manifest_lines}
+use Rattle.ext_index.specs.Index.{manifest_lines}
 use Rattle.ext_index.proofs.printing.put_manifests.Given as goal
 
 abbrev pub invariant-manifests : goal.invariant-manifests

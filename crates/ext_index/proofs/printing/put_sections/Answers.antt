@@ -1,4 +1,4 @@
-use Rattle.std.proofs.Common.{ℕ, List, ◌++◌, subst, codes}
+use Rattle.std.proofs.Common.{ℕ, List, subst, codes}
 use Rattle.std.specs.Prelude.{OnOk}
 use Rattle.ext_index.specs.Index.{merged_lines, record_lines, tree_lines}
 use Rattle.ext_index.proofs.PrintingLemmas.{five}

@@ -1,4 +1,3 @@
-use Rattle.std.proofs.Common.{refl}
 use Rattle.ext_record.specs.Homed.{file_digits}
 use Rattle.ext_record.proofs.homed.digits_of.Goals as goal
 

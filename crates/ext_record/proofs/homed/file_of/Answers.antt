@@ -1,5 +1,4 @@
 use Rattle.std.proofs.Common.{arith, ◌∙◌, sym}
-use Rattle.ext_lines.specs.Hexadecimal.{five_digits}
 use Rattle.ext_lines.proofs.ForCallers.{five_injective}
 use Rattle.ext_record.specs.HomedLaws.{file_digits-few}
 use Rattle.ext_record.proofs.homed.file_of.Goals as goal

@@ -1,4 +1,4 @@
-use Rattle.std.proofs.Common.{take, ap, ◌∙◌, sym}
+use Rattle.std.proofs.Common.{take, ap, ◌∙◌}
 use Rattle.std.proofs.Math.Seq.{take-append_seam}
 use Rattle.ext_record.proofs.LineLemmas.{other_text}
 use Rattle.std.proofs.Common.{length}

@@ -1,4 +1,4 @@
-use Rattle.std.proofs.Common.{ℕ, List, ◌++◌}
+use Rattle.std.proofs.Common.{◌++◌}
 use Rattle.std.specs.Prelude.{OnOk}
 use Rattle.ext_text.specs.Path.{path_text}
 use Rattle.ext_record.proofs.PrintingLemmas.{names_put, names_text}
