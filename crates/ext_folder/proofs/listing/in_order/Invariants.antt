@@ -1,7 +1,7 @@
 use Rattle.std.specs.Prelude.{[], ◌∷◌, ◌++◌}
 use Rattle.ext_text.specs.Name.{bytes_cmp}
 use Rattle.ext_text.specs.Path.{IsPath}
-use Rattle.ext_folder.proofs.ListingLemmas.{IsListedSoFar}
+use Rattle.ext_folder.proofs.Listed.{IsListedSoFar}
 use Rattle.ext_folder.proofs.listing.in_order.Given as goal
 
 abbrev pub invariant-names : goal.invariant-names
