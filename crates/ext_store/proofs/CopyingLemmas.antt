@@ -1,5 +1,5 @@
 -- A file of the depot that is copied into the store, piece by piece.
-use Rattle.std.proofs.Common.{◌≡◌, ◌⊎◌, ℕ, ◌+◌, ◌<◌, ◌≤◌, Bool, true, false, eqb, ◌&&◌, List, [], ◌∷◌, ◌++◌, length, take, drop, Option, Some, None, IfSome, refl, sym, ap, ◌∙◌, subst, inl, inr, arith, length-append, length-take, ◌^◌, ◌-◌}
+use Rattle.std.proofs.Common.{◌≡◌, ◌⊎◌, ℕ, ◌+◌, ◌<◌, ◌≤◌, Bool, true, false, eqb, ◌&&◌, List, [], ◌∷◌, ◌++◌, length, take, drop, Option, Some, None, IfSome, refl, sym, ap, ◌∙◌, subst, inl, inr, arith, length-append, length-take, ◌-◌}
 use Rattle.std.specs.Prelude.{IsSome}
 use Rattle.std.proofs.lemmas.Bool.{false≢true, cases_lt, and_parts, eqb-true}
 use Rattle.std.specs.Cmp.Lexicographic.{pointwise}
@@ -29,10 +29,6 @@ use Rattle.ext_store.proofs.WritingLemmas.{HasAppended, appended_no_folder, appe
 pub rose_since : (before amid after : ℕ) → before ≤ amid → Rose amid after → Rose before after
 rose_since before amid after no_less (inl more) = inl (omega arith)
 rose_since before amid after no_less (inr last) = inr last
-
-pub rose_until : (before amid after : ℕ) → amid ≤ after → Rose before amid → Rose before after ⊎ (amid ≡ 2 ^ 64 - 1)
-rose_until before amid after no_less (inl more) = inl (inl (omega arith))
-rose_until before amid after no_less (inr last) = inr last
 
 pub kept_itself : (s : DepotState) → IsKept s s
 kept_itself s = record { contents = refl; count = omega arith }

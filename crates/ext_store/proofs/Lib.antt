@@ -8,3 +8,4 @@ pub mod WritingLemmas
 pub mod HashingLemmas
 pub mod CopyingLemmas
 pub mod ComparingLemmas
+pub mod ForCallers

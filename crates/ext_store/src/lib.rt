@@ -1,9 +1,9 @@
 //! The paths of the store on a disk: what is read, written and removed there.
 //!
 //! A host is kept in a folder, in numbered generations. This crate knows where each thing of it stands, and has the loops
-//! over a disk and a depot: a file read whole, left-overs removed, a file written from bytes or from the depot. Each of
-//! them says what it means for a disk that tells: what stands afterwards, what is settled, which paths no stop can have
-//! changed. The crate that carries generations through stops stands on this one.
+//! over a disk and a depot: a file read whole, held files given and verified, left-overs removed, a file written from bytes
+//! or copied from the depot, and compared with one. Each of them says what it means for a disk that tells: what stands
+//! afterwards, what is settled, which paths no stop can have changed. The crate that carries generations through stops stands on this one.
 #![tactic(auto)]
 
 mod comparing;
