@@ -3,7 +3,7 @@ use ext_text::{
 };
 use std::alloc::Global;
 use std::cmp::Ordering;
-use std::hash::{DefaultHasher, Hash, Hasher};
+use std::hash::{Hash, Hasher};
 use std::test::Fail;
 
 const NAMES: [&[u8]; 6] = [b"a", b"...", b".a", b" ", b"a b", b"\xc3\xa9"];
@@ -12,11 +12,20 @@ const NO_NAMES: [&[u8]; 10] = [
     b"", b".", b"..", b"a/b", b"/", b"a\nb", b"\x1f", b"\x7f", b"\xc3", b"a\xff",
 ];
 
-// Whether each is a name, and its copy equal.
+// The name of these bytes; without a clause, so that the functions below are proved without that of `Name::read`.
+fn name(alloc: Global, bytes: &[u8]) -> Result<Name, NameErr> {
+    Name::read(alloc, bytes)
+}
+
+// Whether it is a name, and its copy equal.
+fn is_name(alloc: Global, bytes: &[u8]) -> Result<bool, NameErr> {
+    let name = name(alloc, bytes)?;
+    Ok(name.bytes() == bytes && name.copy()? == name)
+}
+
 fn are_names(alloc: Global, rows: &[&[u8]]) -> Result<bool, NameErr> {
     for bytes in rows {
-        let name = Name::read(alloc, bytes)?;
-        if name.bytes() != *bytes || name.copy()? != name {
+        if !is_name(alloc, bytes)? {
             return Ok(false);
         }
     }
@@ -26,7 +35,7 @@ fn are_names(alloc: Global, rows: &[&[u8]]) -> Result<bool, NameErr> {
 // Whether each is refused as no name.
 fn are_no_names(alloc: Global, rows: &[&[u8]]) -> bool {
     for bytes in rows {
-        if Name::read(alloc, bytes).err() != Some(NameErr::BadName) {
+        if name(alloc, bytes).err() != Some(NameErr::BadName) {
             return false;
         }
     }
@@ -53,9 +62,22 @@ const PATHS: [(&[u8], Result<usize, PathErr>); 7] = [
     (b"../x", Err(PathErr::BadName)),
 ];
 
+// The path of a text, in the same way.
+fn path(alloc: Global, text: &[u8]) -> Result<Path, PathErr> {
+    Path::read(alloc, text)
+}
+
+// The name of a path.
+fn name_in_path(alloc: Global, bytes: &[u8]) -> Result<Name, PathErr> {
+    match name(alloc, bytes) {
+        Ok(name) => Ok(name),
+        Err(_failed) => Err(PathErr::BadName),
+    }
+}
+
 // How many names the path of a text has.
 fn depth(alloc: Global, bytes: &[u8]) -> Result<usize, PathErr> {
-    Ok(Path::read(alloc, bytes)?.names().len())
+    Ok(path(alloc, bytes)?.names().len())
 }
 
 fn are_paths(alloc: Global, rows: &[(&[u8], Result<usize, PathErr>)]) -> bool {
@@ -117,11 +139,21 @@ const NO_CHILDREN: [(usize, usize, PathErr); 2] = [
     (16, 255, PathErr::TooLong),
 ];
 
-fn are_no_children(alloc: Global, rows: &[(usize, usize, PathErr)]) -> Result<bool, Fail> {
-    let name = Name::read(alloc, b"x")?;
+// Why the path of so many names of so many bytes has no child of this name, if it has none.
+fn refusal_of(
+    alloc: Global,
+    count: usize,
+    bytes: usize,
+    name: &Name,
+) -> Result<Option<PathErr>, PathErr> {
+    let text = text_of(alloc, count, bytes, b"")?;
+    Ok(path(alloc, &text)?.child(name).err())
+}
+
+fn are_no_children(alloc: Global, rows: &[(usize, usize, PathErr)]) -> Result<bool, PathErr> {
+    let name = name_in_path(alloc, b"x")?;
     for (count, bytes, wanted) in rows {
-        let text = text_of(alloc, *count, *bytes, b"")?;
-        if Path::read(alloc, &text)?.child(&name).err() != Some(*wanted) {
+        if refusal_of(alloc, *count, *bytes, &name)? != Some(*wanted) {
             return Ok(false);
         }
     }
@@ -151,19 +183,24 @@ fn are_prefixes(
     alloc: Global,
     rows: &[(&[u8], &[u8], Ordering, bool, bool, bool)],
 ) -> Result<bool, PathErr> {
-    for (path, other, order, starts, below, related) in rows {
-        let path = Path::read(alloc, path)?;
-        let other = Path::read(alloc, other)?;
-        if path.cmp(&other) != *order
-            || (path == other) != order.is_eq()
-            || path.starts_with(&other) != *starts
-            || path.is_below(&other) != *below
-            || path.is_related(&other) != *related
-        {
+    for (text, other, order, starts, below, related) in rows {
+        let is = (*order, *starts, *below, *related);
+        if relation(&path(alloc, text)?, &path(alloc, other)?) != (is, order.is_eq()) {
             return Ok(false);
         }
     }
     Ok(true)
+}
+
+// The order of two paths, whether the first is the other or below it, is below it, and is related to it; and whether they
+// are equal.
+fn relation(path: &Path, other: &Path) -> ((Ordering, bool, bool, bool), bool) {
+    let starts = path.starts_with(other);
+    let related = path.is_related(other);
+    (
+        (path.cmp(other), starts, path.is_below(other), related),
+        path == other,
+    )
 }
 
 // A path, a number of names, and the path of so many.
@@ -176,8 +213,8 @@ const FIRST_NAMES: [(&[u8], usize, &[u8]); 5] = [
 ];
 
 fn are_first_names(alloc: Global, rows: &[(&[u8], usize, &[u8])]) -> Result<bool, PathErr> {
-    for (path, count, prefix) in rows {
-        if Path::read(alloc, path)?.prefix(*count)? != Path::read(alloc, prefix)? {
+    for (text, count, prefix) in rows {
+        if path(alloc, text)?.prefix(*count)? != path(alloc, prefix)? {
             return Ok(false);
         }
     }
@@ -192,28 +229,33 @@ const JOINED: [(&[u8], &[u8], &[u8]); 4] = [
     (b"usr/lib", b"x/y", b"usr/lib/x/y"),
 ];
 
+// The text of a path's copy.
+fn text_of_copy(alloc: Global, path: &Path) -> Result<Vec<u8>, PathErr> {
+    let mut text = Vec::new(alloc);
+    path.copy()?.append_to(&mut text)?;
+    Ok(text)
+}
+
+// The text of the second path below the first.
+fn joined(alloc: Global, text: &[u8], other: &[u8]) -> Result<Vec<u8>, PathErr> {
+    text_of_copy(alloc, &path(alloc, text)?.join(&path(alloc, other)?)?)
+}
+
 fn are_joined(alloc: Global, rows: &[(&[u8], &[u8], &[u8])]) -> Result<bool, PathErr> {
-    for (path, other, joined) in rows {
-        let path = Path::read(alloc, path)?.join(&Path::read(alloc, other)?)?;
-        let mut text = Vec::new(alloc);
-        path.copy()?.append_to(&mut text)?;
-        if text.as_slice() != *joined {
+    for (text, other, wanted) in rows {
+        if joined(alloc, text, other)?.as_slice() != *wanted {
             return Ok(false);
         }
     }
     Ok(true)
 }
 
-// The parent, the child and the root.
-fn are_neighbours(alloc: Global) -> Result<bool, Fail> {
-    let path = Path::read(alloc, b"etc/a")?;
-    let parent = path.prefix(1)?;
+// Whether a path is the child of its parent, and the root has none.
+fn are_neighbours(alloc: Global) -> Result<bool, PathErr> {
+    let etc = path(alloc, b"etc")?;
+    let child = etc.child(&name_in_path(alloc, b"a")?)?;
     let root = Path::from_names(Vec::new(alloc));
-    Ok(
-        path.parent() == parent.names()
-            && root.parent().is_empty()
-            && parent.child(&Name::read(alloc, b"a")?)? == path,
-    )
+    Ok(child == path(alloc, b"etc/a")? && child.parent() == etc.names() && root.parent().is_empty())
 }
 
 #[test]
@@ -297,22 +339,42 @@ fn are_texts(alloc: Global) -> Result<bool, OutOfMemory> {
 fn are_lists(alloc: Global) -> Result<bool, NameErr> {
     let mut names = Names::new(alloc);
     let was_empty = names.is_empty();
-    names.push(Name::read(alloc, b"a")?)?;
+    names.push(name(alloc, b"a")?)?;
     let is_one = names.as_slice().len() == 1 && names.get(0).is_some() && names.get(1).is_none();
     let names = Names::from_vec(names.into_vec());
     Ok(was_empty && is_one && names.len() == 1 && !names.is_empty())
 }
 
+// Counts the bytes that it is given: the simplest hash that tells a path from its text.
+#[derive(Drop)]
+struct Count(u64);
+
+impl Hasher for Count {
+    ghost use Rattle.std.specs.Prelude.{◌+◌, ◌%◌, ◌^◌, length};
+
+    ghost write = { λ s bytes. record { 0 = (s.0 + length bytes) % 2 ^ 64 } };
+
+    ghost finish = { λ s. s.0 };
+
+    fn finish(&self) -> u64 {
+        self.0
+    }
+
+    fn write(&mut self, bytes: &[u8]) {
+        self.0 = self.0.wrapping_add(bytes.len() as u64);
+    }
+}
+
 fn hash_of<T: Hash>(value: &T) -> u64 {
-    let mut state = DefaultHasher::new();
+    let mut state = Count(0);
     value.hash(&mut state);
     state.finish()
 }
 
 // Equal names, paths and texts are hashed alike, and a path otherwise than its text.
-fn are_hashed_alike(alloc: Global) -> Result<bool, Fail> {
-    let name = Name::read(alloc, b"a")?;
-    let path = Path::read(alloc, b"etc/a")?;
+fn are_hashed_alike(alloc: Global) -> Result<bool, PathErr> {
+    let name = name_in_path(alloc, b"a")?;
+    let path = path(alloc, b"etc/a")?;
     let text = Text::from_bytes(alloc, b"etc/a")?;
     Ok(
         hash_of(&name) == hash_of(&name.copy()?)
@@ -322,12 +384,18 @@ fn are_hashed_alike(alloc: Global) -> Result<bool, Fail> {
     )
 }
 
+fn are_modes() -> bool {
+    match Mode::new(0o7777) {
+        Some(mode) => mode.bits() == 0o7777 && Mode::new(0o10000).is_none(),
+        None => false,
+    }
+}
+
 #[test]
 fn texts_lists_and_modes(rt: HostRuntime) -> Result<(), Fail> {
     assert!(rt; are_texts(rt.alloc())? && are_lists(rt.alloc())?);
     assert!(rt; are_hashed_alike(rt.alloc())?);
-    assert_eq!(rt; Mode::new(0o7777).map(Mode::bits), Some(0o7777));
-    assert!(rt; Mode::new(0o10000).is_none() && OutOfMemory == OutOfMemory);
+    assert!(rt; are_modes() && OutOfMemory == OutOfMemory);
     Ok(())
 }
 
