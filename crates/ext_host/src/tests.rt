@@ -1,12 +1,12 @@
 use super::*;
 use crate::samples::{host_of_texts, tree_of_text};
-use ext_text::{Class, Digest, Name, Names, OutOfMemory, Path, Text};
-use ext_tree::{Entry, Held1, Stamp, Tree, TreeErr, read_tree, write_tree};
+use ext_text::{Class, Digest, Name, Names, Path, Text};
+use ext_tree::{Entry, Held1, Tree, TreeErr, read_tree, write_tree};
 use std::alloc::Global;
 use std::test::Fail;
 
 // What is seen.
-const ROOT: &[u8] = b"hostext-tree 1
+static ROOT: &[u8] = b"hostext-tree 1
 d 755 etc
 f 644 3 ba7816bf8f01cfea414140de5dae2223b00361a396177a9cb410ff61f20015ad etc/hostname
 d 755 opt
@@ -20,16 +20,16 @@ d 755 usr-local
 end
 ";
 
-const EMPTY: &[u8] = b"hostext-tree 1\nend\n";
+static EMPTY: &[u8] = b"hostext-tree 1\nend\n";
 
 // What lies under merged system extensions in the default hierarchies, and the base.
-const UNDER_ONE: &[u8] = b"hostext-tree 1
+static UNDER_ONE: &[u8] = b"hostext-tree 1
 d 700 usr
 f 644 0 e3b0c44298fc1c149afbf4c8996fb92427ae41e4649b934ca495991b7852b855 usr/plain
 end
 ";
 
-const BASE_OF_ONE: &[u8] = b"hostext-tree 1
+static BASE_OF_ONE: &[u8] = b"hostext-tree 1
 d 755 etc
 f 644 3 ba7816bf8f01cfea414140de5dae2223b00361a396177a9cb410ff61f20015ad etc/hostname
 d 755 srv
@@ -42,7 +42,7 @@ end
 
 // What lies under merged extensions of both classes, and the base: system extensions extend `srv`, configuration extensions
 // `etc` and `usr-local`.
-const UNDER_TWO: &[u8] = b"hostext-tree 1
+static UNDER_TWO: &[u8] = b"hostext-tree 1
 d 711 etc
 f 644 0 e3b0c44298fc1c149afbf4c8996fb92427ae41e4649b934ca495991b7852b855 etc/old
 d 700 srv
@@ -50,7 +50,7 @@ f 644 3 ba7816bf8f01cfea414140de5dae2223b00361a396177a9cb410ff61f20015ad srv/y
 end
 ";
 
-const BASE_OF_TWO: &[u8] = b"hostext-tree 1
+static BASE_OF_TWO: &[u8] = b"hostext-tree 1
 d 711 etc
 f 644 0 e3b0c44298fc1c149afbf4c8996fb92427ae41e4649b934ca495991b7852b855 etc/old
 d 755 opt
@@ -188,12 +188,13 @@ fn is_tree(alloc: Global, tree: &Tree<Held>, text: &[u8]) -> Result<bool, Fail> 
     Ok(write_tree(alloc, &stamps)?.bytes() == text)
 }
 
-// The base of a host whose entries are within the limit.
-fn base_of(host: &Host) -> Result<Tree<Held>, Fail> {
+// Whether the host, whose entries are within the limit, has this base.
+fn is_base(alloc: Global, host: &Host, text: &[u8]) -> Result<bool, Fail> {
     if host.root.entries() + host.lower.entries() > 262_144 {
         return Err(Fail::from("too many entries"));
     }
-    Ok(host.base()?)
+    let base = host.base()?;
+    is_tree(alloc, &base, text)
 }
 
 // The paths of manifests, each before a bar.
@@ -207,13 +208,10 @@ fn paths_of(alloc: Global, manifests: &Manifests) -> Result<Text, Fail> {
 }
 
 // The first path of the table that is locked or not where it should be otherwise.
-fn wrong_lock(alloc: Global) -> Result<Option<&'static [u8]>, Fail> {
-    let none = host_of_none(alloc)?;
-    let one = host_of_one(alloc)?;
-    let two = host_of_two(alloc)?;
+fn wrong_lock(alloc: Global, one: &Host, two: &Host) -> Result<Option<&'static [u8]>, Fail> {
     for (path, in_one, in_two) in &LOCKS {
         let read = Path::read(alloc, path)?;
-        if none.locks(&read) || one.locks(&read) != *in_one || two.locks(&read) != *in_two {
+        if one.locks(&read) != *in_one || two.locks(&read) != *in_two {
             return Ok(Some(*path));
         }
     }
@@ -221,17 +219,16 @@ fn wrong_lock(alloc: Global) -> Result<Option<&'static [u8]>, Fail> {
 }
 
 // Whether these manifests are left where the path is touched.
-fn leaves(alloc: Global, path: &[u8], left: &[u8]) -> Result<bool, Fail> {
-    let mut host = host_of_none(alloc)?;
+fn leaves(alloc: Global, host: &mut Host, path: &[u8], left: &[u8]) -> Result<bool, Fail> {
     host.kept = manifests(alloc)?;
     host.touch(&Path::read(alloc, path)?);
     Ok(paths_of(alloc, &host.kept)?.bytes() == left)
 }
 
 // The first path of the table whose touch leaves other manifests.
-fn wrong_touch(alloc: Global) -> Result<Option<&'static [u8]>, Fail> {
+fn wrong_touch(alloc: Global, host: &mut Host) -> Result<Option<&'static [u8]>, Fail> {
     for (path, left) in &TOUCHES {
-        if !leaves(alloc, path, left)? {
+        if !leaves(alloc, host, path, left)? {
             return Ok(Some(*path));
         }
     }
@@ -290,17 +287,20 @@ fn the_base_is_what_lies_under_the_merged_hierarchies(rt: HostRuntime) -> Result
     let none = host_of_none(alloc)?;
     let one = host_of_one(alloc)?;
     let two = host_of_two(alloc)?;
-    assert!(rt; is_tree(alloc, &base_of(&none)?, ROOT)?);
-    assert!(rt; is_tree(alloc, &base_of(&one)?, BASE_OF_ONE)?);
-    assert!(rt; is_tree(alloc, &base_of(&two)?, BASE_OF_TWO)?);
+    assert!(rt; !none.locks(&Path::read(alloc, b"usr")?));
+    assert!(rt; is_base(alloc, &none, ROOT)?);
+    assert!(rt; is_base(alloc, &one, BASE_OF_ONE)?);
+    assert!(rt; is_base(alloc, &two, BASE_OF_TWO)?);
     Ok(())
 }
 
 #[test]
 fn locks_touches_and_depot_paths_are_those_of_the_tables(rt: HostRuntime) -> Result<(), Fail> {
     let alloc = rt.alloc();
-    assert_eq!(rt; wrong_lock(alloc)?, None);
-    assert_eq!(rt; wrong_touch(alloc)?, None);
+    let mut one = host_of_one(alloc)?;
+    let two = host_of_two(alloc)?;
+    assert_eq!(rt; wrong_lock(alloc, &one, &two)?, None);
+    assert_eq!(rt; wrong_touch(alloc, &mut one)?, None);
     assert_eq!(rt; wrong_fit(alloc)?, None);
     Ok(())
 }
@@ -310,7 +310,7 @@ fn a_copy_is_equal(rt: HostRuntime) -> Result<(), Fail> {
     let alloc = rt.alloc();
     let copy = host_of_two(alloc)?.copy()?;
     assert!(rt; is_tree(alloc, &copy.root, ROOT)? && is_tree(alloc, &copy.lower, UNDER_TWO)?);
-    assert!(rt; is_tree(alloc, &base_of(&copy)?, BASE_OF_TWO)?);
+    assert!(rt; is_base(alloc, &copy, BASE_OF_TWO)?);
     assert_eq!(rt; copy.hierarchies(Class::Confext).len(), 2);
     match copy.past.get(0) {
         Some(past) => {
