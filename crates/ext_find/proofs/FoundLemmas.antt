@@ -1,15 +1,14 @@
 -- From what was kept to what is found: the items in order, and each by its stem.
-use Rattle.std.proofs.Common.{◌≡◌, ℕ, suc, zero, ◌+◌, ◌<◌, ◌≤◌, Bool, true, false, cond, ◌&&◌, List, [], ◌∷◌, length, get_or, Option, Some, None, is_some, refl, sym, ap, ◌∙◌, subst, arith}
-use Rattle.std.specs.Prelude.{IsTrue, map, nat_eq}
-use Rattle.std.specs.Cmp.{IsTotalOrder}
+use Rattle.std.proofs.Common.{◌≡◌, ℕ, suc, ◌+◌, true, false, cond, ◌&&◌, List, [], ◌∷◌, length, get_or, Option, Some, None, is_some, refl, sym, ap, ◌∙◌, subst, arith}
+use Rattle.std.specs.Prelude.{map, nat_eq}
 use Rattle.std.specs.Cmp.Lexicographic.{pointwise}
 use Rattle.std.specs.FinMap.{find, is_sorted}
 use Rattle.std.specs.FinMap.Entries.{below_all}
-use Rattle.std.specs.List.{AllByRecursion, IsDistinct}
+use Rattle.std.specs.List.{IsDistinct}
 use Rattle.std.specs.List.Sorted.{IsSorted}
 use Rattle.std.specs.Map.{lookup as lookup_in, keys_of}
 use Rattle.std.specs.Option.{option_map, unwrap_or}
-use Rattle.std.specs.Ordering.{eq_by_cmp, is_eq, is_lt, ordering_reverse}
+use Rattle.std.specs.Ordering.{is_eq, is_lt, ordering_reverse}
 use Rattle.std.specs.declared.cmp.Ordering.{Ordering}
 use Rattle.std.specs.declared.cmp.Ordering.TheVariants.{Less, Equal, Greater}
 use Rattle.std.proofs.lemmas.Bool.{and_from, and_parts, false≢true, true≢false}
@@ -21,10 +20,10 @@ use Rattle.ext_text.specs.declared.class.Class.{Class}
 use Rattle.ext_text.proofs.ForCallers.{is_less}
 use Rattle.ext_tree.specs.Tree.{Entries}
 use Rattle.ext_vers.specs.Version.{order_of}
-use Rattle.ext_find.specs.Directories.{Opens, search_directories}
+use Rattle.ext_find.specs.Directories.{search_directories}
 use Rattle.ext_find.specs.Found.{IsFirst, IsFound}
 use Rattle.ext_find.specs.Keeps.{Keeps, before, kept_at}
-use Rattle.ext_find.specs.Order.{orders_exact, orders_total, stems_ties}
+use Rattle.ext_find.specs.Order.{orders_total, stems_ties}
 use Rattle.ext_find.specs.Usable.{item_with}
 use Rattle.ext_find.specs.declared.found.FoundItem.{FoundItem}
 use Rattle.ext_find.specs.declared.seat.Seat.{Seat}

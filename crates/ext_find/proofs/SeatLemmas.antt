@@ -3,17 +3,16 @@ use Rattle.std.proofs.Common.{◌≡◌, ℕ, Bool, true, false, List, [], ◌�
 use Rattle.std.specs.Prelude.{IsTrue, ◌↔◌, IfOk, Result, Ok, Err}
 use Rattle.std.specs.Borrow.{Bor}
 use Rattle.std.specs.Option.{option_map}
-use Rattle.std.proofs.lemmas.Bool.{false≢true, true≢false}
+use Rattle.std.proofs.lemmas.Bool.{false≢true}
 use Rattle.ext_text.specs.Name.{IsName}
 use Rattle.ext_text.specs.Path.{IsPath}
 use Rattle.ext_text.specs.declared.arch.Arch.{Arch}
 use Rattle.ext_text.specs.declared.class.Class.{Class}
-use Rattle.ext_tree.specs.declared.entry.Entry.{Entry}
 use Rattle.ext_tree.specs.Tree.{Entries, IsTree, lookup}
 use Rattle.ext_walk.specs.Walk.{is_idle, is_up}
-use Rattle.ext_find.specs.Content.{is_full_at, is_mask, is_mask_at}
+use Rattle.ext_find.specs.Content.{is_full_at, is_mask_at}
 use Rattle.ext_find.specs.Ending.{ending_of, is_hidden, stem_of}
-use Rattle.ext_find.specs.Found.{Gives, IsImage, IsPlace, IsUsableIn, LeadsToRaw}
+use Rattle.ext_find.specs.Found.{Gives, IsImage, IsPlace, LeadsToRaw}
 use Rattle.ext_find.specs.Image.{kind_of}
 use Rattle.ext_find.specs.Leads.{DirectoryAt, LeadsTo, LeadsToDirectory}
 use Rattle.ext_find.specs.Pick.{IsPick, Picks}
@@ -21,7 +20,6 @@ use Rattle.ext_find.specs.Usable.{ImageAt, IsBelow, IsKind, IsMaskAt, IsRawAt, I
 use Rattle.ext_find.specs.declared.ending.Ending.{Ending}
 use Rattle.ext_find.specs.declared.ending.Ending.TheVariants.{Plain, DotRaw, DotV, DotRawV}
 use Rattle.ext_find.specs.declared.found.BreakWhy.{BreakWhy}
-use Rattle.ext_find.specs.declared.found.FoundItem.{FoundItem}
 use Rattle.ext_find.specs.declared.found.FoundKind.{FoundKind}
 use Rattle.ext_find.specs.declared.found.FoundKind.TheVariants.{Image, Masked, Raw, Broken}
 use Rattle.ext_find.specs.declared.seat.Seat.{Seat}

@@ -1,19 +1,17 @@
 -- Texts that end with `_` and an architecture: in one way.
-use Rattle.std.proofs.Common.{◌≡◌, ℕ, Bool, true, false, Option, Some, None, is_some, List, [], ◌∷◌, ◌++◌, get_or, drop, refl, sym, ap, ◌∙◌, subst, rules}
-use Rattle.std.specs.Prelude.{◌⊎◌}
+use Rattle.std.proofs.Common.{◌≡◌, ℕ, true, false, Option, Some, None, is_some, List, [], ◌∷◌, ◌++◌, get_or, drop, refl, sym, ap, ◌∙◌, subst, rules}
 use mathlib.Core.Logic.{inl, inr}
-use Rattle.std.specs.Borrow.{Bor}
 use Rattle.std.specs.Ordering.{eq_by_cmp}
 use Rattle.std.proofs.lemmas.Bool.{false≢true}
 use Rattle.ext_lines.specs.ByteOrder.{bytes_cmp}
 use Rattle.ext_lines.specs.Split.{Lacks}
-use Rattle.ext_lines.proofs.ForCallers.{lacks_all, split_none}
+use Rattle.ext_lines.proofs.ForCallers.{split_none}
 use Rattle.ext_text.specs.Arch.{ReadsArch, arch_name}
 use Rattle.ext_text.specs.declared.arch.Arch.{Arch}
 use Rattle.ext_text.specs.declared.arch.Arch.TheVariants.{X86, X86_64, Arm, Arm64, Riscv64, S390x, Ppc64Le, Loongarch64}
 use Rattle.ext_text.proofs.ForCallers.{same_name, tied_name}
 use Rattle.ext_vers.specs.Version.{IsVersion}
-use Rattle.ext_find.specs.Version.{HasArch, NamesVersion, EndsWithArch, ReadsVersion}
+use Rattle.ext_find.specs.Version.{HasArch, NamesVersion}
 
 -- a byte is in a text that holds it
 holds : (byte : ℕ) (before after : List ℕ) → Lacks byte (before ++ byte ∷ after) → ⊥

@@ -1,5 +1,5 @@
 -- What an entry is to a search.
-use Rattle.std.specs.Prelude.{ℕ, Bool, true, false, not, ◌==◌, codes, Option, Some, None}
+use Rattle.std.specs.Prelude.{ℕ, Bool, false, not, ◌==◌, codes, Option, Some, None}
 use Rattle.std.specs.Ordering.{eq_by_cmp}
 use Rattle.ext_lines.specs.ByteOrder.{bytes_cmp}
 use Rattle.ext_tree.specs.Tree.{is_directory, is_file}

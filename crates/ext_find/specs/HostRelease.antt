@@ -3,7 +3,6 @@ use Rattle.std.specs.Prelude.{◌≡◌, ◌⊎◌, ℕ, Bool, false, List, code
 use Rattle.std.specs.Borrow.{Bor}
 use Rattle.std.specs.FinMap.{FinMap}
 use Rattle.ext_lines.specs.ByteOrder.{bytes_cmp}
-use Rattle.ext_text.specs.Causes.{Rose}
 use Rattle.ext_tree.specs.declared.entry.Entry.{Entry}
 use Rattle.ext_tree.specs.declared.entry.Entry.TheVariants.{File}
 use Rattle.ext_tree.specs.Tree.{Entries, lookup}

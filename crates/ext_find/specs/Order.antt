@@ -1,7 +1,7 @@
 -- The order of versions is total, and only equal texts tie: what the names of a search are ordered and told apart by.
 -- Belongs to ext_vers.
 use Rattle.std.specs.Prelude.{◌≡◌, ℕ, List, nat_eq, Some, refl}
-use Rattle.std.proofs.Common.{true, false, ap, sym, ◌∙◌}
+use Rattle.std.proofs.Common.{true, ap, sym, ◌∙◌}
 use Rattle.std.specs.Cmp.{both_ways, IsTotalOrder, IsPartialOrder, on_total, then_total, nat_cmp_total, partial_order_from_agreeing_total, tied_itself}
 use Rattle.std.specs.Cmp.Lexicographic.{lists_total, nat_list_cmp_total, pointwise, texts_ties}
 use Rattle.std.specs.Ordering.{eq_by_cmp, is_eq, ordering_then}

@@ -1,5 +1,4 @@
-use Rattle.std.proofs.Common.{◌≡◌, length, map, subst, sym, ◌∙◌, arith}
-use Rattle.ext_find.specs.Directories.{search_directories}
+use Rattle.std.proofs.Common.{◌≡◌, map, subst, sym, ◌∙◌, arith}
 use Rattle.ext_find.specs.Found.{IsFound}
 use Rattle.ext_find.specs.Keeps.{Keeps, before}
 use Rattle.ext_find.specs.Usable.{item_with}

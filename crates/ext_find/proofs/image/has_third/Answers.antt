@@ -1,4 +1,4 @@
-use Rattle.std.proofs.Common.{[], ◌∷◌, ◌++◌, None, is_some, sym, ap, ◌∙◌, subst}
+use Rattle.std.proofs.Common.{[], ◌∷◌, ◌++◌, is_some, sym, ap, ◌∙◌}
 use Rattle.ext_tree.specs.Tree.{lookup}
 use Rattle.ext_find.proofs.ImageLemmas.{child_some, third_none, third_part, third_second}
 use Rattle.ext_find.proofs.image.has_third.Goals as goal

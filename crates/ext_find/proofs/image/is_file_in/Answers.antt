@@ -1,4 +1,4 @@
-use Rattle.std.proofs.Common.{◌<◌, ◌≤◌, length, sym, ap, ◌∙◌, subst}
+use Rattle.std.proofs.Common.{◌<◌, ◌≤◌, length, ap, ◌∙◌, subst}
 use Rattle.ext_tree.specs.Tree.{lookup}
 use Rattle.ext_find.specs.Content.{is_file_at}
 use Rattle.ext_find.proofs.ImageLemmas.{file_in, no_file}

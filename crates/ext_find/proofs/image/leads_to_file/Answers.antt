@@ -1,4 +1,4 @@
-use Rattle.std.proofs.Common.{◌++◌, Some, None, sym, ap, ◌∙◌, subst}
+use Rattle.std.proofs.Common.{◌++◌, subst}
 use Rattle.ext_tree.specs.Part.{part}
 use Rattle.ext_walk.specs.Walk.{ResolvesIn, parts}
 use Rattle.ext_find.specs.Content.{is_file_at}

@@ -1,6 +1,5 @@
-use Rattle.std.proofs.Common.{[], ◌∷◌, ◌++◌, None, Some, refl, sym, ap, ◌∙◌, subst}
+use Rattle.std.proofs.Common.{[], ◌∷◌, ◌++◌, refl, subst}
 use Rattle.ext_find.specs.Leads.{LeadsToDirectory}
-use Rattle.ext_find.specs.Version.{ReadsVersionAfter}
 use Rattle.ext_find.proofs.PickLemmas.{none_named, one_named}
 use Rattle.ext_find.proofs.pick.candidate_at.Goals as goal
 

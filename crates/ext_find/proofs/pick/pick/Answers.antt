@@ -1,5 +1,4 @@
-use Rattle.std.proofs.Common.{[], ◌∷◌, ◌++◌, sym, ap, ◌∙◌, subst}
-use Rattle.std.specs.Option.{option_map}
+use Rattle.std.proofs.Common.{sym, ◌∙◌, subst}
 use Rattle.ext_find.specs.Pick.{IsBest, Picks}
 use Rattle.ext_find.proofs.PickLemmas.{best_next, candidates_left, picked}
 use Rattle.ext_find.proofs.RowLemmas.{row_of_named}

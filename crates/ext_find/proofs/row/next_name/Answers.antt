@@ -1,4 +1,4 @@
-use Rattle.std.proofs.Common.{◌+◌, ◌<◌, ◌≤◌, length, length-take-le, sym, subst, arith}
+use Rattle.std.proofs.Common.{◌+◌, ◌<◌, length, length-take-le, sym, subst, arith}
 use Rattle.ext_find.proofs.RowLemmas.{deeper, first_below, passes_first}
 use Rattle.ext_find.proofs.row.next_name.Goals as goal
 

@@ -1,5 +1,5 @@
-use Rattle.std.proofs.Common.{None, Some, subst}
-use Rattle.ext_find.specs.Pick.{IsPick, Picks}
+use Rattle.std.proofs.Common.{subst}
+use Rattle.ext_find.specs.Pick.{Picks}
 use Rattle.ext_find.specs.Usable.{ImageAt, IsBelow, PickedAt}
 use Rattle.ext_find.proofs.SeatLemmas.{if_ok, none_picked, none_within, one_picked}
 use Rattle.ext_find.proofs.seat.picked_in.Goals as goal

@@ -1,4 +1,4 @@
-use Rattle.std.proofs.Common.{[], ◌∷◌, ◌++◌, Some, is_some, sym, ap, ◌∙◌, subst}
+use Rattle.std.proofs.Common.{[], ◌∷◌, ◌++◌, is_some, sym, ap, ◌∙◌, subst}
 use Rattle.ext_tree.specs.Tree.{lookup}
 use Rattle.ext_find.specs.Ending.{is_hidden}
 use Rattle.ext_find.specs.Usable.{IsStem, SeatAt, UsableAt}

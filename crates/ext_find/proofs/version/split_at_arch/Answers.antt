@@ -1,6 +1,5 @@
 use Rattle.std.proofs.Common.{◌∷◌, ◌++◌, sym, ap, ◌∙◌}
 use Rattle.std.proofs.lemmas.Bool.{false≢true}
-use Rattle.ext_text.specs.Arch.{arch_name}
 use Rattle.ext_find.proofs.VersionLemmas.{no_arch, no_bar, no_version, read_none, read_some}
 use Rattle.ext_find.proofs.version.split_at_arch.Goals as goal
 use Rattle.ext_find.proofs.version.split_at_arch.Goals.{else-is_version-via-then-is_version+else-is_some, else-is_version-via-else-is_version}
