@@ -9,8 +9,6 @@
 pub mod laws;
 mod printing;
 mod sections;
-#[cfg(test)]
-mod tests;
 mod writing;
 
 pub use writing::{index_size, write_index};

@@ -11,6 +11,12 @@ mod depots;
 #[cfg(test)]
 mod grafts;
 #[cfg(test)]
+mod hosts;
+#[cfg(test)]
+mod index_lines;
+#[cfg(test)]
+mod indices;
+#[cfg(test)]
 mod layers;
 #[cfg(test)]
 mod lines;
@@ -20,6 +26,10 @@ mod parts;
 mod release;
 #[cfg(test)]
 mod runs;
+#[cfg(test)]
+mod searches;
+#[cfg(test)]
+mod stores;
 #[cfg(test)]
 mod streams;
 #[cfg(test)]
