@@ -3,7 +3,7 @@ ghost use Rattle.std.specs.Prelude.{◌≡◌, true, false, length};
 ghost use Rattle.ext_index.specs.Index.{index_text};
 ghost use Rattle.ext_index.specs.Laws.{empty_host, empty_index_1, empty_index_2};
 
-/// The index of a host on which nothing stands: its lines as text 2, and that they have 133 bytes; and as text 1.
+/// The index of a host on which nothing stands: its lines as text 2 and that they have 133 bytes, and its lines as text 1.
 pub fn empty_host_has_this_index()
     ensures lines_2 { index_text true 1 empty_host ≡ empty_index_2 }
     ensures length_2 { length empty_index_2 ≡ 133 }

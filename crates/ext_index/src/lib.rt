@@ -1,9 +1,8 @@
-//! The index of a generation: what a store lists of a host, written, read and measured.
+//! The index of a generation: what a store lists of a host, its text, and how long that is.
 //!
 //! An index is a text that says of a host what stands at each path, which images are merged and attached, and which files an
 //! update left, and of each file of it where the store keeps the bytes. Text 2 is written; text 1, without hierarchies and
-//! past trees, is read too. The lines come from the crate below; this one has their order, their counts and the rules that
-//! hold between them.
+//! past trees, is defined beside it. The lines come from the crate below; this one has their order and their counts.
 #![tactic(auto)]
 
 pub mod laws;

@@ -16,8 +16,8 @@ use std::alloc::Global;
 
 /// The index of a host in a generation, as text 2.
 ///
-/// The generation is that of the index. Where the host is valid for it, the text is read back as the host; a file that is
-/// not kept is listed with a home in this generation, whose number is 0.
+/// It is printed for any host. A file that is not kept is listed with a home in this generation, whose number is 0; so the
+/// text is the index that a store holds only where every file is kept. The format is this project's own.
 ///
 /// # Errors
 /// Out of memory alone.
