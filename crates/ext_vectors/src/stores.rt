@@ -237,7 +237,10 @@ fn depot_of(alloc: Global, path: &Path, bytes: Option<&[u8]>) -> Result<MemoryDe
 
 fn copied(alloc: Global, depot: Option<&[u8]>, listed: &[u8]) -> Result<u64, Fail> {
     let from = Path::read(alloc, b"images/a")?;
-    let mut files = depot_of(alloc, &from, depot)?;
+    let mut files = MemoryDepot::new(alloc, Calls::new(alloc));
+    if let Some(bytes) = depot {
+        files.put(from.copy()?, Text::from_bytes(alloc, bytes)?)?;
+    }
     let mut disk = MemoryDisk::new(alloc, Calls::new(alloc), None);
     let dir = store_folder(alloc);
     let name = Name::read(alloc, b"a")?;
