@@ -32,6 +32,8 @@ pub use Rattle.ext_tree.proofs.PartLemmas.{cmp_prefix, below_append, parent_appe
 pub use Rattle.ext_tree.proofs.PartLemmas.{lookup_part, root_part, tree_part, tree_part_within}
 -- a tree without a path, by look-ups; it is a tree
 pub use Rattle.ext_tree.proofs.PartLemmas.{is_cut, tree_cut, tree_cut_within}
+-- how a path stands to the one of a graft, and what the graft has there in each case; a list that has it is a tree
+pub use Rattle.ext_tree.proofs.GraftedLemmas.{Stands, stands, grafted_root, grafted_same, grafted_below, grafted_above, grafted_apart, tree_grafted}
 -- ---- lines of entries, for any content
 
 -- a field, its space and what follows are read in one way
