@@ -5,7 +5,7 @@ use Rattle.std.proofs.lemmas.Bool.{false≢true}
 use Rattle.ext_tree.specs.declared.entry.Entry.{Entry}
 use Rattle.ext_tree.specs.Tree.{Entries, lookup, is_directory_or_root}
 use Rattle.ext_walk.specs.Walk.{Ends, Resolves, walk}
-use Rattle.ext_walk.proofs.WalkLemmas.{one_end}
+use Rattle.ext_walk.proofs.ForCallers.{one_end}
 use Rattle.ext_find.specs.Leads.{LeadsTo, LeadsToDirectory}
 
 -- a walk along names has one end

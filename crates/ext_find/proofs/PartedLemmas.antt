@@ -11,7 +11,7 @@ use Rattle.ext_find.specs.Leads.{LeadsToDirectory}
 use Rattle.ext_tree.proofs.ForCallers.{parent_child}
 use Rattle.ext_walk.specs.Walk.{Walk, walk, Ends, EndsFrom, enter, follow, is_absolute, is_idle, is_up, most_links, parts, step, steps}
 use Rattle.ext_walk.specs.Steps.{Same}
-use Rattle.ext_walk.proofs.WalkLemmas.{from_some, no_some, same_self, same_step, step_into, stuck}
+use Rattle.ext_walk.proofs.ForCallers.{from_some, no_some, same_self, same_step, step_into, stuck}
 
 -- the walk with more names left
 abbrev with_more : List (List ℕ) → Walk → Walk

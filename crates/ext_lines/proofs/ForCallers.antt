@@ -50,3 +50,5 @@ pub use Rattle.ext_lines.proofs.HexadecimalLemmas.{hex_decoded, each_below, byte
 pub use Rattle.ext_lines.proofs.HexadecimalLemmas.{hex_lacks, five_lacks}
 -- numbers with the same five digits are equal
 pub use Rattle.ext_lines.proofs.HexadecimalLemmas.{five_injective}
+-- the octal digits of a number below eight; those of a larger one are those of its eighth, and one more
+pub use Rattle.ext_lines.proofs.OctalSteps.{octal_digit, octal_step}

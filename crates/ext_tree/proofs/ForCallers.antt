@@ -56,3 +56,5 @@ pub use Rattle.ext_tree.proofs.TreeTextLemmas.{lines_of}
 pub use Rattle.ext_tree.proofs.OneFaultLemmas.{one_text}
 -- the lines of trees are read in one way
 pub use Rattle.ext_tree.proofs.SequenceLemmas.{one_tree, sequence_peeled}
+-- where the first or the second of two additions to a text stopped, a prefix of both was added
+pub use Rattle.ext_tree.proofs.AppendLemmas.{first_stops, second_stops}

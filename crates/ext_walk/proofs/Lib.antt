@@ -1,3 +1,4 @@
 pub mod WalkLemmas
 pub mod PartsLemmas
 pub mod EndLemmas
+pub mod ForCallers

@@ -1,6 +1,6 @@
 use Rattle.std.proofs.Common.{[], Some, None, subst}
 use Rattle.ext_walk.specs.Walk.{ResolvesIn}
-use Rattle.ext_walk.proofs.EndLemmas.{resolves_whole}
+use Rattle.ext_walk.proofs.ForCallers.{resolves_whole}
 use Rattle.ext_find.specs.Content.{is_full_at}
 use Rattle.ext_find.proofs.LeadsLemmas.{leads_iff, leads_none}
 use Rattle.ext_find.proofs.leading.leads_to_full.Goals as goal

@@ -1,6 +1,6 @@
 use Rattle.std.proofs.Common.{[], Some, None, sym, ◌∙◌, subst}
 use Rattle.ext_walk.specs.Walk.{ResolvesIn}
-use Rattle.ext_walk.proofs.EndLemmas.{resolves_whole}
+use Rattle.ext_walk.proofs.ForCallers.{resolves_whole}
 use Rattle.ext_find.proofs.LeadsLemmas.{no_directory, other_directory}
 use Rattle.ext_find.proofs.leading.only_directory.Goals as goal
 

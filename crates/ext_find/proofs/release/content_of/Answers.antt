@@ -1,6 +1,6 @@
 use Rattle.std.proofs.Common.{[], Some, None, subst}
 use Rattle.ext_walk.specs.Walk.{ResolvesIn, parts}
-use Rattle.ext_walk.proofs.EndLemmas.{resolves_whole}
+use Rattle.ext_walk.proofs.ForCallers.{resolves_whole}
 use Rattle.ext_find.proofs.ReleaseLemmas.{content_none, content_there}
 use Rattle.ext_find.proofs.release.content_of.Goals as goal
 

@@ -1,6 +1,6 @@
 use Rattle.std.proofs.Common.{[], ◌∷◌, refl}
 use Rattle.ext_record.specs.Homed.{file_digits}
-use Rattle.ext_tree.proofs.AppendLemmas.{first_stops, second_stops}
+use Rattle.ext_tree.proofs.ForCallers.{first_stops, second_stops}
 use Rattle.ext_record.proofs.homed.append_file.Goals as goal
 
 pub returns-in_err-append_bytes-clause-err : goal.returns-in_err-append_bytes-clause-err

@@ -1,6 +1,6 @@
 use Rattle.std.proofs.Common.{[], ◌∷◌, ◌++◌, decimal, append_assoc, sym}
 use Rattle.ext_record.specs.Homed.{file_digits}
-use Rattle.ext_tree.proofs.AppendLemmas.{first_stops, second_stops}
+use Rattle.ext_tree.proofs.ForCallers.{first_stops, second_stops}
 use Rattle.ext_record.proofs.homed.append_home.Goals as goal
 
 pub returns-in_err-append_number-clause-err : goal.returns-in_err-append_number-clause-err

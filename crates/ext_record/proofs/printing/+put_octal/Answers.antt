@@ -1,7 +1,7 @@
 use Rattle.std.proofs.Common.{ℕ, List, ◌≡◌, ◌+◌, ◌/◌, ◌%◌, ◌<◌, [], ◌∷◌, ◌++◌, arith, subst, sym, ap, ◌∙◌, append_assoc}
 use Rattle.std.specs.Prelude.{OnOk}
 use Rattle.ext_lines.specs.Numbers.{octal}
-use Rattle.ext_lines.proofs.OctalSteps.{octal_digit, octal_step}
+use Rattle.ext_lines.proofs.ForCallers.{octal_digit, octal_step}
 use Rattle.ext_record.proofs.printing.+put_octal.Goals as goal
 use Rattle.ext_record.proofs.printing.+put_octal.Goals.{then-number-ge8+in_ok-put_octal, else-number-ge8}
 

@@ -2,7 +2,7 @@ use Rattle.std.proofs.Common.{[], sym}
 use Rattle.ext_tree.specs.Fields.{spaced, stamp_fields}
 use Rattle.ext_tree.proofs.ForCallers.{spaced-append}
 use Rattle.ext_record.specs.Homed.{home_fields}
-use Rattle.ext_tree.proofs.AppendLemmas.{first_stops, second_stops}
+use Rattle.ext_tree.proofs.ForCallers.{first_stops, second_stops}
 use Rattle.ext_record.proofs.homed.HomedLineContent.append_to.Goals as goal
 
 pub returns-in_err-append_stamp-clause-err : goal.returns-in_err-append_stamp-clause-err
