@@ -20,6 +20,8 @@ mod row;
 mod search;
 mod seat;
 mod stem;
+#[cfg(test)]
+mod tests;
 mod usable;
 mod version;
 

@@ -25,6 +25,8 @@ pub mod samples;
 mod shelf;
 mod stamped;
 mod stamping;
+#[cfg(test)]
+mod tests;
 mod touch;
 
 pub use attachment::Attachment;

@@ -8,6 +8,8 @@
 pub mod laws;
 mod printing;
 mod sections;
+#[cfg(test)]
+mod tests;
 mod writing;
 
 pub use writing::{index_size, write_index};

@@ -7,40 +7,18 @@
 #![tactic(auto)]
 
 #[cfg(test)]
-mod depots;
-#[cfg(test)]
-mod grafts;
-#[cfg(test)]
-mod hosts;
-#[cfg(test)]
-mod index_lines;
-#[cfg(test)]
-mod indices;
-#[cfg(test)]
 mod layers;
 #[cfg(test)]
 mod lines;
-#[cfg(test)]
-mod parts;
 #[cfg(test)]
 mod release;
 #[cfg(test)]
 mod runs;
 #[cfg(test)]
-mod searches;
-#[cfg(test)]
-mod stores;
-#[cfg(test)]
 mod streams;
 #[cfg(test)]
 mod text;
 #[cfg(test)]
-mod tree_texts;
-#[cfg(test)]
-mod trees;
-#[cfg(test)]
 mod verdicts;
 #[cfg(test)]
 mod versions;
-#[cfg(test)]
-mod walks;

@@ -1,4 +1,4 @@
-use ext_find::{BreakWhy, FindErr, Found, FoundKind, find, host_release, laws, why_broken};
+use super::*;
 use ext_host::{Body, Held, Shelf, ShelfErr};
 use ext_text::{Arch, Class, ListOf, Mode, Name, Names, Path, Text};
 use ext_tree::{Entry, Stamp, Tree, read_tree};

@@ -1,6 +1,6 @@
+use super::*;
 use ext_text::{Mode, Name, Path, Text};
 use ext_tree::{Entry, Stamp, Tree, read_tree};
-use ext_walk::{end_of_path, end_of_text, laws, resolve};
 use std::alloc::Global;
 use std::test::Fail;
 

@@ -1,8 +1,5 @@
+use super::*;
 use ext_lines::OutOfMemory;
-use ext_record::{
-    Homed, Printed, host_of, item_of, kept_entry, manifest_of, name_after, number_after,
-    path_after, put_entry, put_host, put_item, put_manifest, put_path, put_worded, version_of,
-};
 use ext_tree::entry_of_line;
 use std::alloc::Global;
 use std::test::Fail;

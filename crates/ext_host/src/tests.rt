@@ -1,8 +1,5 @@
-use ext_host::samples::{host_of_texts, tree_of_text};
-use ext_host::{
-    Attachments, Body, Held, HereShelf, Host, Item, Items, Manifest, Manifests, Past,
-    bytes_of_both, default_hierarchies, from_depot, stamps,
-};
+use super::*;
+use crate::samples::{host_of_texts, tree_of_text};
 use ext_text::{Class, Digest, Name, Names, Path, Text};
 use ext_tree::{Entry, Held1, Tree, TreeErr, read_tree, write_tree};
 use std::alloc::Global;

@@ -1,6 +1,6 @@
 ghost use Rattle.std.specs.Prelude.{◌<◌, length};
 
-use ext_depot::{Depot, MemoryDepot};
+use crate::{Depot, MemoryDepot};
 use ext_io::{Calls, Failed};
 use ext_text::{Path, Text};
 use std::alloc::Global;

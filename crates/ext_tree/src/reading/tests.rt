@@ -1,7 +1,6 @@
-use ext_lines::OutOfMemory;
+use super::*;
+use crate::entry_line::append_line;
 use ext_text::Text;
-use ext_tree::{Entry, Stamp, TreeTextErr, append_line, entry_of_line, read_tree, read_trees};
-use std::alloc::Global;
 use std::test::Fail;
 
 // The digits of the digest of no bytes.

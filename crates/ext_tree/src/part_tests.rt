@@ -1,5 +1,5 @@
+use super::*;
 use ext_text::Path;
-use ext_tree::{Stamp, Tree, TreeErr, after, read_tree, write_tree};
 use std::alloc::Global;
 use std::test::Fail;
 

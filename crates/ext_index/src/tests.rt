@@ -1,5 +1,5 @@
+use super::*;
 use ext_host::{Attachment, Held, Host, Item, Manifest, Past, from_depot};
-use ext_index::{index_size, laws, write_index};
 use ext_text::{Arch, Digest, ListOf, Name, NameErr, Names, Path, PathErr, Paths, Scope};
 use ext_tree::{Tree, read_tree};
 use std::alloc::Global;

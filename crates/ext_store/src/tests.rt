@@ -1,15 +1,15 @@
 ghost use Rattle.std.specs.Prelude.{◌≡◌, ◌∷◌, ◌++◌, [], IsTrue, IfOk};
 ghost use Rattle.ext_disk.specs.Calls.{make_file, MayCall};
 
-use ext_depot::MemoryDepot;
-use ext_disk::{Disk, DiskOp, Kind, MemoryDisk};
-use ext_host::{Held, Home, Shelf, ShelfErr, stamp_of};
-use ext_io::{Calls, Failed};
-use ext_store::{
+use crate::{
     CompareErr, CopyErr, Found, GenShelf, copy_from_depot, current_path, file, generation_path,
     home_path, index_path, is_left_over, is_same_as_kept, laws, make_folder, next_path, piece,
     read_current, read_file, remove_left_overs, settle_folder, store_folder, verify, write_file,
 };
+use ext_depot::MemoryDepot;
+use ext_disk::{Disk, DiskOp, Kind, MemoryDisk};
+use ext_host::{Held, Home, Shelf, ShelfErr, stamp_of};
+use ext_io::{Calls, Failed};
 use ext_text::{Name, Path, PathErr, Text};
 use std::alloc::Global;
 use std::collections::BTreeSet;

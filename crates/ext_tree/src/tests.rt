@@ -1,8 +1,6 @@
+use super::*;
 use ext_lines::OutOfMemory;
 use ext_text::{Mode, Path, Text};
-use ext_tree::{
-    Entry, Stamp, Tree, TreeErr, laws, read_tree, write_entries, write_entries_into, write_tree,
-};
 use std::alloc::Global;
 use std::test::Fail;
 
