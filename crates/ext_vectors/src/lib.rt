@@ -1,5 +1,5 @@
-//! Cases for the public calls of the small crates and of the run: tables of what goes in and what has to come out, from the formats'
-//! standards, from the tools that hostext is like, or worked out by hand from the definitions.
+//! Cases for the public calls of the small crates and of the run: tables of what goes in and what has to come out, from
+//! the formats' standards, from the tools that hostext is like, or worked out by hand from the definitions.
 //!
 //! A proof says that a call meets its contract, for every input; these say that the contract is what was meant, and that
 //! no call gives up for want of memory where there is plenty. They stand in one crate since a crate with tests is proved
