@@ -120,6 +120,7 @@ told_unfinished T p (Some d) b may none = record {
   are = gone_nothing (is_prefix p) d.places d.places refl;
   counts = (omega arith, none);
   ends = (p, prefix_self p, stands_there p d.places may);
+  appended = refl;
 }
 
 pub clears_unfinished : (T : Type 0) (p : List (List ℕ)) (s : DiskState) (b : ℕ) → MayCall (remove p) s → b ≡ 0 → Clears (is_prefix p) (failed T Unfinished) b b s s
@@ -164,6 +165,7 @@ told_removed T t p (Some d) (Some e) b m may tree tree' count does =
       are = gone;
       counts = count;
       ends = λ q prefix. none_below e.places (tree' e refl) p q (gone_none (is_prefix p) d.places e.places (p ∷ []) gone p (or_left _ _ (tied_path p p refl))) prefix;
+      appended = does.ends.1;
     }
 
 spares_removal : (p : List (List ℕ)) (old new : DiskState) (b : Bool) → Does (remove p) old new b → Spares (is_prefix p) old new
@@ -179,18 +181,18 @@ clears_removed T t p old new b m tree tree' may count does = record {
   told = told_removed T t p old.told new.told b m may (trees old.told tree) (trees new.told tree') count does.told;
 }
 
-half_gone : (T : Type 0) (p : List (List ℕ)) (d e : Told) (b m : ℕ) → Allows (remove p) d.places → 1 + m ≡ b → Fails (remove p) d.places e.places
+half_gone : (T : Type 0) (p : List (List ℕ)) (d e : Told) (b m : ℕ) → Allows (remove p) d.places → 1 + m ≡ b → e.appended ≡ d.appended → Fails (remove p) d.places e.places
     → ClearsTold (is_prefix p) (failed T DiskFault) b m d e
-half_gone T p d e b m may count (inl same) = record { gone = []; are = gone_nothing (is_prefix p) d.places e.places same; counts = omega arith; ends = tt }
-half_gone T p d e b m may count (inr (true, soft, same)) = record { gone = p ∷ []; are = gone_one p soft d.places e.places may same; counts = omega arith; ends = tt }
-half_gone T p d e b m may count (inr (false, soft, same)) = record { gone = []; are = kept_one p soft d.places e.places same; counts = omega arith; ends = tt }
+half_gone T p d e b m may count sum (inl same) = record { gone = []; are = gone_nothing (is_prefix p) d.places e.places same; counts = omega arith; ends = tt; appended = sum }
+half_gone T p d e b m may count sum (inr (true, soft, same)) = record { gone = p ∷ []; are = gone_one p soft d.places e.places may same; counts = omega arith; ends = tt; appended = sum }
+half_gone T p d e b m may count sum (inr (false, soft, same)) = record { gone = []; are = kept_one p soft d.places e.places same; counts = omega arith; ends = tt; appended = sum }
 
 told_failed : (T : Type 0) (p : List (List ℕ)) (x y : Option Told) (b m : ℕ) → IfSome x (λ d. Allows (remove p) d.places) → 1 + m ≡ b
     → BothTold (DoesTold (remove p) false) x y → BothTold (ClearsTold (is_prefix p) (failed T DiskFault) b m) x y
 told_failed T p None None b m may count does = tt
 told_failed T p None (Some e) b m may count does = absurd does
 told_failed T p (Some d) None b m may count does = absurd does
-told_failed T p (Some d) (Some e) b m may count does = half_gone T p d e b m may count does.ends.0
+told_failed T p (Some d) (Some e) b m may count does = half_gone T p d e b m may count does.ends.1 does.ends.0
 
 pub clears_failed : (T : Type 0) (p : List (List ℕ)) (old new : DiskState) (b m : ℕ) → MayCall (remove p) old → 1 + m ≡ b
     → Does (remove p) old new false → Clears (is_prefix p) (failed T DiskFault) b m old new
@@ -213,6 +215,7 @@ told_rests reach r b (Some d) (Some e) same counts ends =
       are = gone_nothing reach d.places e.places (ap (λ t. t.places) one);
       counts = counts;
       ends = subst (λ t. Ends reach r t.places) (sym one) ends;
+      appended = ap (λ t. t.appended) one;
     }
 
 pub clears_rests : {T : Type 0} (reach : List (List ℕ) → Bool) (r : Result T CleanErr) (b : ℕ) (old new : DiskState) → Rests old new → Counts r 0 b b
@@ -282,6 +285,7 @@ told_wider near whole r before after (Some d) (Some e) within covers both = reco
   };
   counts = both.counts;
   ends = ends_wider near whole r d.places e.places both.gone within covers both.are both.ends;
+  appended = both.appended;
 }
 
 -- with a wider reach, in which nothing more stood
@@ -423,7 +427,7 @@ clears_next T t u dir p front n before mid after a b c is one two =
     record {
       spares = both.spares;
       told = told_map (ClearsTold (is_below_any dir (front ++ n ∷ [])) (done T u) before after) (ClearsTold (is_below_any dir (front ++ n ∷ [])) (done T t) before after)
-          (λ d e x. record { gone = x.gone; are = x.are; counts = x.counts; ends = x.ends }) a.told c.told both.told;
+          (λ d e x. record { gone = x.gone; are = x.are; counts = x.counts; ends = x.ends; appended = x.appended }) a.told c.told both.told;
     }
 
 -- at a name it stops

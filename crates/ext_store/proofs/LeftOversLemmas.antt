@@ -16,7 +16,7 @@ use Rattle.ext_disk.specs.Lookups.{IsListing}
 use Rattle.ext_store.specs.LeftOvers.{is_left_over, is_left_path}
 use Rattle.ext_store.specs.declared.errors.CleanErr.{CleanErr}
 use Rattle.ext_store.specs.declared.errors.CleanErr.TheVariants.{DiskFault, OutOfMemory, Unfinished}
-use Rattle.ext_store.specs.Removal.{is_in, AreDistinct, AreGone, Removes, ClearsTold, Clears, is_below_any}
+use Rattle.ext_store.specs.Removal.{is_in, AppendsNothing, AreDistinct, AreGone, Removes, ClearsTold, Clears, is_below_any}
 use Rattle.ext_store.proofs.ToldLemmas.{told_map}
 use Rattle.ext_store.proofs.RemovalLemmas.{contrapose, in_stand, still_stood, gone_none}
 use Rattle.ext_store.proofs.ClearingLemmas.{stands_above, clears_wider, rests_clears}
@@ -168,3 +168,9 @@ pub removes : {T : Type 0} (most after : ℕ) (reach : List (List ℕ) → Bool)
     → BothTold (Removes most reach r) old.told new.told
 removes most after reach r old new clears =
     told_map (ClearsTold reach r most after) (Removes most reach r) (told_removes most after reach r) old.told new.told clears.told
+
+-- which appends nothing
+pub removal_appends_nothing : {T : Type 0} (before after : ℕ) (reach : List (List ℕ) → Bool) (r : Result T CleanErr) (old new : DiskState) → Clears reach r before after old new
+    → BothTold AppendsNothing old.told new.told
+removal_appends_nothing before after reach r old new clears =
+    told_map (ClearsTold reach r before after) AppendsNothing (λ d e told. told.appended) old.told new.told clears.told

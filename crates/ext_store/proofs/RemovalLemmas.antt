@@ -148,5 +148,6 @@ clears_then T near far whole t r before mid after a b c near_in far_in covers on
         counts = subst (λ n. Counts r n before after) (sym (length-append first.gone then.gone))
             (counts_then t r (length first.gone) (length then.gone) before mid after first.counts then.counts);
         ends = ends_then near far whole r y.places z.places then.gone far_in covers first.ends then.are then.ends;
+        appended = then.appended ∙ first.appended;
       }) a.told b.told c.told one.told two.told;
 }

@@ -97,11 +97,16 @@ Ends reach (Err Unfinished) e = (p : List (List ℕ)) × (reach p ≡ true) × (
 Ends reach (Err DiskFault) e = Unit {0}
 Ends reach (Err OutOfMemory) e = Unit {0}
 
+-- nothing was appended
+abbrev pub AppendsNothing : Told → Told → Type 0
+AppendsNothing d e = e.appended ≡ d.appended
+
 pub record ClearsTold {T : Type 0} (reach : List (List ℕ) → Bool) (result : Result T CleanErr) (before after : ℕ) (d e : Told) : Type 0 where
   pub gone : List (List (List ℕ))
   pub are : AreGone reach d.places e.places gone
   pub counts : Counts result (length gone) before after
   pub ends : Ends reach result e.places
+  pub appended : AppendsNothing d e
 
 -- a part of a removal, told or not: what is out of reach is spared
 pub record Clears {T : Type 0} (reach : List (List ℕ) → Bool) (result : Result T CleanErr) (before after : ℕ) (old new : DiskState) : Type 0 where

@@ -5,7 +5,7 @@ ghost use Rattle.std.specs.BTreeSet.{contains};
 ghost use Rattle.ext_disk.specs.Disk.{BothTold};
 ghost use Rattle.ext_disk.specs.Fixed.{Spares};
 ghost use Rattle.ext_store.specs.LeftOvers.{is_left_over, is_left_path, is_spared, is_unspared};
-ghost use Rattle.ext_store.specs.Removal.{CleanCause, Removes, Clears};
+ghost use Rattle.ext_store.specs.Removal.{AppendsNothing, CleanCause, Removes, Clears};
 
 use crate::errors::CleanErr;
 use crate::names::generation_of;
@@ -24,7 +24,7 @@ pub const MOST_LEFT_OVERS: u32 = 1_048_576;
 ///
 /// A change calls it before it writes, and spares the current generation and those of its files' homes. What is spared, and
 /// each path that is no left-over's nor below one, stays as it was, and each of them that no stop could have changed stays
-/// so.
+/// so. Nothing is appended.
 ///
 /// # Errors
 /// `Unfinished` exactly where more than 1,048,576 entries stood at and below the left-overs; so many of them were removed. A
@@ -36,6 +36,7 @@ pub fn remove_left_overs<D: Disk>(
 ) -> Result<(), CleanErr>
     ensures spares { Spares (is_left_path (is_spared spared.now)) (D.state disk.old) (D.state disk.new) }
     ensures removes { BothTold (Removes 1048576 (is_left_path (is_spared spared.now)) result) (D.state disk.old).told (D.state disk.new).told }
+    ensures appended { BothTold AppendsNothing (D.state disk.old).told (D.state disk.new).told }
     ensures cause { IfErr result (CleanCause (D.state disk.old).faults (D.state disk.new).faults) }
 {
     let mut most = MOST_LEFT_OVERS;
