@@ -1,5 +1,5 @@
 // Where lines are printed to.
-ghost use Rattle.std.specs.Prelude.{◌≡◌, ◌++◌, ℕ, List, [], length, OnOk};
+ghost use Rattle.std.specs.Prelude.{◌≡◌, ◌++◌, ◌∷◌, ℕ, List, [], length, OnOk};
 ghost use Rattle.ext_record.specs.Out.{at_most_64_bits};
 
 use ext_lines::{OutOfMemory, grown};
@@ -21,6 +21,13 @@ pub trait Out {
     /// Where they are not taken. What was printed is then of no use.
     fn put(&mut self, bytes: &[u8]) -> Result<(), Self::Refused>
         ensures { (before : List ℕ) → holds self.old before → OnOk result (holds self.new (before ++ bytes.now)) };
+
+    /// Prints one byte.
+    ///
+    /// # Errors
+    /// Where it is not taken. What was printed is then of no use.
+    fn put_byte(&mut self, byte: u8) -> Result<(), Self::Refused>
+        ensures { (before : List ℕ) → holds self.old before → OnOk result (holds self.new (before ++ byte ∷ [])) };
 }
 
 /// The bytes that were printed.
@@ -55,6 +62,10 @@ impl Out for Printed {
     fn put(&mut self, bytes: &[u8]) -> Result<(), OutOfMemory> {
         grown(self.bytes.extend_from_slice(bytes))
     }
+
+    fn put_byte(&mut self, byte: u8) -> Result<(), OutOfMemory> {
+        grown(self.bytes.push(byte))
+    }
 }
 
 /// How many bytes were printed, or 18,446,744,073,709,551,615 where there are more. It takes no memory.
@@ -86,6 +97,11 @@ impl Out for Counted {
 
     fn put(&mut self, bytes: &[u8]) -> Result<(), Infallible> {
         self.count = self.count.saturating_add(bytes.len() as u64);
+        Ok(())
+    }
+
+    fn put_byte(&mut self, _byte: u8) -> Result<(), Infallible> {
+        self.count = self.count.saturating_add(1);
         Ok(())
     }
 }

@@ -25,7 +25,7 @@ pub fn put_line<O: Out>(out: &mut O, line: &[u8]) -> Result<(), O::Refused>
     ensures { (before : List ℕ) → O.holds out.old before → OnOk result (O.holds out.new (before ++ (line.now ++ 10 ∷ []))) }
 {
     out.put(line)?;
-    out.put(b"\n")
+    out.put_byte(b'\n')
 }
 
 /// Prints a line of a word and what follows it.
@@ -36,9 +36,9 @@ pub fn put_worded<O: Out>(out: &mut O, word: &[u8], rest: &[u8]) -> Result<(), O
     ensures { (before : List ℕ) → O.holds out.old before → OnOk result (O.holds out.new (before ++ (worded word.now rest.now ++ 10 ∷ []))) }
 {
     out.put(word)?;
-    out.put(b" ")?;
+    out.put_byte(b' ')?;
     out.put(rest)?;
-    out.put(b"\n")
+    out.put_byte(b'\n')
 }
 
 /// Prints a line of a word and a number.
@@ -60,9 +60,9 @@ pub fn put_path<O: Out>(out: &mut O, word: &[u8], path: &Path) -> Result<(), O::
     ensures { (before : List ℕ) → O.holds out.old before → OnOk result (O.holds out.new (before ++ (path_line word.now path.now ++ 10 ∷ []))) }
 {
     out.put(word)?;
-    out.put(b" ")?;
+    out.put_byte(b' ')?;
     put_names(out, path.names())?;
-    out.put(b"\n")
+    out.put_byte(b'\n')
 }
 
 /// Prints the line `host`.
@@ -142,7 +142,7 @@ fn put_below<O: Out>(out: &mut O, names: &[Name]) -> Result<(), O::Refused>
     ensures { (before : List ℕ) → O.holds out.old before → OnOk result (O.holds out.new (before ++ flat_map (λ n. 47 ∷ n) names.now)) }
 {
     'names: for name in names {
-        out.put(b"/")?;
+        out.put_byte(b'/')?;
         out.put(name.bytes())?;
     }
     Ok(())
@@ -162,7 +162,7 @@ pub fn put_entry<O: Out>(
 {
     put_fields(out, generation, entry)?;
     put_names(out, path.names())?;
-    out.put(b"\n")
+    out.put_byte(b'\n')
 }
 
 // Prints the fields of an entry, a space after each.
@@ -184,7 +184,7 @@ fn put_mode<O: Out>(out: &mut O, kind: &[u8], mode: Mode) -> Result<(), O::Refus
 {
     out.put(kind)?;
     put_octal(out, u32::from(mode.bits()))?;
-    out.put(b" ")
+    out.put_byte(b' ')
 }
 
 // Prints the octal digits of a number.
@@ -194,7 +194,7 @@ fn put_octal<O: Out>(out: &mut O, number: u32) -> Result<(), O::Refused>
     if number >= 8 {
         put_octal(out, number / 8)?;
     }
-    out.put(&[b'0' + (number % 8) as u8])
+    out.put_byte(b'0' + (number % 8) as u8)
 }
 
 // Prints the fields of a file.
@@ -212,7 +212,7 @@ fn put_stamp<O: Out>(out: &mut O, stamp: &Stamp) -> Result<(), O::Refused>
 {
     put_decimal(out, stamp.size)?;
     out.put(stamp.digest.digits().as_slice())?;
-    out.put(b" ")
+    out.put_byte(b' ')
 }
 
 // Prints the fields of a home.
@@ -221,7 +221,7 @@ fn put_home<O: Out>(out: &mut O, home: Home) -> Result<(), O::Refused>
 {
     put_decimal(out, u64::from(home.generation))?;
     out.put(digits_of(home.file).as_slice())?;
-    out.put(b" ")
+    out.put_byte(b' ')
 }
 
 // Prints the fields of a link.
@@ -231,7 +231,7 @@ fn put_link<O: Out>(out: &mut O, target: &[u8]) -> Result<(), O::Refused>
     out.put(b"l ")?;
     put_decimal(out, target.len() as u64)?;
     out.put(target)?;
-    out.put(b" ")
+    out.put_byte(b' ')
 }
 
 // Prints the decimal digits of a number and a space.
@@ -240,5 +240,5 @@ fn put_decimal<O: Out>(out: &mut O, number: u64) -> Result<(), O::Refused>
 {
     let mut buffer = Buffer::new();
     out.put(buffer.format(number).as_bytes())?;
-    out.put(b" ")
+    out.put_byte(b' ')
 }
