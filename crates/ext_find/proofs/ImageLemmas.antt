@@ -1,42 +1,25 @@
--- What an image has at paths, as the code looks it up in the whole tree.
-use Rattle.std.proofs.Common.{◌≡◌, ℕ, ◌<◌, ◌≤◌, true, false, List, [], ◌∷◌, ◌++◌, length, Option, Some, None, is_some, refl, sym, ap, ◌∙◌, subst, arith, length-append}
-use Rattle.std.proofs.lemmas.Bool.{false≢true}
-use Rattle.std.proofs.lemmas.List.{append_assoc}
-use Rattle.ext_tree.specs.declared.entry.Entry.{Entry}
+-- What an image has at paths.
+use Rattle.std.proofs.Common.{◌≡◌, ℕ, ◌<◌, ◌≤◌, true, false, List, [], ◌∷◌, ◌++◌, length, Option, Some, None, is_some, refl, sym, ap, subst, arith, length-append}
+use Rattle.std.specs.Prelude.{codes}
 use Rattle.std.specs.Borrow.{Bor}
+use Rattle.std.specs.Option.{option_copied}
+use Rattle.ext_lines.proofs.ForCallers.{one_part}
+use Rattle.ext_text.specs.Name.{IsName}
+use Rattle.ext_text.proofs.ForCallers.{name_lacks}
+use Rattle.ext_text.specs.declared.class.Class.TheVariants as classes
 use Rattle.ext_tree.specs.Part.{part}
-use Rattle.ext_tree.specs.Slices.{IsChild}
-use Rattle.ext_tree.specs.Tree.{Entries, IsTree, lookup, is_directory_or_root}
-use Rattle.ext_tree.proofs.ForCallers.{lookup_part, root_part, parent_child, directory_some}
+use Rattle.ext_tree.specs.Tree.{Entries, IsTree, lookup}
+use Rattle.ext_tree.proofs.ForCallers.{lookup_part, root_part}
+use Rattle.ext_walk.specs.Walk.{parts}
 use Rattle.ext_find.specs.Content.{is_file_at}
+use Rattle.ext_find.specs.Image.{HasRelease}
+use Rattle.ext_find.specs.Leads.{LeadsTo}
+use Rattle.ext_find.proofs.StandsLemmas.{own_file}
 
--- nothing stands below a path where nothing stands
-pub none_below : {C : Type 0} (es : Entries C) (p : List (List ℕ)) (m n : List ℕ) → IsTree es → lookup es (p ++ m ∷ []) ≡ None → lookup es ((p ++ m ∷ []) ++ n ∷ []) ≡ None
-none_below {C = C} es p m n tree none = go (lookup es ((p ++ m ∷ []) ++ n ∷ [])) refl
-  where
-    above : is_some (lookup es ((p ++ m ∷ []) ++ n ∷ [])) ≡ true → is_some (lookup es (p ++ m ∷ [])) ≡ true
-    above there = directory_some es (p ++ m ∷ []) (omega (arith, length-append p (m ∷ []))) (subst (λ q. is_directory_or_root es q ≡ true) (parent_child (p ++ m ∷ []) n) (tree.parents ((p ++ m ∷ []) ++ n ∷ []) there))
-
-    go : (o : Option (Entry C)) → lookup es ((p ++ m ∷ []) ++ n ∷ []) ≡ o → lookup es ((p ++ m ∷ []) ++ n ∷ []) ≡ None
-    go None is = is
-    go (Some e) is = absurd (false≢true (sym (ap is_some none) ∙ above (ap is_some is)))
-
--- a look-up directly in the image
-pub child_part : {C : Type 0} (es : Entries C) (image : List (List ℕ)) (n : List ℕ) → lookup (part image es) (n ∷ []) ≡ lookup es (image ++ n ∷ [])
-child_part es image n = lookup_part image n [] es
-
-third_path : (image : List (List ℕ)) (a b c : List ℕ) → image ++ a ∷ b ∷ c ∷ [] ≡ ((image ++ a ∷ []) ++ b ∷ []) ++ c ∷ []
-third_path image a b c = sym (append_assoc (image ++ a ∷ []) (b ∷ []) (c ∷ []) ∙ append_assoc image (a ∷ []) (b ∷ c ∷ []))
-
--- and at three names, one below the other
-pub third_part : {C : Type 0} (es : Entries C) (image : List (List ℕ)) (a b c : List ℕ) → lookup (part image es) (a ∷ b ∷ c ∷ []) ≡ lookup es (((image ++ a ∷ []) ++ b ∷ []) ++ c ∷ [])
-third_part es image a b c = lookup_part image a (b ∷ c ∷ []) es ∙ ap (lookup es) (third_path image a b c)
-
-pub third_none : {C : Type 0} (es : Entries C) (image : List (List ℕ)) (a b c : List ℕ) → IsTree es → lookup es (image ++ a ∷ []) ≡ None → is_some (lookup (part image es) (a ∷ b ∷ c ∷ [])) ≡ false
-third_none es image a b c tree none = ap is_some (third_part es image a b c ∙ none_below es (image ++ a ∷ []) b c tree (none_below es image a b tree none))
-
-pub third_second : {C : Type 0} (es : Entries C) (image : List (List ℕ)) (a b c : List ℕ) → IsTree es → lookup es ((image ++ a ∷ []) ++ b ∷ []) ≡ None → is_some (lookup (part image es) (a ∷ b ∷ c ∷ [])) ≡ false
-third_second es image a b c tree none = ap is_some (third_part es image a b c ∙ none_below es (image ++ a ∷ []) b c tree none)
+-- what is borrowed is there
+pub copied_some : {A : Type 0} (o : Option (Bor A)) → is_some o ≡ is_some (option_copied o)
+copied_some None = refl
+copied_some (Some x) = refl
 
 -- whether a file stands at a path of the image that is not its root
 pub file_in : {C : Type 0} (es : Entries C) (image at : List (List ℕ)) → length image < length (image ++ at) → is_file_at (lookup es (image ++ at)) ≡ is_file_at (lookup (part image es) at)
@@ -47,7 +30,18 @@ pub no_file : {C : Type 0} (es : Entries C) (image at : List (List ℕ)) → len
 no_file es image [] short = ap is_file_at (sym (root_part image es))
 no_file es image (n ∷ at) short = absurd (omega (arith, length-append image (n ∷ at)))
 
--- what is borrowed at a path is there
-pub child_some : {C : Type 0} (es : Entries C) (p : List (List ℕ)) (o : Option (Bor (List (List ℕ) × Entry C))) → IsChild es p o → is_some o ≡ is_some (lookup es p)
-child_some es p None none = sym (ap is_some none)
-child_some es p (Some e) found = sym (ap is_some found.1)
+-- ---- a file at the path of the release file
+
+system_parts : (name : List ℕ) → IsName name → parts (codes "usr/lib/extension-release.d/extension-release." ++ name) ≡ codes "usr" ∷ codes "lib" ∷ codes "extension-release.d" ∷ (codes "extension-release." ++ name) ∷ []
+system_parts name is = rw (one_part 47 name (name_lacks name is)) refl
+
+configuration_parts : (name : List ℕ) → IsName name → parts (codes "etc/extension-release.d/extension-release." ++ name) ≡ codes "etc" ∷ codes "extension-release.d" ∷ (codes "extension-release." ++ name) ∷ []
+configuration_parts name is = rw (one_part 47 name (name_lacks name is)) refl
+
+pub system_release : {C : Type 0} (image : Entries C) (name : List ℕ) → IsTree image → IsName name → is_file_at (lookup image (codes "usr" ∷ codes "lib" ∷ codes "extension-release.d" ∷ (codes "extension-release." ++ name) ∷ [])) ≡ true → HasRelease image classes.Sysext name
+system_release image name tree is file =
+    subst (LeadsTo is_file_at image) (sym (system_parts name is)) (own_file image tree (codes "usr" ∷ codes "lib" ∷ codes "extension-release.d" ∷ (codes "extension-release." ++ name) ∷ []) file)
+
+pub configuration_release : {C : Type 0} (image : Entries C) (name : List ℕ) → IsTree image → IsName name → is_file_at (lookup image (codes "etc" ∷ codes "extension-release.d" ∷ (codes "extension-release." ++ name) ∷ [])) ≡ true → HasRelease image classes.Confext name
+configuration_release image name tree is file =
+    subst (LeadsTo is_file_at image) (sym (configuration_parts name is)) (own_file image tree (codes "etc" ∷ codes "extension-release.d" ∷ (codes "extension-release." ++ name) ∷ []) file)

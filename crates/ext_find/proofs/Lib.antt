@@ -1,7 +1,10 @@
 pub mod LeadsLemmas
+pub mod StandsLemmas
+pub mod InsideLemmas
 pub mod VersionLemmas
 pub mod ImageLemmas
 pub mod RowLemmas
+pub mod NextLemmas
 pub mod PartedLemmas
 pub mod PickLemmas
 pub mod SeatLemmas

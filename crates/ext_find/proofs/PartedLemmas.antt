@@ -52,7 +52,7 @@ module _ {C : Type 0} (es : Entries C) (more : List (List ℕ)) where
       ]
 
   -- the walk's end along the first names, and the ends from there
-  parted_from : (count : ℕ) (w : Walk) (at : List (List ℕ)) (links : ℕ) → steps es count w ≡ Some (walk at [] links) → Same es (with_more more w) (walk at more links)
+  pub parted_from : (count : ℕ) (w : Walk) (at : List (List ℕ)) (links : ℕ) → steps es count w ≡ Some (walk at [] links) → Same es (with_more more w) (walk at more links)
   parted_from zero w at links ends = subst (λ v. Same es (with_more more w) (with_more more v)) (from_some ends) (same_self es (with_more more w))
   parted_from (suc count) (walk from [] used) at links ends = absurd (no_some ends)
   parted_from (suc count) (walk from (name ∷ left) used) at links ends =

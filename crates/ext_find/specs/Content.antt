@@ -1,5 +1,5 @@
 -- What an entry is to a search.
-use Rattle.std.specs.Prelude.{ℕ, Bool, false, not, ◌==◌, codes, Option, Some, None}
+use Rattle.std.specs.Prelude.{ℕ, Bool, true, false, not, ◌==◌, codes, Option, Some, None}
 use Rattle.std.specs.Ordering.{eq_by_cmp}
 use Rattle.ext_lines.specs.ByteOrder.{bytes_cmp}
 use Rattle.ext_tree.specs.Tree.{is_directory, is_file}
@@ -27,6 +27,14 @@ is_mask size Hide = false
 abbrev pub is_mask_at : {C : Type 0} → (C → ℕ) → Option (Entry C) → Bool
 is_mask_at size None = false
 is_mask_at size (Some e) = is_mask size e
+
+-- a link
+abbrev pub is_link : {C : Type 0} → Entry C → Bool
+is_link (Dir mode) = false
+is_link (Opaque mode) = false
+is_link (File mode content) = false
+is_link (Link target) = true
+is_link Hide = false
 
 -- a file that is not empty
 abbrev pub is_full : {C : Type 0} → (C → ℕ) → Entry C → Bool

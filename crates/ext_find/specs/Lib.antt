@@ -6,6 +6,7 @@ pub mod Leads
 pub mod Version
 pub mod Pick
 pub mod Row
+pub mod Inside
 pub mod Image
 pub mod Found
 pub mod Usable

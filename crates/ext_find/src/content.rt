@@ -1,6 +1,6 @@
 // What an entry is to a search: a mask, a file with bytes, something other than a directory.
 ghost use Rattle.std.specs.Prelude.{◌≡◌, ℕ};
-ghost use Rattle.ext_find.specs.Content.{is_full, is_mask};
+ghost use Rattle.ext_find.specs.Content.{is_full, is_link, is_mask};
 
 use ext_host::Held;
 use ext_tree::{Entry, Stamp};
@@ -39,6 +39,16 @@ pub(crate) fn is_mask<C: Measured>(entry: &Entry<C>) -> bool
         Entry::Dir(_) | Entry::Opaque(_) | Entry::Hide => false,
         Entry::File(_, content) => content.size() == 0,
         Entry::Link(target) => target.bytes().cmp(b"/dev/null".as_slice()).is_eq(),
+    }
+}
+
+// Whether it is a link.
+pub(crate) fn is_link<C>(entry: &Entry<C>) -> bool
+    ensures { result ≡ is_link entry.now }
+{
+    match entry {
+        Entry::Dir(_) | Entry::Opaque(_) | Entry::File(_, _) | Entry::Hide => false,
+        Entry::Link(_) => true,
     }
 }
 

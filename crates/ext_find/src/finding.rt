@@ -104,11 +104,11 @@ fn keep_names<C: Measured>(
 {
     let mut rest = search.base.below(directory);
     'names: loop {
-        match next_name(rest, directory) {
+        match next_name(search.base, rest, directory) {
             None => return Ok(()),
-            Some((name, more)) => {
-                keep_item(kept, usable_at(search, directory, name)?)?;
-                rest = more;
+            Some(next) => {
+                keep_item(kept, usable_at(search, &next)?)?;
+                rest = next.more;
             }
         }
     }

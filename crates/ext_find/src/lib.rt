@@ -12,6 +12,7 @@ mod ending;
 mod finding;
 mod found;
 mod image;
+mod inside;
 pub mod laws;
 mod leading;
 mod pick;

@@ -5,9 +5,11 @@ ghost use Rattle.std.specs.Ordering.{is_gt};
 ghost use Rattle.ext_walk.specs.Walk.{Ends};
 ghost use Rattle.ext_find.specs.Leads.{LeadsToDirectory};
 ghost use Rattle.ext_find.specs.Pick.{CandidateAt, Picks, better_of, candidate_cmp};
+ghost use Rattle.ext_find.specs.Row.{Stands};
 
+use crate::content::is_link;
 use crate::leading::{directory_at, joined};
-use crate::row::next_name;
+use crate::row::{Next, next_name};
 use crate::version::version_after;
 use ext_text::{Arch, Name, OutOfMemory, Path};
 use ext_tree::Tree;
@@ -39,12 +41,12 @@ pub(crate) fn pick<'a, C>(
     let mut best = None;
     let mut rest = base.named(folder, start.as_slice());
     'names: loop {
-        match next_name(rest, folder) {
+        match next_name(base, rest, folder) {
             None => return Ok(name_of(best)),
-            Some((name, more)) => {
-                let found = candidate_at(alloc, base, arch, path, start.as_slice(), name)?;
+            Some(next) => {
+                let found = candidate_at(alloc, base, arch, path, start.as_slice(), &next)?;
                 best = better(best, found);
-                rest = more;
+                rest = next.more;
             }
         }
     }
@@ -86,21 +88,24 @@ fn exceeds(new: Candidate, old: Candidate) -> bool
         .is_gt()
 }
 
-// The candidate of this name; the bytes before its version are the stem and `_`.
+// The candidate of the name at which an entry of the folder stands; the bytes before its version are the stem and `_`. The
+// folder is the directory to which the path leads.
 fn candidate_at<'a, C>(
     alloc: Global,
     base: &Tree<C>,
     arch: Arch,
     path: &Path,
     start: &[u8],
-    name: &'a Name,
+    next: &Next<'a, C>,
 ) -> Result<Option<Candidate<'a>>, OutOfMemory>
-    ensures { (stem : List ℕ) → start.now ≡ stem ++ 95 ∷ [] → IfOk result (CandidateAt base.now arch path.now stem name.now) }
+    requires { Stands base.now next.now }
+    ensures { (folder : List (List ℕ)) (stem : List ℕ) → Ends base.now path.now folder → next.now.entry.now.0 ≡ folder ++ next.now.name.now ∷ [] → start.now ≡ stem ++ 95 ∷ [] → IfOk result (CandidateAt base.now arch path.now stem next.now.name.now) }
 {
+    let name = next.name;
     match version_after(name.bytes(), start, arch) {
         None => Ok(None),
         Some(version) => {
-            if leads_below(alloc, base, path.names(), name)? {
+            if leads_at(alloc, base, path.names(), next)? {
                 Ok(Some(Candidate { name, version }))
             } else {
                 Ok(None)
@@ -109,7 +114,26 @@ fn candidate_at<'a, C>(
     }
 }
 
-// Whether the name below the path leads to a directory.
+// Whether the name below the path leads to a directory. Only where a link stands there it has to be followed.
+fn leads_at<C>(
+    alloc: Global,
+    base: &Tree<C>,
+    path: &[Name],
+    next: &Next<C>,
+) -> Result<bool, OutOfMemory>
+    requires { Stands base.now next.now }
+    ensures { (folder : List (List ℕ)) → Ends base.now path.now folder → next.now.entry.now.0 ≡ folder ++ next.now.name.now ∷ [] → IfOk result (λ leads. IsTrue leads ↔ LeadsToDirectory base.now (path.now ++ next.now.name.now ∷ [])) }
+{
+    let _entries = base.pairs();
+    let (_path, entry) = next.entry;
+    if is_link(entry) {
+        leads_below(alloc, base, path, next.name)
+    } else {
+        Ok(entry.is_directory())
+    }
+}
+
+// The same; the name is looked for.
 fn leads_below<C>(
     alloc: Global,
     base: &Tree<C>,

@@ -1,20 +1,23 @@
 // Where an image or a mask is, and what it is.
-ghost use Rattle.std.specs.Prelude.{◌≡◌, Some, IfOk};
-ghost use Rattle.ext_tree.specs.Tree.{lookup};
+ghost use Rattle.std.specs.Prelude.{◌≡◌, ℕ, List, IsTrue, IfOk};
+ghost use Rattle.ext_tree.specs.Part.{part};
+ghost use Rattle.ext_tree.specs.Tree.{is_directory, is_directory_or_root};
 ghost use Rattle.ext_walk.specs.Walk.{Ends};
 ghost use Rattle.ext_find.specs.Ending.{stem_of};
 ghost use Rattle.ext_find.specs.Image.{kind_of};
-ghost use Rattle.ext_find.specs.Usable.{ImageAt, IsBelow, IsMaskAt, IsRawAt, KindAt, PickedAt, SeatAt};
+ghost use Rattle.ext_find.specs.Row.{Stands};
+ghost use Rattle.ext_find.specs.Usable.{ImageAt, IsBelow, IsKind, IsMaskAt, IsRawAt, KindAt, PickedAt, SeatAt};
 
 use crate::content::{Measured, is_mask};
 use crate::ending::{Ending, ending_of};
 use crate::found::{BreakWhy, FoundKind};
-use crate::image::why_broken;
+use crate::image::why_broken_inside;
+use crate::inside::Inside;
 use crate::leading::{directory_at, leads_to_full};
 use crate::pick::pick;
+use crate::row::Next;
 use crate::search::Search;
 use ext_text::{Name, OutOfMemory, Path, PathErr};
-use ext_tree::Entry;
 
 // A place in the base, and what is there.
 #[derive(Debug, Drop)]
@@ -23,23 +26,22 @@ pub struct Seat {
     pub(crate) kind: FoundKind,
 }
 
-// What the entry of this name at the path gives. The stem is that of the name.
+// What the entry that stands at a name gives. The stem is that of the name.
 pub(crate) fn seat_at<C: Measured>(
     search: &Search<C>,
-    path: &Path,
-    entry: &Entry<C>,
-    name: &[u8],
+    next: &Next<C>,
     stem: &Name,
 ) -> Result<Option<Seat>, OutOfMemory>
-    requires there { lookup search.now.base.now path.now ≡ Some entry.now }
-    requires stem { stem.now ≡ stem_of name.now }
-    ensures { IfOk result (SeatAt C.size search.now.base.now search.now.class search.now.arch search.now.hierarchies.now path.now name.now) }
+    requires stands { Stands search.now.base.now next.now }
+    requires stem { stem.now ≡ stem_of next.now.name.now }
+    ensures { IfOk result (SeatAt C.size search.now.base.now search.now.class search.now.arch search.now.hierarchies.now next.now.entry.now.0 next.now.name.now) }
 {
+    let (path, entry) = next.entry;
     if is_mask(entry) {
         return mask_at(path);
     }
-    match ending_of(name) {
-        Ending::Plain => image_at(search, path.copy()?, stem),
+    match ending_of(next.name.bytes()) {
+        Ending::Plain => plain_at(search, next, stem),
         Ending::DotRaw => raw_at(
             path,
             leads_to_full(search.alloc, search.base, path.names())?,
@@ -131,6 +133,42 @@ fn below(path: &Path, name: &Name) -> Result<Option<Path>, OutOfMemory>
     }
 }
 
+// The image at the entry that stands at a name, where it leads to a directory.
+fn plain_at<C: Measured>(
+    search: &Search<C>,
+    next: &Next<C>,
+    stem: &Name,
+) -> Result<Option<Seat>, OutOfMemory>
+    requires { Stands search.now.base.now next.now }
+    ensures { IfOk result (ImageAt C.size search.now.base.now search.now.class search.now.arch search.now.hierarchies.now next.now.entry.now.0 stem.now) }
+{
+    let (path, entry) = next.entry;
+    if entry.is_directory() {
+        directory_image_at(search, next, stem)
+    } else {
+        image_at(search, path.copy()?, stem)
+    }
+}
+
+// The image at a directory that stands at a name: nothing has to be looked for.
+fn directory_image_at<C: Measured>(
+    search: &Search<C>,
+    next: &Next<C>,
+    stem: &Name,
+) -> Result<Option<Seat>, OutOfMemory>
+    requires stands { Stands search.now.base.now next.now }
+    requires directory { IsTrue (is_directory next.now.entry.now.1) }
+    ensures { IfOk result (ImageAt C.size search.now.base.now search.now.class search.now.arch search.now.hierarchies.now next.now.entry.now.0 stem.now) }
+{
+    // `pairs` says of the base that it is a tree.
+    let _entries = search.base.pairs();
+    let (path, _entry) = next.entry;
+    let inside = Inside::new(next.inside, path.names().len());
+    let kind = kind_of_image(search, path.names(), &inside, stem)?;
+    let place = path.copy()?;
+    Ok(Some(Seat { place, kind }))
+}
+
 // The image at the place, where this leads to a directory.
 fn image_at<C: Measured>(
     search: &Search<C>,
@@ -156,17 +194,32 @@ fn kind_at<C: Measured>(
     match directory_at(search.alloc, search.base, place)? {
         None => Ok(None),
         Some(image) => {
-            let why = why_broken(
-                search.alloc,
-                search.base,
-                image,
-                search.class,
-                search.hierarchies,
-                stem,
-            )?;
-            Ok(Some(kind_of(why)))
+            let inside = Inside::of(search.base, image);
+            Ok(Some(kind_of_image(search, image, &inside, stem)?))
         }
     }
+}
+
+// What the image is; what it has is known.
+fn kind_of_image<C: Measured>(
+    search: &Search<C>,
+    image: &[Name],
+    inside: &Inside<C>,
+    stem: &Name,
+) -> Result<FoundKind, OutOfMemory>
+    requires { inside.now ≡ part image.now search.now.base.now }
+    ensures { (place : List (List ℕ)) → Ends search.now.base.now place image.now → IsTrue (is_directory_or_root search.now.base.now image.now) → IfOk result (IsKind C.size search.now.base.now search.now.class search.now.arch search.now.hierarchies.now place stem.now) }
+{
+    let why = why_broken_inside(
+        search.alloc,
+        search.base,
+        image,
+        inside,
+        search.class,
+        search.hierarchies,
+        stem,
+    )?;
+    Ok(kind_of(why))
 }
 
 // The kind of an image.

@@ -8,6 +8,7 @@ use std::test::Fail;
 mod images;
 mod links;
 mod picks;
+mod releases;
 mod stems;
 
 // What a search finds in a tree, on a host of the architecture `x86-64`: a line for each item, of its name, what it is, and
@@ -93,6 +94,12 @@ fn picks_among_versions(rt: HostRuntime) -> Result<(), Fail> {
 #[test]
 fn images_broken_and_whole(rt: HostRuntime) -> Result<(), Fail> {
     assert_eq!(rt; wrong_row(rt.alloc(), images::ROWS.as_slice())?, None);
+    Ok(())
+}
+
+#[test]
+fn release_files_of_images(rt: HostRuntime) -> Result<(), Fail> {
+    assert_eq!(rt; wrong_row(rt.alloc(), releases::ROWS.as_slice())?, None);
     Ok(())
 }
 

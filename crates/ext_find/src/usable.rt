@@ -1,36 +1,35 @@
 // Which item an entry of a search directory gives.
-ghost use Rattle.std.specs.Prelude.{◌≡◌, IfOk};
+ghost use Rattle.std.specs.Prelude.{◌≡◌, ◌++◌, ◌∷◌, ℕ, List, [], IfOk};
 ghost use Rattle.std.specs.Option.{option_map};
+ghost use Rattle.ext_find.specs.Row.{Stands};
 ghost use Rattle.ext_find.specs.Usable.{IsStem, UsableAt, item_with};
 
 use crate::content::Measured;
 use crate::ending::{is_hidden, stem_of};
 use crate::found::FoundItem;
+use crate::row::Next;
 use crate::search::Search;
 use crate::seat::{Seat, seat_at};
 use ext_text::{Name, NameErr, OutOfMemory};
 use std::alloc::Global;
 
-// What the entry of this name directly in the directory gives.
+// What the entry that stands at a name of a directory gives.
 pub(crate) fn usable_at<C: Measured>(
     search: &Search<C>,
-    directory: &[Name],
-    name: &Name,
+    next: &Next<C>,
 ) -> Result<Option<FoundItem>, OutOfMemory>
-    ensures { IfOk result (UsableAt C.size search.now.base.now search.now.class search.now.arch search.now.hierarchies.now directory.now name.now) }
+    requires { Stands search.now.base.now next.now }
+    ensures { (directory : List (List ℕ)) → next.now.entry.now.0 ≡ directory ++ next.now.name.now ∷ [] → IfOk result (UsableAt C.size search.now.base.now search.now.class search.now.arch search.now.hierarchies.now directory next.now.name.now) }
 {
-    if is_hidden(name.bytes()) {
+    if is_hidden(next.name.bytes()) {
         return Ok(None);
     }
-    match search.base.child(directory, name.bytes()) {
+    match stem_name(search.alloc, next.name)? {
         None => Ok(None),
-        Some((path, entry)) => match stem_name(search.alloc, name)? {
-            None => Ok(None),
-            Some(stem) => {
-                let seat = seat_at(search, path, entry, name.bytes(), &stem)?;
-                Ok(item_of(stem, seat))
-            }
-        },
+        Some(stem) => {
+            let seat = seat_at(search, next, &stem)?;
+            Ok(item_of(stem, seat))
+        }
     }
 }
 

@@ -15,5 +15,5 @@ returns-in-None g c =
 pub names-preserved : goal.names-preserved
 names-preserved g c = (
   c.in-Some.ensures.row,
-  keeps_next g.C.Measured.size c.args.search.now.base.now c.args.search.now.class c.args.search.now.arch c.args.search.now.hierarchies.now c.args.index c.args.directory.now c.requires.opens c.names.rest.now c.in-Some.more.now c.in-Some.name.now c.in-Some.ensures c.names.kept c.keep_item.new.kept c.names.invariant.1 c.in_ok-usable_at-in-Some.field-0 c.in_ok-usable_at-in-Some.ensures c.in_ok-keep_item-in-Some.ensures,
+  keeps_next g.C.Measured.size c.args.search.now.base.now c.args.search.now.class c.args.search.now.arch c.args.search.now.hierarchies.now c.args.index c.args.directory.now c.requires.opens c.names.rest.now c.in-Some.next.more.now c.in-Some.next.name.now c.in-Some.ensures.passes c.names.kept c.keep_item.new.kept c.names.invariant.1 c.in_ok-usable_at-in-Some.field-0 (c.in_ok-usable_at-in-Some.ensures c.args.directory.now c.in-Some.ensures.path) c.in_ok-keep_item-in-Some.ensures,
 )

@@ -18,7 +18,7 @@ returns-in-None g c =
 pub names-preserved : goal.names-preserved
 names-preserved g c = (
   c.in-Some.ensures.row,
-  subst (IsBest c.args.base.now c.args.arch c.args.path.now c.args.stem.now c.args.folder.now c.in-Some.more.now) (sym c.better-best.ensures)
-      (best_next c.args.base.now c.args.arch c.args.path.now c.args.stem.now c.args.folder.now c.names.rest.now c.in-Some.more.now c.in-Some.name.now c.in-Some.ensures c.names.best c.in_ok-found-in-Some.found c.names.invariant.1
-      (c.in_ok-found-in-Some.ensures c.args.stem.now (c.as_slice-in-Some.ensures.value ∙ c.in_ok-start.ensures))),
+  subst (IsBest c.args.base.now c.args.arch c.args.path.now c.args.stem.now c.args.folder.now c.in-Some.next.more.now) (sym c.better-best.ensures)
+      (best_next c.args.base.now c.args.arch c.args.path.now c.args.stem.now c.args.folder.now c.names.rest.now c.in-Some.next.more.now c.in-Some.next.name.now c.in-Some.ensures.passes c.names.best c.in_ok-found-in-Some.found c.names.invariant.1
+      (c.in_ok-found-in-Some.ensures c.args.folder.now c.args.stem.now c.requires c.in-Some.ensures.path (c.as_slice-in-Some.ensures.value ∙ c.in_ok-start.ensures))),
 )

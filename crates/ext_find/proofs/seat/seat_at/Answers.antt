@@ -1,43 +1,43 @@
 use Rattle.std.proofs.Common.{sym, ap, ◌∙◌, subst}
 use Rattle.std.specs.Prelude.{◌↔◌, IsTrue}
 use Rattle.ext_find.specs.Content.{is_full_at, is_mask_at}
-use Rattle.ext_find.specs.Ending.{stem_of}
+use Rattle.ext_find.specs.Ending.{ending_of, stem_of}
 use Rattle.ext_find.specs.Leads.{LeadsTo, LeadsToDirectory}
 use Rattle.ext_find.specs.Usable.{ImageAt, IsRawAt, PickedAt, SeatAt}
 use Rattle.ext_find.proofs.SeatLemmas.{directory_some, if_ok, seat_picked, seat_plain, seat_raw, seat_raw_v}
 use Rattle.ext_find.proofs.seat.seat_at.Goals as goal
 
-pub returns-in_ok-copy-in-Plain : goal.returns-in_ok-copy-in-Plain
-returns-in_ok-copy-in-Plain g c =
-    if_ok (ImageAt g.C.Measured.size c.args.search.now.base.now c.args.search.now.class c.args.search.now.arch c.args.search.now.hierarchies.now c.args.path.now (stem_of c.args.name.now))
-    (SeatAt g.C.Measured.size c.args.search.now.base.now c.args.search.now.class c.args.search.now.arch c.args.search.now.hierarchies.now c.args.path.now c.args.name.now) c.image_at.result
-    (seat_plain g.C.Measured.size c.args.search.now.base.now c.args.search.now.class c.args.search.now.arch c.args.search.now.hierarchies.now c.args.path.now c.args.name.now
-    (ap (is_mask_at g.C.Measured.size) c.requires.there ∙ sym c.is_mask.ensures ∙ c.if-is_mask.false) (sym c.in-Plain.ensures))
-    (rw (c.in_ok-copy-in-Plain.ensures, c.requires.stem) at c.image_at.ensures)
+pub returns-in-Plain : goal.returns-in-Plain
+returns-in-Plain g c =
+    if_ok (ImageAt g.C.Measured.size c.args.search.now.base.now c.args.search.now.class c.args.search.now.arch c.args.search.now.hierarchies.now c.args.next.now.entry.now.0 (stem_of c.args.next.now.name.now))
+    (SeatAt g.C.Measured.size c.args.search.now.base.now c.args.search.now.class c.args.search.now.arch c.args.search.now.hierarchies.now c.args.next.now.entry.now.0 c.args.next.now.name.now) c.plain_at.result
+    (seat_plain g.C.Measured.size c.args.search.now.base.now c.args.search.now.class c.args.search.now.arch c.args.search.now.hierarchies.now c.args.next.now.entry.now.0 c.args.next.now.name.now
+    (ap (is_mask_at g.C.Measured.size) c.requires.stands.there ∙ sym c.is_mask.ensures ∙ c.if-is_mask.false) (ap ending_of (sym c.bytes.ensures.same) ∙ sym c.in-Plain.ensures))
+    (rw c.requires.stem at c.plain_at.ensures)
 
 pub returns-in_ok-leads_to_full-in-DotRaw : goal.returns-in_ok-leads_to_full-in-DotRaw
 returns-in_ok-leads_to_full-in-DotRaw g c =
-    if_ok (IsRawAt c.args.path.now c.in_ok-leads_to_full-in-DotRaw.field-0)
-    (SeatAt g.C.Measured.size c.args.search.now.base.now c.args.search.now.class c.args.search.now.arch c.args.search.now.hierarchies.now c.args.path.now c.args.name.now) c.raw_at.result
-    (seat_raw g.C.Measured.size c.args.search.now.base.now c.args.search.now.class c.args.search.now.arch c.args.search.now.hierarchies.now c.args.path.now c.args.name.now
-    (ap (is_mask_at g.C.Measured.size) c.requires.there ∙ sym c.is_mask.ensures ∙ c.if-is_mask.false) (sym c.in-DotRaw.ensures) c.in_ok-leads_to_full-in-DotRaw.field-0
+    if_ok (IsRawAt c.args.next.now.entry.now.0 c.in_ok-leads_to_full-in-DotRaw.field-0)
+    (SeatAt g.C.Measured.size c.args.search.now.base.now c.args.search.now.class c.args.search.now.arch c.args.search.now.hierarchies.now c.args.next.now.entry.now.0 c.args.next.now.name.now) c.raw_at.result
+    (seat_raw g.C.Measured.size c.args.search.now.base.now c.args.search.now.class c.args.search.now.arch c.args.search.now.hierarchies.now c.args.next.now.entry.now.0 c.args.next.now.name.now
+    (ap (is_mask_at g.C.Measured.size) c.requires.stands.there ∙ sym c.is_mask.ensures ∙ c.if-is_mask.false) (ap ending_of (sym c.bytes.ensures.same) ∙ sym c.in-DotRaw.ensures) c.in_ok-leads_to_full-in-DotRaw.field-0
     (subst (λ p. IsTrue c.in_ok-leads_to_full-in-DotRaw.field-0 ↔ LeadsTo (is_full_at g.C.Measured.size) c.args.search.now.base.now p) c.names.ensures.same c.in_ok-leads_to_full-in-DotRaw.ensures))
     c.raw_at.ensures
 
 pub returns-in-DotV : goal.returns-in-DotV
 returns-in-DotV g c =
-    if_ok (PickedAt g.C.Measured.size c.args.search.now.base.now c.args.search.now.class c.args.search.now.arch c.args.search.now.hierarchies.now c.args.path.now (stem_of c.args.name.now))
-    (SeatAt g.C.Measured.size c.args.search.now.base.now c.args.search.now.class c.args.search.now.arch c.args.search.now.hierarchies.now c.args.path.now c.args.name.now) c.picked.result
-    (seat_picked g.C.Measured.size c.args.search.now.base.now c.args.search.now.class c.args.search.now.arch c.args.search.now.hierarchies.now c.args.path.now c.args.name.now
-    (ap (is_mask_at g.C.Measured.size) c.requires.there ∙ sym c.is_mask.ensures ∙ c.if-is_mask.false) (sym c.in-DotV.ensures))
+    if_ok (PickedAt g.C.Measured.size c.args.search.now.base.now c.args.search.now.class c.args.search.now.arch c.args.search.now.hierarchies.now c.args.next.now.entry.now.0 (stem_of c.args.next.now.name.now))
+    (SeatAt g.C.Measured.size c.args.search.now.base.now c.args.search.now.class c.args.search.now.arch c.args.search.now.hierarchies.now c.args.next.now.entry.now.0 c.args.next.now.name.now) c.picked.result
+    (seat_picked g.C.Measured.size c.args.search.now.base.now c.args.search.now.class c.args.search.now.arch c.args.search.now.hierarchies.now c.args.next.now.entry.now.0 c.args.next.now.name.now
+    (ap (is_mask_at g.C.Measured.size) c.requires.stands.there ∙ sym c.is_mask.ensures ∙ c.if-is_mask.false) (ap ending_of (sym c.bytes.ensures.same) ∙ sym c.in-DotV.ensures))
     (rw c.requires.stem at c.picked.ensures)
 
 pub returns-in_ok-folder-in-DotRawV : goal.returns-in_ok-folder-in-DotRawV
 returns-in_ok-folder-in-DotRawV g c =
-    if_ok (IsRawAt c.args.path.now c.is_some.result)
-    (SeatAt g.C.Measured.size c.args.search.now.base.now c.args.search.now.class c.args.search.now.arch c.args.search.now.hierarchies.now c.args.path.now c.args.name.now) c.raw_at-in-DotRawV.result
-    (seat_raw_v g.C.Measured.size c.args.search.now.base.now c.args.search.now.class c.args.search.now.arch c.args.search.now.hierarchies.now c.args.path.now c.args.name.now
-    (ap (is_mask_at g.C.Measured.size) c.requires.there ∙ sym c.is_mask.ensures ∙ c.if-is_mask.false) (sym c.in-DotRawV.ensures) c.is_some.result
-    (subst (λ b. IsTrue b ↔ LeadsToDirectory c.args.search.now.base.now c.args.path.now) (sym c.is_some.ensures)
-    (directory_some c.args.search.now.base.now c.args.path.now c.in_ok-folder-in-DotRawV.folder (rw c.names-in-DotRawV.ensures.same at c.in_ok-folder-in-DotRawV.ensures))))
+    if_ok (IsRawAt c.args.next.now.entry.now.0 c.is_some.result)
+    (SeatAt g.C.Measured.size c.args.search.now.base.now c.args.search.now.class c.args.search.now.arch c.args.search.now.hierarchies.now c.args.next.now.entry.now.0 c.args.next.now.name.now) c.raw_at-in-DotRawV.result
+    (seat_raw_v g.C.Measured.size c.args.search.now.base.now c.args.search.now.class c.args.search.now.arch c.args.search.now.hierarchies.now c.args.next.now.entry.now.0 c.args.next.now.name.now
+    (ap (is_mask_at g.C.Measured.size) c.requires.stands.there ∙ sym c.is_mask.ensures ∙ c.if-is_mask.false) (ap ending_of (sym c.bytes.ensures.same) ∙ sym c.in-DotRawV.ensures) c.is_some.result
+    (subst (λ b. IsTrue b ↔ LeadsToDirectory c.args.search.now.base.now c.args.next.now.entry.now.0) (sym c.is_some.ensures)
+    (directory_some c.args.search.now.base.now c.args.next.now.entry.now.0 c.in_ok-folder-in-DotRawV.folder (rw c.names-in-DotRawV.ensures.same at c.in_ok-folder-in-DotRawV.ensures))))
     c.raw_at-in-DotRawV.ensures
