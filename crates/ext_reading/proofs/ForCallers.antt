@@ -1,0 +1,14 @@
+-- The lemmas on this crate's definitions that other crates cite.
+
+-- ---- reading lines
+
+-- bytes say one thing, stop nowhere where their lines run through, and stop at one line at most
+pub use Rattle.ext_reading.proofs.LawLemmas.{no_stop, one_reading, one_stop}
+-- what lines say that run through is a host that an index lists, and they are its text
+pub use Rattle.ext_reading.proofs.ListingLemmas.{said_is_listed}
+-- the lines of a run hold no newline
+pub use Rattle.ext_reading.proofs.OneStepLemmas.{runs_lack}
+-- ---- entries
+
+-- what holds of each entry holds of what is found, and what holds of each mapped element
+pub use Rattle.ext_reading.proofs.PartsLemmas.{all_found, all_map, all_unmap}

@@ -1,0 +1,62 @@
+-- What reading the lines of an index gives.
+use Rattle.std.specs.Prelude.{◌≡◌, ◌≢◌, ℕ, ◌+◌, Bool, List, [], ◌++◌, length, Option, Some, None, Result, Ok, Err}
+use Rattle.std.specs.List.{AllByRecursion}
+use Rattle.ext_lines.specs.Lines.{lines_text}
+use Rattle.ext_lines.specs.Split.{IsSplit, Lacks}
+use Rattle.ext_host.specs.declared.host.Host.{Host}
+use Rattle.ext_reading.specs.State.{at, host_of, start}
+use Rattle.ext_reading.specs.Step.{Runs, Steps}
+use Rattle.ext_reading.specs.declared.err.IndexErr.{IndexErr}
+use Rattle.ext_reading.specs.declared.err.IndexErr.TheVariants.{OutOfMemory, Broken}
+use Rattle.ext_reading.specs.declared.said.Said.{Said}
+use Rattle.ext_reading.specs.declared.state.Reading.{Reading}
+use Rattle.ext_reading.specs.declared.state.SoFar.{SoFar}
+use Rattle.ext_reading.specs.declared.state.Stage.TheVariants as stages
+
+-- what is read after a line, or that the line may not stand there
+abbrev pub Takes : ℕ → Reading → List ℕ → Option Reading → Type 0
+Takes g r line None = (t : Reading) → ¬ Steps g r line t
+Takes g r line (Some t) = Steps g r line t
+
+-- the bytes are lines that may stand one after another from the start on, and a rest; the next line has this number
+pub record IsRead (g : ℕ) (bytes rest : List ℕ) (line : ℕ) (reading : Reading) : Type 0 where
+  pub lines : List (List ℕ)
+  pub text : bytes ≡ lines_text lines ++ rest
+  pub lacks : AllByRecursion (Lacks 10) lines
+  pub runs : Runs g start lines reading
+  pub counted : line ≡ length lines + 1
+
+-- The first line that may not stand where it stands, given the lines before it; lines are counted from 1. Where the text stops,
+-- or stops in the middle of a line, it is the line that should stand there; where it goes on after its last line, it is the
+-- next one.
+pub record StopsAt (g : ℕ) (bytes : List ℕ) (line : ℕ) : Type 0 where
+  pub rest : List ℕ
+  pub reading : Reading
+  pub read : IsRead g bytes rest line reading
+  pub stop : (next more : List ℕ) → IsSplit 10 rest next more → (t : Reading) → ¬ Steps g reading next t
+  pub unended : reading.stage ≡ stages.Done → rest ≢ []
+
+-- the lines run from the start to the end, and this is what they say
+pub record RunsThrough (g : ℕ) (bytes : List ℕ) (s : SoFar) : Type 0 where
+  pub lines : List (List ℕ)
+  pub text : bytes ≡ lines_text lines
+  pub runs : Runs g start lines (at s stages.Done)
+
+-- the host and the number of the text that the lines say
+pub record IsSaid (g : ℕ) (bytes : List ℕ) (said : Said) : Type 0 where
+  pub so_far : SoFar
+  pub through : RunsThrough g bytes so_far
+  pub host : said.host ≡ host_of so_far
+  pub two : said.two ≡ so_far.two
+
+-- what was read where no more lines follow: all, at the end, or that the next line is missing
+abbrev pub Finishes : Reading → List ℕ → ℕ → Result Said IndexErr → Type 0
+Finishes r rest line (Ok said) = (r.stage ≡ stages.Done) × (rest ≡ []) × (said.host ≡ host_of r.so_far) × (said.two ≡ r.so_far.two)
+Finishes r rest line (Err OutOfMemory) = ⊥
+Finishes r rest line (Err (Broken n)) = (n ≡ line) × (r.stage ≡ stages.Done → rest ≢ [])
+
+-- what reading gives
+abbrev pub ReadsLines : ℕ → List ℕ → Result Said IndexErr → Type 0
+ReadsLines g bytes (Ok said) = IsSaid g bytes said
+ReadsLines g bytes (Err OutOfMemory) = Unit {0}
+ReadsLines g bytes (Err (Broken line)) = StopsAt g bytes line

@@ -1,0 +1,14 @@
+//! What follows from the definitions of reading alone.
+ghost use Rattle.ext_reading.specs.Laws.{NoStop, OneReading, OneStop, SaidIsListed};
+
+/// Bytes whose lines run through say one thing and stop nowhere; others stop at one line at most.
+pub fn lines_are_read_in_one_way()
+    ensures says { OneReading }
+    ensures stops_nowhere { NoStop }
+    ensures stops_once { OneStop }
+{}
+
+/// What lines say that run through is a host that an index lists, and they are the lines of its text.
+pub fn what_is_said_is_listed()
+    ensures { SaidIsListed }
+{}

@@ -1,0 +1,107 @@
+// The lines of merged names, and the line behind them.
+ghost use Rattle.std.specs.Prelude.{◌≡◌, ◌≢◌, ◌<◌, ◌≤◌, [], ℕ, codes, IfOk};
+ghost use Rattle.ext_reading.specs.Reading.{Takes};
+ghost use Rattle.ext_reading.specs.State.{at_part};
+ghost use Rattle.ext_reading.specs.Step.{OneMoreName, TellsMerged};
+ghost use Rattle.ext_reading.specs.declared.state.PartStage.TheVariants as parts;
+
+use crate::following::follows_as_version;
+use crate::next::{then_attached, then_confext, then_sysext};
+use crate::state::{Reading, SoFar};
+use ext_lines::OutOfMemory;
+use ext_record::{MOST_COUNT, name_after, number_after};
+use ext_text::Names;
+use std::alloc::Global;
+
+/// After the first line of the parts: that of merged system extensions, or one of those that may follow them.
+pub(crate) fn sysext_line(alloc: Global, so_far: SoFar, line: &[u8]) -> Option<Reading>
+    ensures { (g : ℕ) → Takes g (at_part so_far parts.Sysext) line.now result }
+{
+    match merged_count(line, b"sysext") {
+        Some(count) => Some(then_sysext(so_far, count, Names::new(alloc))),
+        None => confext_line(alloc, so_far, line),
+    }
+}
+
+/// After the line of a merged system extension.
+pub(crate) fn sysext_name_line(
+    alloc: Global,
+    so_far: SoFar,
+    more: u64,
+    names: Names,
+    line: &[u8],
+) -> Result<Option<Reading>, OutOfMemory>
+    ensures { (g : ℕ) → IfOk result (Takes g (at_part so_far (parts.SysextName more names)) line.now) }
+{
+    match one_more_name(alloc, names, line)? {
+        None => Ok(None),
+        Some(names) => Ok(Some(then_sysext(so_far, more, names))),
+    }
+}
+
+/// After the line of merged configuration extensions, or that of attachments.
+pub(crate) fn confext_line(alloc: Global, so_far: SoFar, line: &[u8]) -> Option<Reading>
+    ensures { (g : ℕ) → Takes g (at_part so_far parts.Confext) line.now result }
+{
+    match merged_count(line, b"confext") {
+        Some(count) => Some(then_confext(so_far, count, Names::new(alloc))),
+        None => attached_line(so_far, line),
+    }
+}
+
+/// After the line of a merged configuration extension.
+pub(crate) fn confext_name_line(
+    alloc: Global,
+    so_far: SoFar,
+    more: u64,
+    names: Names,
+    line: &[u8],
+) -> Result<Option<Reading>, OutOfMemory>
+    ensures { (g : ℕ) → IfOk result (Takes g (at_part so_far (parts.ConfextName more names)) line.now) }
+{
+    match one_more_name(alloc, names, line)? {
+        None => Ok(None),
+        Some(names) => Ok(Some(then_confext(so_far, more, names))),
+    }
+}
+
+/// After the line that tells how many attachments there are.
+pub(crate) fn attached_line(so_far: SoFar, line: &[u8]) -> Option<Reading>
+    ensures { (g : ℕ) → Takes g (at_part so_far parts.Attached) line.now result }
+{
+    match number_after(line, b"attached", MOST_COUNT) {
+        None => None,
+        Some(count) => Some(then_attached(so_far, count)),
+    }
+}
+
+// How many names of a class a line says are merged: one at least.
+fn merged_count(line: &[u8], word: &[u8]) -> Option<u64>
+    ensures { TellsMerged word.now line.now result }
+{
+    match number_after(line, word, MOST_COUNT) {
+        None => None,
+        Some(count) => {
+            if count == 0 {
+                return None;
+            }
+            Some(count)
+        }
+    }
+}
+
+// The names with that of a line, which follows them in the order of versions.
+fn one_more_name(alloc: Global, mut names: Names, line: &[u8]) -> Result<Option<Names>, OutOfMemory>
+    ensures { IfOk result (OneMoreName names line.now) }
+{
+    match name_after(alloc, line, b"n")? {
+        None => Ok(None),
+        Some(name) => {
+            if !follows_as_version(names.as_slice(), &name) {
+                return Ok(None);
+            }
+            names.push(name)?;
+            Ok(Some(names))
+        }
+    }
+}

@@ -1,0 +1,78 @@
+// Reads an index line by line.
+ghost use Rattle.std.specs.Prelude.{◌≡◌};
+ghost use Rattle.ext_reading.specs.Reading.{Finishes, ReadsLines};
+ghost use Rattle.ext_reading.specs.State.{host_of};
+
+use crate::err::IndexErr;
+use crate::said::Said;
+use crate::state::{Reading, SoFar, Stage, start};
+use crate::step::step;
+use ext_host::Host;
+use ext_lines::split_line;
+use std::alloc::Global;
+
+/// What the lines of an index of a generation say.
+///
+/// # Errors
+/// `Broken` exactly where a line may not stand where it stands, given those before it: the first such line. Where the bytes
+/// stop, or stop in the middle of a line, it is the line that should stand there; where they go on after the last line, it is
+/// the next one. `OutOfMemory` may come at any time.
+pub fn read_lines(alloc: Global, bytes: &[u8], generation: u32) -> Result<Said, IndexErr>
+    ensures { ReadsLines generation bytes.now result }
+{
+    let mut reading = start(alloc);
+    let mut rest = bytes;
+    let mut line = 1;
+    'lines: loop {
+        match split_line(rest) {
+            None => return finished(reading, rest, line),
+            Some((text, after)) => match step(alloc, generation, reading, text)? {
+                None => return Err(IndexErr::Broken { line }),
+                Some(next) => {
+                    reading = next;
+                    rest = after;
+                    line += 1;
+                }
+            },
+        }
+    }
+}
+
+// What was read where no more lines follow, and the next one has this number.
+fn finished(reading: Reading, rest: &[u8], line: u64) -> Result<Said, IndexErr>
+    ensures { Finishes reading rest.now line result }
+{
+    match reading.stage {
+        Stage::Done => {
+            if !rest.is_empty() {
+                return Err(IndexErr::Broken { line });
+            }
+            Ok(said_of(reading.so_far))
+        }
+        _ => Err(IndexErr::Broken { line }),
+    }
+}
+
+// What was read, as a host.
+fn said_of(so_far: SoFar) -> Said
+    ensures host { result.host ≡ host_of so_far }
+    ensures two { result.two ≡ so_far.two }
+{
+    let host = Host {
+        arch: so_far.arch,
+        scope: so_far.scope,
+        root: so_far.host.root.into_tree(),
+        lower: so_far.host.lower.into_tree(),
+        sysext: so_far.host.sysext,
+        confext: so_far.host.confext,
+        attached: so_far.host.attached,
+        kept: so_far.host.kept,
+        sysext_hier: so_far.sysext_hier,
+        confext_hier: so_far.confext_hier,
+        past: so_far.past,
+    };
+    Said {
+        host,
+        two: so_far.two,
+    }
+}

@@ -1,0 +1,118 @@
+// The lines of what is seen, and of what lies under it.
+ghost use Rattle.std.specs.Prelude.{◌≡◌, ◌↔◌, ◌∷◌, ◌++◌, [], ℕ, IfOk, IsTrue};
+ghost use Rattle.ext_text.specs.Path.{is_prefix};
+ghost use Rattle.ext_tree.specs.Tree.{IsTree};
+ghost use Rattle.ext_tree.specs.declared.entry.Entry.{Entry};
+ghost use Rattle.ext_host.specs.Held.{HeldFile};
+ghost use Rattle.ext_host.specs.Host.{is_in, where_merged};
+ghost use Rattle.ext_reading.specs.Reading.{Takes};
+ghost use Rattle.ext_reading.specs.State.{at_part, merged_so_far};
+ghost use Rattle.ext_reading.specs.declared.state.PartStage.TheVariants as parts;
+
+use crate::entry_lines::entered;
+use crate::next::{then_lower, then_root};
+use crate::state::{Reading, SoFar};
+use ext_lines::OutOfMemory;
+use ext_record::{MOST_COUNT, number_after};
+use ext_text::{Name, Names, Path};
+use std::alloc::Global;
+
+/// After the line of an entry that is seen.
+pub(crate) fn root_entry_line(
+    alloc: Global,
+    generation: u32,
+    mut so_far: SoFar,
+    more: u64,
+    line: &[u8],
+) -> Result<Option<Reading>, OutOfMemory>
+    ensures { IfOk result (Takes generation (at_part so_far (parts.RootEntry more)) line.now) }
+{
+    match entered(alloc, generation, &mut so_far, line)? {
+        None => Ok(None),
+        Some((path, entry)) => {
+            if !so_far.parts.root.may_follow(&path) {
+                return Ok(None);
+            }
+            so_far.parts.root.push(path, entry)?;
+            Ok(Some(then_root(so_far, more)))
+        }
+    }
+}
+
+/// After the line that tells how many entries lie under them.
+pub(crate) fn lower_line(
+    alloc: Global,
+    so_far: SoFar,
+    line: &[u8],
+) -> Result<Option<Reading>, OutOfMemory>
+    ensures { (g : ℕ) → IfOk result (Takes g (at_part so_far parts.Lower) line.now) }
+{
+    match number_after(line, b"lower", MOST_COUNT) {
+        None => Ok(None),
+        Some(count) => Ok(Some(then_lower(alloc, so_far, count)?)),
+    }
+}
+
+/// After the line of an entry that lies under them, in a hierarchy of a merged class.
+pub(crate) fn lower_entry_line(
+    alloc: Global,
+    generation: u32,
+    mut so_far: SoFar,
+    more: u64,
+    line: &[u8],
+) -> Result<Option<Reading>, OutOfMemory>
+    ensures { IfOk result (Takes generation (at_part so_far (parts.LowerEntry more)) line.now) }
+{
+    match entered(alloc, generation, &mut so_far, line)? {
+        None => Ok(None),
+        Some((path, entry)) => {
+            if !may_lie_under(&so_far, &path) {
+                return Ok(None);
+            }
+            so_far.parts.lower.push(path, entry)?;
+            Ok(Some(then_lower(alloc, so_far, more)?))
+        }
+    }
+}
+
+// Whether an entry at this path may follow what lies under the view.
+fn may_lie_under(so_far: &SoFar, path: &Path) -> bool
+    ensures { (e : Entry HeldFile) → (IsTrue result ↔ (IsTree (so_far.now.parts.lower ++ (path.now, e) ∷ []) × IsTrue (is_in (merged_so_far so_far.now) path.now))) }
+{
+    so_far.parts.lower.may_follow(path) && is_in_merged(so_far, path)
+}
+
+// Whether a path is in a hierarchy of a merged class.
+fn is_in_merged(so_far: &SoFar, path: &Path) -> bool
+    ensures { result ≡ is_in (merged_so_far so_far.now) path.now }
+{
+    is_in_class(&so_far.parts.sysext, &so_far.sysext_hier, path)
+        || is_in_class(&so_far.parts.confext, &so_far.confext_hier, path)
+}
+
+/// Whether a path is in one of these hierarchies, and names are merged there. It takes no memory.
+pub fn is_in_class(merged: &Option<Names>, hierarchies: &Names, path: &Path) -> bool
+    ensures { result ≡ is_in (where_merged merged.now hierarchies.now) path.now }
+{
+    match merged {
+        None => false,
+        Some(_) => is_in(hierarchies.as_slice(), path),
+    }
+}
+
+// Whether a path is at or below one of the names.
+fn is_in(names: &[Name], path: &Path) -> bool
+    ensures { result ≡ is_in names.now path.now }
+{
+    names.iter().any(|name| is_at_or_below(name, path))
+}
+
+// Whether a path is at or below the name.
+fn is_at_or_below(name: &Name, path: &Path) -> bool
+    ensures { result ≡ is_prefix (name.now ∷ []) path.now }
+{
+    match path.names() {
+        [] => false,
+        [first, ..] => name.bytes().cmp(first.bytes()).is_eq(),
+    }
+}
