@@ -1,1 +1,5 @@
 pub mod PrintingLemmas
+pub mod CountingLemmas
+pub mod ItemsLemmas
+pub mod WrongLemmas
+pub mod ReadingLemmas

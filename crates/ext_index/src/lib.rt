@@ -5,11 +5,17 @@
 //! past trees, is defined beside it. The lines come from the crate below; this one has their order and their counts.
 #![tactic(auto)]
 
+mod counting;
+mod items;
 pub mod laws;
 mod printing;
+mod reading;
 mod sections;
 #[cfg(test)]
 mod tests;
 mod writing;
+mod wrong;
 
+pub use ext_reading::IndexErr;
+pub use reading::read_index;
 pub use writing::{index_size, write_index};

@@ -1,0 +1,100 @@
+-- The first line of bytes that breaks a rule of an index; lines are counted from 1. An index that is too long is faulty at its
+-- first line. Each other rule but one is asked line by line, given the lines before: the first line that may not stand where
+-- it stands is the faulty one, and a missing line is counted where it should stand. Where all lines may stand, the items of the
+-- kept manifests are compared with the base, the host's own first and then those of the past trees; a manifest that says other
+-- than the base has is faulty at its first line.
+use Rattle.std.specs.Prelude.{◌≡◌, ℕ, ◌+◌, ◌<◌, ◌≤◌, Bool, false, if◌then◌else◌, ◌⊎◌, List, [], ◌∷◌, ◌++◌, length, codes, Option, Some, None}
+use Rattle.std.specs.List.{AllByRecursion, flat_map}
+use Rattle.ext_tree.specs.declared.entry.Entry.{Entry}
+use Rattle.ext_host.specs.Held.{HeldFile}
+use Rattle.ext_host.specs.Host.{Hierarchies, HostTree, base_at, hierarchies_in, past_tree, present}
+use Rattle.ext_host.specs.Valid.{HasItems}
+use Rattle.ext_host.specs.declared.manifest.Manifest.{Manifest}
+use Rattle.ext_host.specs.declared.past.Past.{Past}
+use Rattle.ext_host.specs.declared.host.Host.{Host}
+use Rattle.ext_record.specs.Lines.{header_line, host_line, number_line}
+use Rattle.ext_record.specs.Out.{at_most_64_bits}
+use Rattle.ext_reading.specs.Reading.{IsSaid, StopsAt}
+use Rattle.ext_reading.specs.declared.said.Said.{Said}
+use Rattle.ext_index.specs.Index.{attachment_lines, machine_lines, manifest_lines, merged_lines, past_lines, section_lines}
+use Rattle.ext_index.specs.ValidIndex.{most_index_bytes}
+
+-- ---- manifests that say other than the base has
+
+-- each manifest of the tree says what its base has
+abbrev pub AreRight : Hierarchies → HostTree → Type 0
+AreRight hierarchies tree = AllByRecursion (HasItems (base_at hierarchies tree)) tree.kept
+
+-- the first that doesn't, behind those before it
+pub record IsFirstWrong (hierarchies : Hierarchies) (tree : HostTree) (before : List Manifest) : Type 0 where
+  pub wrong : Manifest
+  pub after : List Manifest
+  pub parted : tree.kept ≡ before ++ wrong ∷ after
+  pub right : AllByRecursion (HasItems (base_at hierarchies tree)) before
+  pub differs : ¬ HasItems (base_at hierarchies tree) wrong
+
+-- ---- the lines before a manifest
+
+-- those of its tree
+abbrev pub lines_to_kept : HostTree → List Manifest → List (List ℕ)
+lines_to_kept tree before =
+    merged_lines (codes "sysext") tree.sysext
+    ++ (merged_lines (codes "confext") tree.confext
+    ++ (number_line (codes "attached") (length tree.attached)
+    ∷ (flat_map attachment_lines tree.attached ++ (number_line (codes "kept") (length tree.kept) ∷ flat_map manifest_lines before))))
+
+-- those before the host's own sections
+abbrev pub head_lines : Bool → Host → List (List ℕ)
+head_lines two host = if two then machine_lines host else (header_line false ∷ host_line host.arch host.scope ∷ [])
+
+-- those before the sections of a past tree, behind the past trees before it
+abbrev pub lines_to_past : Bool → ℕ → Host → List Past → Past → List (List ℕ)
+lines_to_past two g host before past =
+    head_lines two host
+    ++ (section_lines g (present host) ++ (number_line (codes "past") (length host.past) ∷ (flat_map (past_lines g) before ++ number_line (codes "g") past.generation ∷ [])))
+
+-- ---- the first line of such a manifest
+
+-- one of the host's own
+pub record IsWrongNow (two : Bool) (host : Host) (line : ℕ) : Type 0 where
+  pub before : List Manifest
+  pub wrong : IsFirstWrong (hierarchies_in host) (present host) before
+  pub counted : line ≡ length (head_lines two host ++ lines_to_kept (present host) before) + 1
+
+-- one of a past tree
+pub record IsWrongPast (two : Bool) (g : ℕ) (host : Host) (line : ℕ) : Type 0 where
+  pub now : AreRight (hierarchies_in host) (present host)
+  pub trees : List Past
+  pub tree : Past
+  pub more : List Past
+  pub parted : host.past ≡ trees ++ tree ∷ more
+  pub right : AllByRecursion (λ past. AreRight (hierarchies_in host) (past_tree past)) trees
+  pub before : List Manifest
+  pub wrong : IsFirstWrong (hierarchies_in host) (past_tree tree) before
+  pub counted : line ≡ length (lines_to_past two g host trees tree ++ lines_to_kept (past_tree tree) before) + 1
+
+abbrev pub IsWrongAt : Bool → ℕ → Host → ℕ → Type 0
+IsWrongAt two g host line = IsWrongNow two host line ⊎ IsWrongPast two g host line
+
+-- each manifest of the host and of its past trees says what its base has
+pub record IsRight (host : Host) : Type 0 where
+  pub now : AreRight (hierarchies_in host) (present host)
+  pub past : AllByRecursion (λ past. AreRight (hierarchies_in host) (past_tree past)) host.past
+
+-- what a search for such a manifest finds: its line, as a count of 64 bits tells it, or that there is none
+abbrev pub FindsWrong : Bool → ℕ → Host → Option ℕ → Type 0
+FindsWrong two g host None = IsRight host
+FindsWrong two g host (Some found) = (line : ℕ) × IsWrongAt two g host line × (found ≡ at_most_64_bits line)
+
+-- ---- the first faulty line
+
+-- the lines run through, and a manifest says other than the base has; its line is as a count of 64 bits tells it
+pub record HasWrongManifest (g : ℕ) (bytes : List ℕ) (line : ℕ) : Type 0 where
+  pub said : Said
+  pub is_said : IsSaid g bytes said
+  pub found : FindsWrong said.two g said.host (Some line)
+
+abbrev pub IsFaulty : ℕ → List ℕ → ℕ → Type 0
+IsFaulty g bytes line =
+    ((most_index_bytes < length bytes) × (line ≡ 1))
+    ⊎ ((length bytes ≤ most_index_bytes) × (StopsAt g bytes line ⊎ HasWrongManifest g bytes line))
