@@ -1,0 +1,12 @@
+pub mod BroughtLemmas
+pub mod KeptFilesLemmas
+pub mod ComparingLemmas
+pub mod LeastLemmas
+pub mod HomePathsLemmas
+pub mod WritingLemmas
+pub mod PlacedLemmas
+pub mod StoredLemmas
+pub mod PlacingLemmas
+pub mod GivingLemmas
+pub mod LawsLemmas
+pub mod ForCallers

@@ -1,0 +1,10 @@
+pub mod Brought
+pub mod Placed
+pub mod Refused
+pub mod Written
+pub mod Giving
+pub mod KeptFiles
+pub mod Comparing
+pub mod Writing
+pub mod Placing
+pub mod Laws

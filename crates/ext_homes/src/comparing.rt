@@ -1,0 +1,165 @@
+// A brought file, compared with the stored files of its stamp.
+ghost use Rattle.std.specs.Prelude.{◌≡◌, ◌⊎◌, ◌<◌, ◌↔◌, ◌^◌, true, min, length, IsTrue, IfOk, IfErr};
+ghost use Rattle.ext_depot.specs.Depot.{IsKept};
+ghost use Rattle.ext_disk.specs.Since.{Rests};
+ghost use Rattle.ext_host.specs.Held.{IsStampOf};
+ghost use Rattle.ext_host.specs.Shelf.{stored};
+ghost use Rattle.ext_store.specs.Comparing.{IsCompared, IsSame};
+ghost use Rattle.ext_store.specs.HeldFiles.{IsListed, body_told, is_served};
+ghost use Rattle.ext_store.specs.Names.{IsFileNumber};
+ghost use Rattle.ext_homes.specs.Brought.{is_brought};
+ghost use Rattle.ext_homes.specs.Comparing.{IsLeast, KeptCause, SameCause, homes_err_of_compare, stored_in};
+ghost use Rattle.ext_homes.specs.declared.errors.HomesErr.TheVariants as errors;
+ghost use Rattle.ext_homes.specs.Giving.{AreNumbered, home_told};
+ghost use Rattle.ext_homes.specs.KeptFiles.{lists_in};
+ghost use Rattle.ext_homes.specs.Placed.{brought_told};
+ghost use Rattle.ext_homes.specs.Refused.{HomeCause};
+
+use crate::errors::{HomesErr, mismatch, not_in_depot};
+use crate::kept_files::KeptFiles;
+use ext_depot::Depot;
+use ext_disk::Disk;
+use ext_host::{Body, Held, Home};
+use ext_store::{CompareErr, PIECE, is_same_as_kept, piece, verify};
+use ext_text::{OutOfMemory, Path};
+use std::alloc::Global;
+
+/// The least home at which the store has a file of the brought file's stamp and bytes; `None` where it has none.
+///
+/// # Errors
+/// `Damaged` where a home that was looked at has another file than listed; then `NotInDepot` and `Mismatch` where the depot
+/// has none, or another than listed; a fault of the disk or of the depot; out of memory. Nothing changes.
+pub(crate) fn least_home<D: Disk, P: Depot>(
+    alloc: Global,
+    disk: &mut D,
+    depot: &mut P,
+    kept: &KeptFiles,
+    held: &Held,
+) -> Result<Option<Home>, HomesErr>
+    requires numbers { AreNumbered (lists_in kept.now) }
+    requires brought { is_brought held.now.body ≡ true }
+    requires size { held.now.stamp.size < 2 ^ 63 }
+    ensures least { IfOk result (IsLeast (stored_in kept.now (D.state disk.old)) held.now.stamp (brought_told (P.state depot.old) held.now.body)) }
+    ensures rests { Rests (D.state disk.old) (D.state disk.new) }
+    ensures kept { IsKept (P.state depot.old) (P.state depot.new) }
+    ensures cause { IfErr result (HomeCause (D.state disk.old) (D.state disk.new) (P.state depot.old) (P.state depot.new) (stored_in kept.now (D.state disk.old)) held.now) }
+{
+    for file in kept.of_stamp(held.stamp()) {
+        let home = file.home();
+        if is_same(alloc, disk, depot, &home, held)? {
+            return Ok(Some(home));
+        }
+    }
+    Ok(None)
+}
+
+// Whether the file that is kept at a home has the bytes of a brought file, where it is listed with the same stamp.
+fn is_same<D: Disk, P: Depot>(
+    alloc: Global,
+    disk: &mut D,
+    depot: &mut P,
+    home: &Home,
+    held: &Held,
+) -> Result<bool, HomesErr>
+    requires number { IsFileNumber home.now.file }
+    requires brought { is_brought held.now.body ≡ true }
+    requires size { held.now.stamp.size < 2 ^ 63 }
+    ensures compared { IfOk result (IsCompared (home_told (D.state disk.old) home.now) (brought_told (P.state depot.old) held.now.body) held.now.stamp) }
+    ensures rests { Rests (D.state disk.old) (D.state disk.new) }
+    ensures kept { IsKept (P.state depot.old) (P.state depot.new) }
+    ensures cause { IfErr result (SameCause (D.state disk.old) (D.state disk.new) (P.state depot.old) (P.state depot.new) (home_told (D.state disk.old) home.now) home.now held.now) }
+{
+    match held.body() {
+        Body::Here(text) => {
+            let listed = Held::kept(*held.stamp(), *home);
+            is_same_as_text(alloc, disk, &listed, text.bytes())
+        }
+        Body::Depot(from) => {
+            match is_same_as_kept(alloc, disk, home, depot, from, held.stamp()) {
+                Ok(same) => Ok(same),
+                Err(refused) => Err(compare_err(refused, from)),
+            }
+        }
+        Body::Kept(_) => unreachable!(),
+    }
+}
+
+// Whether a kept file has these bytes, which have its stamp. It is read to its end twice, once to compare it with its stamp.
+fn is_same_as_text<D: Disk>(
+    alloc: Global,
+    disk: &mut D,
+    kept: &Held,
+    text: &[u8],
+) -> Result<bool, HomesErr>
+    requires served { IsTrue (is_served kept.now.body) }
+    requires stamp { IsStampOf text.now kept.now.stamp }
+    ensures compared { IfOk result (IsCompared (body_told (D.state disk.old) kept.now.body) (stored text.now) kept.now.stamp) }
+    ensures rests { Rests (D.state disk.old) (D.state disk.new) }
+    ensures cause { IfErr result (KeptCause (D.state disk.old) (D.state disk.new) (body_told (D.state disk.old) kept.now.body) kept.now) }
+{
+    verify(alloc, disk, kept)?;
+    let mut buffer = zeros(alloc, PIECE.min(text.len()))?;
+    has_bytes(alloc, disk, kept, text, &mut buffer)
+}
+
+// Whether a kept file has these bytes, where both have its stamp.
+fn has_bytes<D: Disk>(
+    alloc: Global,
+    disk: &mut D,
+    kept: &Held,
+    text: &[u8],
+    buffer: &mut [u8],
+) -> Result<bool, HomesErr>
+    requires served { IsTrue (is_served kept.now.body) }
+    requires stamp { IsStampOf text.now kept.now.stamp }
+    requires listed { IsListed (body_told (D.state disk.old) kept.now.body) kept.now.stamp }
+    requires room { length buffer.old ≡ min 65536 (length text.now) }
+    ensures same { IfOk result (IsSame (body_told (D.state disk.old) kept.now.body) (stored text.now)) }
+    ensures rests { Rests (D.state disk.old) (D.state disk.new) }
+    ensures cause { IfErr result (KeptCause (D.state disk.old) (D.state disk.new) (body_told (D.state disk.old) kept.now.body) kept.now) }
+{
+    let mut at = 0;
+    'pieces: while at < text.len() {
+        let count = piece(alloc, disk, kept, at as u64, buffer)?;
+        if !are_equal(&buffer[..count], &text[at..at + count]) {
+            return Ok(false);
+        }
+        at += count;
+    }
+    Ok(true)
+}
+
+fn are_equal(ours: &[u8], theirs: &[u8]) -> bool
+    ensures { IsTrue result ↔ (ours.now ≡ theirs.now) }
+{
+    ours == theirs
+}
+
+// A buffer of so many bytes.
+fn zeros(alloc: Global, count: usize) -> Result<Vec<u8>, OutOfMemory>
+    ensures { IfOk result (λ buffer. length buffer.items ≡ count) }
+{
+    Ok(vec![in alloc; 0u8; count]?)
+}
+
+// The error of a comparison, with the path of the depot's file.
+fn compare_err(refused: CompareErr, from: &Path) -> HomesErr
+    ensures { (result ≡ homes_err_of_compare refused from.now) ⊎ (result ≡ errors.OutOfMemory) }
+{
+    match refused {
+        CompareErr::OutOfMemory => HomesErr::OutOfMemory,
+        CompareErr::DiskFault => HomesErr::DiskFault,
+        CompareErr::DepotFault => HomesErr::DepotFault,
+        CompareErr::Damaged {
+            home,
+            listed,
+            found,
+        } => HomesErr::Damaged {
+            home,
+            listed,
+            found,
+        },
+        CompareErr::NotInDepot => not_in_depot(from),
+        CompareErr::Mismatch { listed, found } => mismatch(from, listed, found),
+    }
+}
