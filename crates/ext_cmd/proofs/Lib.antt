@@ -1,0 +1,10 @@
+pub mod FaultLemmas
+pub mod WordLemmas
+pub mod JoinLemmas
+pub mod CommandLemmas
+pub mod HierarchyLemmas
+pub mod FreshLemmas
+pub mod ChosenLemmas
+pub mod OneFaultLemmas
+pub mod OneCommandLemmas
+pub mod ForCallers

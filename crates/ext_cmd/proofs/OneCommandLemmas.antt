@@ -1,0 +1,204 @@
+-- Words are those of one command.
+use Rattle.std.proofs.Common.{◌≡◌, ℕ, true, false, List, [], ◌∷◌, refl, sym, ap, ◌∙◌, subst, if◌then◌else◌, inl, inr}
+use Rattle.std.specs.Prelude.{◌⊎◌, Option, Some, None, Result, Ok, Err}
+use Rattle.std.specs.Str.{bytes_eq}
+use Rattle.ext_text.specs.Arch.{arch_name}
+use Rattle.ext_text.specs.declared.arch.Arch.{Arch}
+use Rattle.ext_text.specs.declared.arch.Arch.TheVariants as archs
+use Rattle.ext_text.specs.Path.{IsPath, path_text}
+use Rattle.ext_text.specs.Scope.{scope_name}
+use Rattle.ext_text.specs.declared.scope.Scope.{Scope}
+use Rattle.ext_text.specs.declared.scope.Scope.TheVariants as scopes
+use Rattle.ext_text.proofs.ForCallers.{path_injective}
+use Rattle.ext_cmd.specs.Keyword.{keyword_text}
+use Rattle.ext_cmd.specs.Reading.{ReadsWords}
+use Rattle.ext_cmd.specs.Resource.{IsResource}
+use Rattle.ext_cmd.specs.Words.{AreChosen, IsBelowRoot, IsCommand, IsOptionalPath, IsWellFormed, absolute, chosen_words, command_words, optional_words, path_words, view_words}
+use Rattle.ext_cmd.specs.declared.command.Chosen.{Chosen}
+use Rattle.ext_cmd.specs.declared.command.Chosen.TheVariants as chosen
+use Rattle.ext_cmd.specs.declared.command.Command.{Command}
+use Rattle.ext_cmd.specs.declared.command.Command.TheVariants.{Init, ImportFs, Remove, Sysext, Confext, Tree, Cat, Compare, Check, Layer, Migrate}
+use Rattle.ext_cmd.specs.declared.command.ViewCommand.{ViewCommand}
+use Rattle.ext_cmd.specs.declared.command.ViewCommand.TheVariants as views
+use Rattle.ext_cmd.specs.declared.keyword.Keyword.{Keyword}
+use Rattle.ext_cmd.specs.declared.keyword.Keyword.TheVariants as keywords
+use Rattle.ext_cmd.specs.declared.keyword.Verb.{Verb}
+use Rattle.ext_cmd.specs.declared.keyword.Verb.TheVariants as verbs
+use Rattle.ext_cmd.specs.declared.words.CmdErr.{CmdErr}
+use Rattle.ext_cmd.specs.declared.words.CmdErr.TheVariants.{OutOfMemory, Usage}
+use Rattle.ext_cmd.proofs.CommandLemmas.{one_keyword, verb_of}
+use Rattle.ext_cmd.proofs.HierarchyLemmas.{one_list}
+use Rattle.ext_cmd.proofs.OneFaultLemmas.{no_fault}
+
+-- ---- arguments with one word are equal
+
+abbrev arch_of : List ℕ → Option Arch
+arch_of text =
+    if bytes_eq text (arch_name archs.X86) then Some archs.X86
+    else if bytes_eq text (arch_name archs.X86_64) then Some archs.X86_64
+    else if bytes_eq text (arch_name archs.Arm) then Some archs.Arm
+    else if bytes_eq text (arch_name archs.Arm64) then Some archs.Arm64
+    else if bytes_eq text (arch_name archs.Riscv64) then Some archs.Riscv64
+    else if bytes_eq text (arch_name archs.S390x) then Some archs.S390x
+    else if bytes_eq text (arch_name archs.Ppc64Le) then Some archs.Ppc64Le
+    else if bytes_eq text (arch_name archs.Loongarch64) then Some archs.Loongarch64
+    else None
+
+arch_back : (a : Arch) → arch_of (arch_name a) ≡ Some a
+arch_back archs.X86 = refl
+arch_back archs.X86_64 = refl
+arch_back archs.Arm = refl
+arch_back archs.Arm64 = refl
+arch_back archs.Riscv64 = refl
+arch_back archs.S390x = refl
+arch_back archs.Ppc64Le = refl
+arch_back archs.Loongarch64 = refl
+
+one_arch : (a b : Arch) → arch_name a ≡ arch_name b → a ≡ b
+one_arch a b same =
+    let read : Some a ≡ Some b = sym (arch_back a) ∙ ap arch_of same ∙ arch_back b in
+    cc
+
+abbrev scope_of : List ℕ → Option Scope
+scope_of text =
+    if bytes_eq text (scope_name scopes.System) then Some scopes.System
+    else if bytes_eq text (scope_name scopes.Initrd) then Some scopes.Initrd
+    else if bytes_eq text (scope_name scopes.Portable) then Some scopes.Portable
+    else None
+
+scope_back : (s : Scope) → scope_of (scope_name s) ≡ Some s
+scope_back scopes.System = refl
+scope_back scopes.Initrd = refl
+scope_back scopes.Portable = refl
+
+one_scope : (s t : Scope) → scope_name s ≡ scope_name t → s ≡ t
+one_scope s t same =
+    let read : Some s ≡ Some t = sym (scope_back s) ∙ ap scope_of same ∙ scope_back t in
+    cc
+
+one_path : (p q : List (List ℕ)) → IsPath p → IsPath q → absolute p ≡ absolute q → p ≡ q
+one_path p q is also same = path_injective p q is also (cc)
+
+one_optional : (p q : Option (List (List ℕ))) → IsOptionalPath p → IsOptionalPath q → optional_words p ≡ optional_words q → p ≡ q
+one_optional None None is also same = refl
+one_optional None (Some q) is also same = cc
+one_optional (Some p) None is also same = cc
+one_optional (Some p) (Some q) is also same = ap (λ (r : List (List ℕ)). Some r) (one_path p q is also (cc))
+
+one_chosen : (c d : Chosen) → AreChosen c → AreChosen d → chosen_words c ≡ chosen_words d → c ≡ d
+one_chosen chosen.Default chosen.Default are also same = refl
+one_chosen chosen.Default (chosen.Sysext m) are also same = cc
+one_chosen chosen.Default (chosen.Both m n) are also same = cc
+one_chosen (chosen.Sysext k) chosen.Default are also same = cc
+one_chosen (chosen.Sysext k) (chosen.Sysext m) are also same = ap (λ (ns : List (List ℕ)). chosen.Sysext ns) (one_list k m are.0 also.0 (cc))
+one_chosen (chosen.Sysext k) (chosen.Both m n) are also same = cc
+one_chosen (chosen.Both k l) chosen.Default are also same = cc
+one_chosen (chosen.Both k l) (chosen.Sysext m) are also same = cc
+one_chosen (chosen.Both k l) (chosen.Both m n) are also same =
+    let first : k ≡ m = one_list k m are.0 also.0 (cc) in
+    let second : l ≡ n = one_list l n are.1 also.1 (cc) in
+    cc
+
+abbrev view_after : Option Verb → List (List ℕ) → Option ViewCommand
+view_after None more = None
+view_after (Some verbs.List) more = Some views.List
+view_after (Some verbs.Status) more = Some views.Status
+view_after (Some verbs.Merge) [] = Some (views.Merge false)
+view_after (Some verbs.Merge) (word ∷ more) = Some (views.Merge true)
+view_after (Some verbs.Unmerge) more = Some views.Unmerge
+view_after (Some verbs.Refresh) [] = Some (views.Refresh false)
+view_after (Some verbs.Refresh) (word ∷ more) = Some (views.Refresh true)
+
+abbrev view_of : List (List ℕ) → Option ViewCommand
+view_of [] = None
+view_of (word ∷ more) = view_after (verb_of word) more
+
+view_back : (v : ViewCommand) → view_of (view_words v) ≡ Some v
+view_back views.List = refl
+view_back views.Status = refl
+view_back (views.Merge false) = refl
+view_back (views.Merge true) = refl
+view_back views.Unmerge = refl
+view_back (views.Refresh false) = refl
+view_back (views.Refresh true) = refl
+
+one_view : (v w : ViewCommand) → view_words v ≡ view_words w → v ≡ w
+one_view v w same =
+    let read : Some v ≡ Some w = sym (view_back v) ∙ ap view_of same ∙ view_back w in
+    cc
+
+-- ---- the command of a keyword and the words after it
+
+abbrev Gives : Keyword → List (List ℕ) → Command → Type 0
+Gives keywords.Init more c = (a : Arch) × (s : Scope) × (h : Chosen) × AreChosen h × (more ≡ arch_name a ∷ scope_name s ∷ chosen_words h) × (c ≡ Init a s h)
+Gives keywords.ImportFs more c = (r : List (List ℕ)) × (p : List (List ℕ)) × IsResource r × IsPath p × (more ≡ path_text r ∷ path_words p) × (c ≡ ImportFs r p)
+Gives keywords.Remove more c = (p : List (List ℕ)) × IsBelowRoot p × (more ≡ path_words p) × (c ≡ Remove p)
+Gives keywords.Sysext more c = (v : ViewCommand) × (more ≡ view_words v) × (c ≡ Sysext v)
+Gives keywords.Confext more c = (v : ViewCommand) × (more ≡ view_words v) × (c ≡ Confext v)
+Gives keywords.Tree more c = (p : Option (List (List ℕ))) × IsOptionalPath p × (more ≡ optional_words p) × (c ≡ Tree p)
+Gives keywords.Cat more c = (p : List (List ℕ)) × IsBelowRoot p × (more ≡ path_words p) × (c ≡ Cat p)
+Gives keywords.Compare more c = (a : List ℕ) × (b : List ℕ) × (more ≡ a ∷ b ∷ []) × (c ≡ Compare a b)
+Gives keywords.Check more c = c ≡ Check
+Gives keywords.Layer more c = c ≡ Layer
+Gives keywords.Migrate more c = c ≡ Migrate
+
+record Given (c : Command) (words : List (List ℕ)) : Type 0 where
+  pub keyword : Keyword
+  pub more : List (List ℕ)
+  pub same : words ≡ keyword_text keyword ∷ more
+  pub gives : Gives keyword more c
+
+given : (c : Command) → IsWellFormed c → Given c (command_words c)
+given (Init a s h) well = record { keyword = keywords.Init; more = arch_name a ∷ scope_name s ∷ chosen_words h; same = refl; gives = (a, s, h, well.1, refl, refl) }
+given (ImportFs r p) well = record { keyword = keywords.ImportFs; more = path_text r ∷ path_words p; same = refl; gives = (r, p, well.0, well.1, refl, refl) }
+given (Remove p) well = record { keyword = keywords.Remove; more = path_words p; same = refl; gives = (p, well, refl, refl) }
+given (Sysext v) well = record { keyword = keywords.Sysext; more = view_words v; same = refl; gives = (v, refl, refl) }
+given (Confext v) well = record { keyword = keywords.Confext; more = view_words v; same = refl; gives = (v, refl, refl) }
+given (Tree p) well = record { keyword = keywords.Tree; more = optional_words p; same = refl; gives = (p, well, refl, refl) }
+given (Cat p) well = record { keyword = keywords.Cat; more = path_words p; same = refl; gives = (p, well, refl, refl) }
+given (Compare a b) well = record { keyword = keywords.Compare; more = a ∷ b ∷ []; same = refl; gives = (a, b, refl, refl) }
+given Check well = record { keyword = keywords.Check; more = []; same = refl; gives = refl }
+given Layer well = record { keyword = keywords.Layer; more = []; same = refl; gives = refl }
+given Migrate well = record { keyword = keywords.Migrate; more = []; same = refl; gives = refl }
+
+one_given : (k : Keyword) (more : List (List ℕ)) (c d : Command) → Gives k more c → Gives k more d → c ≡ d
+one_given keywords.Init more c d (a, s, h, are, is, c_is) (b, t, g, also, was, d_is) =
+    let words = sym is ∙ was in
+    let arch : a ≡ b = one_arch a b (cc) in
+    let scope : s ≡ t = one_scope s t (cc) in
+    let lists : h ≡ g = one_chosen h g are also (cc) in
+    cc
+one_given keywords.ImportFs more c d (r, p, resource, path, is, c_is) (q, o, other, also, was, d_is) =
+    let words = sym is ∙ was in
+    let first : r ≡ q = path_injective r q resource.within other.within (cc) in
+    let second : p ≡ o = one_path p o path also (cc) in
+    cc
+one_given keywords.Remove more c d (p, path, is, c_is) (q, also, was, d_is) =
+    let words = sym is ∙ was in
+    let same : p ≡ q = one_path p q path.within also.within (cc) in
+    cc
+one_given keywords.Sysext more c d (v, is, c_is) (w, was, d_is) = let same : v ≡ w = one_view v w (sym is ∙ was) in cc
+one_given keywords.Confext more c d (v, is, c_is) (w, was, d_is) = let same : v ≡ w = one_view v w (sym is ∙ was) in cc
+one_given keywords.Tree more c d (p, path, is, c_is) (q, also, was, d_is) = let same : p ≡ q = one_optional p q path also (sym is ∙ was) in cc
+one_given keywords.Cat more c d (p, path, is, c_is) (q, also, was, d_is) =
+    let words = sym is ∙ was in
+    let same : p ≡ q = one_path p q path.within also.within (cc) in
+    cc
+one_given keywords.Compare more c d (a, b, is, c_is) (x, y, was, d_is) = cc
+one_given keywords.Check more c d c_is d_is = c_is ∙ sym d_is
+one_given keywords.Layer more c d c_is d_is = c_is ∙ sym d_is
+one_given keywords.Migrate more c d c_is d_is = c_is ∙ sym d_is
+
+pub one_command : (c d : Command) → IsWellFormed c → IsWellFormed d → command_words c ≡ command_words d → c ≡ d
+one_command c d well also same =
+    let f = given c well in
+    let g = given d also in
+    let words : keyword_text f.keyword ∷ f.more ≡ keyword_text g.keyword ∷ g.more = sym f.same ∙ same ∙ g.same in
+    let keyword : f.keyword ≡ g.keyword = one_keyword f.keyword g.keyword (cc) in
+    let more : f.more ≡ g.more = cc in
+    one_given g.keyword g.more c d (subst (λ (k : Keyword). Gives k g.more c) keyword (subst (λ (ws : List (List ℕ)). Gives f.keyword ws c) more f.gives)) g.gives
+
+pub reads_back : (command : Command) (result : Result Command CmdErr) → IsWellFormed command → ReadsWords (command_words command) result → (result ≡ Ok command) ⊎ (result ≡ Err OutOfMemory)
+reads_back command (Ok other) well reads = inl (ap (λ (c : Command). Ok c) (one_command other command reads.0 well (sym reads.1)))
+reads_back command (Err OutOfMemory) well reads = inr refl
+reads_back command (Err (Usage place)) well reads = absurd (no_fault IsCommand (command_words command) 1 place (record { command = command; well_formed = well; same = refl }) reads)

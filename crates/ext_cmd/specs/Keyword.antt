@@ -1,0 +1,38 @@
+-- The words that say which command is meant. They are this project's own; the verbs of views are those of
+-- systemd-sysext(8).
+use Rattle.std.specs.Prelude.{◌≡◌, ◌≢◌, ℕ, List, codes, Option, Some, None}
+use Rattle.ext_cmd.specs.declared.keyword.Keyword.{Keyword}
+use Rattle.ext_cmd.specs.declared.keyword.Keyword.TheVariants.{Init, ImportFs, Remove, Sysext, Confext, Tree, Cat, Compare, Check, Layer, Migrate}
+use Rattle.ext_cmd.specs.declared.keyword.Verb.{Verb}
+use Rattle.ext_cmd.specs.declared.keyword.Verb.TheVariants as verbs
+
+-- the text of a keyword
+abbrev pub keyword_text : Keyword → List ℕ
+keyword_text Init = codes "init"
+keyword_text ImportFs = codes "import-fs"
+keyword_text Remove = codes "remove"
+keyword_text Sysext = codes "sysext"
+keyword_text Confext = codes "confext"
+keyword_text Tree = codes "tree"
+keyword_text Cat = codes "cat"
+keyword_text Compare = codes "compare"
+keyword_text Check = codes "check"
+keyword_text Layer = codes "layer"
+keyword_text Migrate = codes "migrate"
+
+-- what reading a text gives: the keyword of this text, or that it is none
+abbrev pub ReadsKeyword : List ℕ → Option Keyword → Type 0
+ReadsKeyword text (Some keyword) = text ≡ keyword_text keyword
+ReadsKeyword text None = (keyword : Keyword) → text ≢ keyword_text keyword
+
+-- the text of a verb
+abbrev pub verb_text : Verb → List ℕ
+verb_text verbs.List = codes "list"
+verb_text verbs.Status = codes "status"
+verb_text verbs.Merge = codes "merge"
+verb_text verbs.Unmerge = codes "unmerge"
+verb_text verbs.Refresh = codes "refresh"
+
+abbrev pub ReadsVerb : List ℕ → Option Verb → Type 0
+ReadsVerb text (Some verb) = text ≡ verb_text verb
+ReadsVerb text None = (verb : Verb) → text ≢ verb_text verb

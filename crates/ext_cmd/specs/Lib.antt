@@ -1,0 +1,9 @@
+pub mod Fault
+pub mod Resource
+pub mod Words
+pub mod Keyword
+pub mod Grammar
+pub mod Reading
+pub mod Replies
+pub mod Refusals
+pub mod Laws

@@ -1,0 +1,160 @@
+-- The words of commands: what the words of each command are, and which commands there are. The grammar is this project's
+-- own; the verbs of views are those of systemd-sysext(8).
+--
+--     init ARCH SCOPE [HIERS [HIERS]]
+--     import-fs RES ABS
+--     remove ABS1
+--     sysext list | status | merge [--force] | unmerge | refresh [--force]
+--     confext list | status | merge [--force] | unmerge | refresh [--force]
+--     tree [ABS]
+--     cat ABS1
+--     compare TEXT TEXT
+--     check
+--     layer
+--     migrate
+--
+-- ABS is a path after a `/`, ABS1 one other than the root; RES is a resource; TEXT is any word. SCOPE is `system` or
+-- `initrd`. HIERS is 1 to 16 names with a `/` before each and a `:` between each two.
+use Rattle.std.specs.Prelude.{◌≡◌, ◌≢◌, ℕ, ◌<◌, ◌≤◌, Bool, true, false, List, [], ◌∷◌, length, map, codes, Option, Some, None}
+use Rattle.std.specs.List.{AllByRecursion, join_with_byte}
+use Rattle.ext_lines.specs.Split.{Lacks}
+use Rattle.ext_text.specs.Arch.{arch_name}
+use Rattle.ext_text.specs.Name.{IsName}
+use Rattle.ext_text.specs.Path.{IsPath, path_text}
+use Rattle.ext_text.specs.Scope.{scope_name}
+use Rattle.ext_text.specs.declared.class.Class.TheVariants as classes
+use Rattle.ext_text.specs.declared.scope.Scope.TheVariants.{Portable}
+use Rattle.ext_host.specs.Host.{default_hierarchies}
+use Rattle.ext_cmd.specs.Fault.{IsFault}
+use Rattle.ext_cmd.specs.Resource.{IsResource}
+use Rattle.ext_cmd.specs.declared.command.Command.{Command}
+use Rattle.ext_cmd.specs.declared.command.Command.TheVariants.{Init, ImportFs, Remove, Sysext, Confext, Tree, Cat, Compare, Check, Layer, Migrate}
+use Rattle.ext_cmd.specs.declared.command.ViewCommand.{ViewCommand}
+use Rattle.ext_cmd.specs.declared.command.ViewCommand.TheVariants as views
+use Rattle.ext_cmd.specs.declared.command.Chosen.{Chosen}
+use Rattle.ext_cmd.specs.declared.command.Chosen.TheVariants as chosen
+
+-- ---- words of arguments
+
+-- a path of the host: a `/`, and the names with a `/` between each two; the root is `/` alone
+abbrev pub absolute : List (List ℕ) → List ℕ
+absolute path = 47 ∷ path_text path
+
+-- a name after a `/`
+abbrev pub slashed : List ℕ → List ℕ
+slashed name = 47 ∷ name
+
+-- a list of hierarchies: each name after a `/`, a `:` between each two
+abbrev pub hierarchies_word : List (List ℕ) → List ℕ
+hierarchies_word names = join_with_byte 58 (map slashed names)
+
+-- ---- what arguments may be
+
+-- a path other than the root
+pub record IsBelowRoot (path : List (List ℕ)) : Type 0 where
+  pub within : IsPath path
+  pub below_root : path ≢ []
+
+-- a name that isn't taken for an option
+pub record IsPlainName (name : List ℕ) : Type 0 where
+  pub name_is : IsName name
+  pub no_dash : (rest : List ℕ) → name ≢ 45 ∷ rest
+
+-- a name that stands in a list of hierarchies
+pub record IsHierarchy (name : List ℕ) : Type 0 where
+  pub plain : IsPlainName name
+  pub no_colon : Lacks 58 name
+
+-- the name is none of those
+abbrev pub IsNone : List ℕ → List (List ℕ) → Type 0
+IsNone name names = AllByRecursion (λ other. name ≢ other) names
+
+-- none stands twice
+abbrev pub AreDistinct : List (List ℕ) → Type 0
+AreDistinct [] = Unit {0}
+AreDistinct (name ∷ names) = IsNone name names × AreDistinct names
+
+-- none of the first names is one of the others
+abbrev pub AreApart : List (List ℕ) → List (List ℕ) → Type 0
+AreApart names others = AllByRecursion (λ name. IsNone name others) names
+
+-- 1 to 16 names of hierarchies, none twice
+pub record IsHierarchyList (names : List (List ℕ)) : Type 0 where
+  pub some : 0 < length names
+  pub few : length names ≤ 16
+  pub each : AllByRecursion IsHierarchy names
+  pub distinct : AreDistinct names
+
+-- the hierarchies of each class are such names, and no name is one of both; what is left out has its default
+abbrev pub AreChosen : Chosen → Type 0
+AreChosen chosen.Default = Unit {0}
+AreChosen (chosen.Sysext names) = IsHierarchyList names × AreApart names (default_hierarchies classes.Confext)
+AreChosen (chosen.Both names others) = IsHierarchyList names × IsHierarchyList others × AreApart names others
+
+-- ---- commands
+
+abbrev pub path_words : List (List ℕ) → List (List ℕ)
+path_words path = absolute path ∷ []
+
+abbrev pub chosen_words : Chosen → List (List ℕ)
+chosen_words chosen.Default = []
+chosen_words (chosen.Sysext names) = hierarchies_word names ∷ []
+chosen_words (chosen.Both names others) = hierarchies_word names ∷ hierarchies_word others ∷ []
+
+abbrev pub force_words : Bool → List (List ℕ)
+force_words false = []
+force_words true = codes "--force" ∷ []
+
+abbrev pub view_words : ViewCommand → List (List ℕ)
+view_words views.List = codes "list" ∷ []
+view_words views.Status = codes "status" ∷ []
+view_words (views.Merge force) = codes "merge" ∷ force_words force
+view_words views.Unmerge = codes "unmerge" ∷ []
+view_words (views.Refresh force) = codes "refresh" ∷ force_words force
+
+abbrev pub optional_words : Option (List (List ℕ)) → List (List ℕ)
+optional_words None = []
+optional_words (Some path) = path_words path
+
+-- the words of a command
+abbrev pub command_words : Command → List (List ℕ)
+command_words (Init arch scope hierarchies) = codes "init" ∷ arch_name arch ∷ scope_name scope ∷ chosen_words hierarchies
+command_words (ImportFs resource path) = codes "import-fs" ∷ path_text resource ∷ path_words path
+command_words (Remove path) = codes "remove" ∷ path_words path
+command_words (Sysext view) = codes "sysext" ∷ view_words view
+command_words (Confext view) = codes "confext" ∷ view_words view
+command_words (Tree path) = codes "tree" ∷ optional_words path
+command_words (Cat path) = codes "cat" ∷ path_words path
+command_words (Compare a b) = codes "compare" ∷ a ∷ b ∷ []
+command_words Check = codes "check" ∷ []
+command_words Layer = codes "layer" ∷ []
+command_words Migrate = codes "migrate" ∷ []
+
+abbrev pub IsOptionalPath : Option (List (List ℕ)) → Type 0
+IsOptionalPath None = Unit {0}
+IsOptionalPath (Some path) = IsPath path
+
+-- the arguments are what the grammar allows
+abbrev pub IsWellFormed : Command → Type 0
+IsWellFormed (Init arch scope hierarchies) = (scope ≢ Portable) × AreChosen hierarchies
+IsWellFormed (ImportFs resource path) = IsResource resource × IsPath path
+IsWellFormed (Remove path) = IsBelowRoot path
+IsWellFormed (Sysext view) = Unit {0}
+IsWellFormed (Confext view) = Unit {0}
+IsWellFormed (Tree path) = IsOptionalPath path
+IsWellFormed (Cat path) = IsBelowRoot path
+IsWellFormed (Compare a b) = Unit {0}
+IsWellFormed Check = Unit {0}
+IsWellFormed Layer = Unit {0}
+IsWellFormed Migrate = Unit {0}
+
+-- the words are a command
+pub record IsCommand (words : List (List ℕ)) : Type 0 where
+  pub command : Command
+  pub well_formed : IsWellFormed command
+  pub same : words ≡ command_words command
+
+-- the words are no command, and this is the place of their first fault, counted from 1: the least place such that no command
+-- begins with the words up to it; where a command begins with all of them, the place after the last
+abbrev pub IsUsage : List (List ℕ) → ℕ → Type 0
+IsUsage words place = IsFault IsCommand words 1 place

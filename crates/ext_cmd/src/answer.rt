@@ -1,0 +1,92 @@
+// Answers.
+use ext_text::{ListOf, Name, Names, Path, Text};
+use std::cmp::Ordering;
+
+/// What a command that is done replies. The bytes of a file, which `cat` replies, are no answer: they are written as they
+/// are read.
+#[derive(Debug, Drop)]
+pub enum Answer {
+    /// `done`: to `init`, `import-fs`, `remove` and `migrate`.
+    Done,
+    /// `unchanged`: to `migrate`, where the store's text has its newest form.
+    Unchanged,
+    /// `merged K`, and a line for each of the K names: to `merge`, `refresh` and `status`, the lowest name first.
+    Merged(Names),
+    /// `unmerged`: to `unmerge`, and to `status` where nothing is merged.
+    Unmerged,
+    /// A line for each found item: to `list`.
+    Found(Items),
+    /// The text of a tree: to `tree` and `layer`.
+    Tree(Text),
+    /// `less`, `equal` or `greater`: to `compare`.
+    Order(Ordering),
+    /// `ok FILES BYTES`: to `check`.
+    Checked {
+        /// How many files were read.
+        files: u64,
+        /// Their bytes.
+        bytes: u64,
+    },
+}
+
+/// An image or a mask that `list` finds.
+#[derive(Debug, Drop)]
+pub struct Item {
+    /// Its name.
+    pub name: Name,
+    /// Where it is in the host.
+    pub place: Path,
+    /// What it is.
+    pub kind: ItemKind,
+}
+
+/// What a found item is.
+#[derive(Clone, Copy, Debug, PartialEq, Eq)]
+pub enum ItemKind {
+    /// `image`: a directory image, and whether it fits the host.
+    Image(Verdict),
+    /// `masked`: there is no image of this name.
+    Masked,
+    /// `raw`: an image in a file, which is not looked into.
+    Raw,
+    /// `broken`: an image that can't be used.
+    Broken(Why),
+}
+
+/// Whether an image fits the host, or the first reason why it doesn't.
+#[derive(Clone, Copy, Debug, PartialEq, Eq)]
+pub enum Verdict {
+    /// `fits`.
+    Fits,
+    /// `scope`: the host's scope isn't among the image's.
+    Scope,
+    /// `architecture`: the image is made for another architecture.
+    Architecture,
+    /// `no-id`: the image has no `ID`.
+    NoId,
+    /// `id`: the image is made for hosts of another `ID`.
+    Id,
+    /// `level`: the image and the host have different levels.
+    Level,
+    /// `version`: the image isn't made for the host's `VERSION_ID`.
+    Version,
+}
+
+/// Why an image can't be used.
+#[derive(Clone, Copy, Debug, PartialEq, Eq)]
+pub enum Why {
+    /// `not-directory`: it has something other than a directory at a hierarchy.
+    NotDirectory,
+    /// `has-os-release`: a system extension has the release file of a host.
+    HasOsRelease,
+    /// `no-release`: it has no release file.
+    NoRelease,
+    /// `bad-release LINE`: its release file is faulty.
+    BadRelease {
+        /// The first faulty line, counted from 1.
+        line: u64,
+    },
+}
+
+/// A list of found items.
+pub type Items = ListOf<Item>;

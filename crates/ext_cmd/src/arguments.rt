@@ -1,0 +1,160 @@
+// The words of arguments. Each reader is told the place of the word, or of the first of the words, that it reads.
+ghost use Rattle.std.specs.Prelude.{◌≡◌, ◌∷◌, ◌++◌, [], ◌+◌, ◌<◌, ◌^◌, codes, MatchOption, IfOk};
+ghost use Rattle.ext_text.specs.Arch.{arch_name};
+ghost use Rattle.ext_text.specs.Path.{IsPath, path_text};
+ghost use Rattle.ext_text.specs.Scope.{scope_name};
+ghost use Rattle.ext_cmd.specs.Grammar.{Any, Ends, IsBelowRootWord, IsHostScope, IsPathWord, Then};
+ghost use Rattle.ext_cmd.specs.Reading.{ReadsPart, ReadsWord, no_words, usage_of};
+ghost use Rattle.ext_cmd.specs.Resource.{IsResource};
+ghost use Rattle.ext_cmd.specs.Words.{IsBelowRoot, absolute, path_words};
+
+use crate::resource::Resource;
+use crate::words::CmdErr;
+use ext_text::{Arch, OutOfMemory, Path, PathErr, Scope, Text};
+use std::alloc::Global;
+
+// ---- where words begin and end
+
+// The first word, and the words after it.
+pub(crate) fn next(words: &[Text]) -> Option<(&[u8], &[Text])>
+    ensures { MatchOption result (words.now ≡ []) (λ found. words.now ≡ found.0.now ∷ found.1.now) }
+{
+    match words {
+        [] => None,
+        [word, more @ ..] => Some((word.bytes(), more)),
+    }
+}
+
+// No word is left.
+pub(crate) fn no_more(words: &[Text], place: u64) -> Result<(), CmdErr>
+    ensures { ReadsPart no_words Any Ends words.now place result }
+{
+    match words {
+        [] => Ok(()),
+        [_, ..] => Err(CmdErr::Usage { place }),
+    }
+}
+
+// ---- one word
+
+// An architecture.
+pub(crate) fn read_arch(word: &[u8], place: u64) -> Result<Arch, CmdErr>
+    ensures { ReadsWord arch_name Any word.now place result }
+{
+    match Arch::read(word) {
+        Some(arch) => Ok(arch),
+        None => Err(CmdErr::Usage { place }),
+    }
+}
+
+// The scope of a host.
+pub(crate) fn read_scope(word: &[u8], place: u64) -> Result<Scope, CmdErr>
+    ensures { ReadsWord scope_name IsHostScope word.now place result }
+{
+    match Scope::read(word) {
+        Some(Scope::System) => Ok(Scope::System),
+        Some(Scope::Initrd) => Ok(Scope::Initrd),
+        Some(Scope::Portable) | None => Err(CmdErr::Usage { place }),
+    }
+}
+
+// A path without a `/` before it.
+fn read_names(alloc: Global, text: &[u8], place: u64) -> Result<Path, CmdErr>
+    ensures { ReadsWord path_text IsPath text.now place result }
+{
+    match Path::read(alloc, text) {
+        Ok(path) => Ok(path),
+        Err(refusal) => Err(usage_of(refusal, place)),
+    }
+}
+
+// Why the text of a path gives no command.
+fn usage_of(refusal: PathErr, place: u64) -> CmdErr
+    ensures { result ≡ usage_of refusal place }
+{
+    match refusal {
+        PathErr::OutOfMemory => CmdErr::OutOfMemory,
+        PathErr::TooLong => CmdErr::Usage { place },
+        PathErr::TooDeep => CmdErr::Usage { place },
+        PathErr::BadName => CmdErr::Usage { place },
+    }
+}
+
+// A path of the host.
+pub(crate) fn read_path(alloc: Global, word: &[u8], place: u64) -> Result<Path, CmdErr>
+    ensures { ReadsWord absolute IsPath word.now place result }
+{
+    match word {
+        [b'/', text @ ..] => read_names(alloc, text, place),
+        _ => Err(CmdErr::Usage { place }),
+    }
+}
+
+// A path of the host other than the root.
+fn read_below_root(alloc: Global, word: &[u8], place: u64) -> Result<Path, CmdErr>
+    ensures { ReadsWord absolute IsBelowRoot word.now place result }
+{
+    let path = read_path(alloc, word, place)?;
+    if path.names().is_empty() {
+        return Err(CmdErr::Usage { place });
+    }
+    Ok(path)
+}
+
+// A tree in the depot.
+pub(crate) fn read_resource(alloc: Global, word: &[u8], place: u64) -> Result<Resource, CmdErr>
+    ensures { ReadsWord path_text IsResource word.now place result }
+{
+    if word.is_empty() {
+        return Err(CmdErr::Usage { place });
+    }
+    let path = read_names(alloc, word, place)?;
+    let name = name_of_tree(alloc, word)?;
+    let text = read_names(alloc, name.as_slice(), place)?;
+    Ok(Resource::new(path, text))
+}
+
+// The name of the tree text of a resource.
+fn name_of_tree(alloc: Global, word: &[u8]) -> Result<Vec<u8>, OutOfMemory>
+    ensures { IfOk result (λ name. name.items ≡ word.now ++ codes ".tree") }
+{
+    let mut name = Vec::from_slice(alloc, word)?;
+    name.extend_from_slice(b".tree")?;
+    Ok(name)
+}
+
+// ---- one word, and none after it
+
+// A path of the host.
+pub(crate) fn read_last_path(alloc: Global, words: &[Text], first: u64) -> Result<Path, CmdErr>
+    requires { first < 2 ^ 32 }
+    ensures { ReadsPart path_words IsPath (Then IsPathWord Ends) words.now first result }
+{
+    match next(words) {
+        None => Err(CmdErr::Usage { place: first }),
+        Some((word, more)) => {
+            let path = read_path(alloc, word, first)?;
+            no_more(more, first + 1)?;
+            Ok(path)
+        }
+    }
+}
+
+// A path of the host other than the root.
+pub(crate) fn read_last_below_root(
+    alloc: Global,
+    words: &[Text],
+    first: u64,
+) -> Result<Path, CmdErr>
+    requires { first < 2 ^ 32 }
+    ensures { ReadsPart path_words IsBelowRoot (Then IsBelowRootWord Ends) words.now first result }
+{
+    match next(words) {
+        None => Err(CmdErr::Usage { place: first }),
+        Some((word, more)) => {
+            let path = read_below_root(alloc, word, first)?;
+            no_more(more, first + 1)?;
+            Ok(path)
+        }
+    }
+}

@@ -1,0 +1,89 @@
+// Commands.
+use crate::resource::Resource;
+use ext_text::{Arch, Names, Path, Scope, Text};
+
+/// A command, as it was given: what its words leave out is left out here too.
+#[derive(Debug, Drop)]
+pub enum Command {
+    /// `init ARCH SCOPE [HIERS [HIERS]]`: a store for a host without entries.
+    Init {
+        /// What the host is made for.
+        arch: Arch,
+        /// `System` or `Initrd`.
+        scope: Scope,
+        /// The hierarchies of its classes.
+        hierarchies: Chosen,
+    },
+    /// `import-fs RES ABS`: a tree of the depot in place of what stands at and below the path.
+    ImportFs {
+        /// The tree in the depot.
+        resource: Resource,
+        /// The path in the host; it may be the root.
+        path: Path,
+    },
+    /// `remove ABS`: what stands at and below the path goes.
+    Remove {
+        /// The path; it isn't the root.
+        path: Path,
+    },
+    /// `sysext ..`: what is done with system extensions.
+    Sysext(ViewCommand),
+    /// `confext ..`: what is done with configuration extensions.
+    Confext(ViewCommand),
+    /// `tree [ABS]`: the text of the tree below the path.
+    Tree {
+        /// The path; none where it was left out, which means the root.
+        path: Option<Path>,
+    },
+    /// `cat ABS`: the bytes of the file.
+    Cat {
+        /// The path; it isn't the root.
+        path: Path,
+    },
+    /// `compare TEXT TEXT`: how the first version is ordered against the second.
+    Compare(Text, Text),
+    /// `check`: whether each file of the host has its listed stamp.
+    Check,
+    /// `layer`: the layered tree of the source's trees.
+    Layer,
+    /// `migrate`: the store in the newest form of its text.
+    Migrate,
+}
+
+/// What is done with the extensions of a class; systemd-sysext(8).
+#[derive(Clone, Copy, Debug, PartialEq, Eq)]
+pub enum ViewCommand {
+    /// `list`: the images that are found, and whether they fit.
+    List,
+    /// `status`: the names that are merged.
+    Status,
+    /// `merge [--force]`: the images that fit are merged.
+    Merge {
+        /// Each image counts as one that fits.
+        force: bool,
+    },
+    /// `unmerge`: nothing is merged any more.
+    Unmerge,
+    /// `refresh [--force]`: what is merged goes, and the images that fit are merged.
+    Refresh {
+        /// Each image counts as one that fits.
+        force: bool,
+    },
+}
+
+/// The hierarchies that `init` is given: names of directories directly below the root, each list in the order of its
+/// words.
+#[derive(Debug, Drop)]
+pub enum Chosen {
+    /// None is given: system extensions have `/usr` and `/opt`, configuration extensions `/etc`.
+    Default,
+    /// Those of system extensions; configuration extensions have `/etc`.
+    Sysext(Names),
+    /// Those of both classes.
+    Both {
+        /// Those of system extensions.
+        sysext: Names,
+        /// Those of configuration extensions.
+        confext: Names,
+    },
+}

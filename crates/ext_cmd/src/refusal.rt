@@ -1,0 +1,212 @@
+ghost use Rattle.std.specs.Prelude.{◌≡◌, ◌++◌, codes, decimal, IfOk, OnOk};
+ghost use Rattle.ext_text.specs.Path.{path_text};
+ghost use Rattle.ext_cmd.specs.Refusals.{place_word, refusal_details, refusal_line, refusal_number, stamp_words, which_word};
+ghost use Rattle.ext_cmd.specs.Words.{absolute};
+
+use crate::appending::{append_numbered, append_path, append_stamp, append_words};
+use ext_lines::append_decimal;
+use ext_text::{OutOfMemory, Path, Text, Which};
+use ext_tree::Stamp;
+use std::alloc::Global;
+
+/// Why a command was refused.
+#[derive(Debug, Drop, PartialEq, Eq)]
+pub enum Refusal {
+    /// There is no store; number 1.
+    NoStore,
+    /// There is a store already; number 2.
+    StoreExists,
+    /// The class is merged already; number 3.
+    Merged,
+    /// A path that would be written or cut is in, at or above a merged hierarchy; number 4.
+    ReadOnly {
+        /// The least such path.
+        path: Path,
+    },
+    /// The host has no release file; number 5.
+    NoHostRelease,
+    /// The host's release file is faulty; number 6.
+    BadHostRelease {
+        /// Its first faulty line, counted from 1.
+        line: u64,
+    },
+    /// A limit would be passed; number 7.
+    Limit {
+        /// Which limit.
+        which: Which,
+    },
+    /// Nothing stands at the path; number 8.
+    NoEntry {
+        /// The path.
+        path: Path,
+    },
+    /// What stands at the path is no directory; number 9.
+    NotDirectory {
+        /// The path.
+        path: Path,
+    },
+    /// What stands at the path is no file; number 10.
+    NotFile {
+        /// The path.
+        path: Path,
+    },
+    /// A tree text is faulty; number 23.
+    BadTree {
+        /// The first faulty line, counted from 1.
+        line: u64,
+        /// The text's path in the depot; none where it did not come from there.
+        path: Option<Path>,
+    },
+    /// The depot has no such file; number 24.
+    NotInDepot {
+        /// The file's path in the depot.
+        path: Path,
+    },
+    /// A file of the depot has other bytes than listed; number 25.
+    Mismatch {
+        /// The file's path in the depot.
+        path: Path,
+        /// The stamp that is listed.
+        listed: Stamp,
+        /// The stamp of the bytes that were read.
+        found: Stamp,
+    },
+}
+
+/// The number of a refusal.
+pub fn number(refusal: &Refusal) -> u32
+    ensures { result ≡ refusal_number refusal.now }
+{
+    match refusal {
+        Refusal::NoStore => 1,
+        Refusal::StoreExists => 2,
+        Refusal::Merged => 3,
+        Refusal::ReadOnly { .. } => 4,
+        Refusal::NoHostRelease => 5,
+        Refusal::BadHostRelease { .. } => 6,
+        Refusal::Limit { .. } => 7,
+        Refusal::NoEntry { .. } => 8,
+        Refusal::NotDirectory { .. } => 9,
+        Refusal::NotFile { .. } => 10,
+        Refusal::BadTree { .. } => 23,
+        Refusal::NotInDepot { .. } => 24,
+        Refusal::Mismatch { .. } => 25,
+    }
+}
+
+/// The line of a refusal, with its newline: `refused`, the number, the word and the details, parted by spaces. Paths of
+/// the host stand after a `/`, paths of the depot without one.
+///
+/// # Errors
+/// Out of memory alone.
+pub fn refusal_text(alloc: Global, refusal: &Refusal) -> Result<Text, OutOfMemory>
+    ensures { IfOk result (λ text. text ≡ refusal_line refusal.now) }
+{
+    let mut line = Vec::from_slice(alloc, b"refused ")?;
+    append_decimal(&mut line, u64::from(number(refusal)))?;
+    line.push(b' ')?;
+    append_details(&mut line, refusal)?;
+    line.push(b'\n')?;
+    Ok(Text::from_vec(line))
+}
+
+// The word and the details of a refusal.
+fn append_details(line: &mut Vec<u8>, refusal: &Refusal) -> Result<(), OutOfMemory>
+    ensures { OnOk result (line.new.items ≡ line.old.items ++ refusal_details refusal.now) }
+{
+    match refusal {
+        Refusal::NoStore => append_words(line, "no-store"),
+        Refusal::StoreExists => append_words(line, "store-exists"),
+        Refusal::Merged => append_words(line, "merged"),
+        Refusal::ReadOnly { path } => append_at(line, "read-only ", path),
+        Refusal::NoHostRelease => append_words(line, "no-host-release"),
+        Refusal::BadHostRelease { line: at } => append_numbered(line, "bad-host-release ", *at),
+        Refusal::Limit { which } => append_limit(line, *which),
+        Refusal::NoEntry { path } => append_at(line, "no-entry ", path),
+        Refusal::NotDirectory { path } => append_at(line, "not-directory ", path),
+        Refusal::NotFile { path } => append_at(line, "not-file ", path),
+        Refusal::BadTree { line: at, path } => append_bad_tree(line, *at, path),
+        Refusal::NotInDepot { path } => append_absent(line, path),
+        Refusal::Mismatch {
+            path,
+            listed,
+            found,
+        } => append_mismatch(line, path, listed, found),
+    }
+}
+
+// A word and a path of the host.
+fn append_at(line: &mut Vec<u8>, word: &str, path: &Path) -> Result<(), OutOfMemory>
+    ensures { OnOk result (line.new.items ≡ line.old.items ++ (word.now ++ absolute path.now)) }
+{
+    append_words(line, word)?;
+    append_path(line, path)
+}
+
+// Which limit would be passed.
+fn append_limit(line: &mut Vec<u8>, which: Which) -> Result<(), OutOfMemory>
+    ensures { OnOk result (line.new.items ≡ line.old.items ++ (codes "limit " ++ which_word which)) }
+{
+    append_words(line, "limit ")?;
+    append_words(line, which_word(which))
+}
+
+// The word of a limit.
+fn which_word(which: Which) -> &'static str
+    ensures { result.now ≡ which_word which }
+{
+    match which {
+        Which::Entries => "entries",
+        Which::Bytes => "bytes",
+        Which::File => "file",
+        Which::Path => "path",
+        Which::Text => "text",
+        Which::Index => "index",
+        Which::Generations => "generations",
+    }
+}
+
+// Which line of which tree text is faulty.
+fn append_bad_tree(line: &mut Vec<u8>, at: u64, path: &Option<Path>) -> Result<(), OutOfMemory>
+    ensures { OnOk result (line.new.items ≡ line.old.items ++ (codes "bad-tree " ++ decimal at ++ codes " " ++ place_word path.now)) }
+{
+    append_words(line, "bad-tree ")?;
+    append_decimal(line, at)?;
+    line.push(b' ')?;
+    append_place(line, path)
+}
+
+// The path of a tree text in the depot, or `-`.
+fn append_place(line: &mut Vec<u8>, path: &Option<Path>) -> Result<(), OutOfMemory>
+    ensures { OnOk result (line.new.items ≡ line.old.items ++ place_word path.now) }
+{
+    match path {
+        None => Ok(line.push(b'-')?),
+        Some(path) => path.append_to(line),
+    }
+}
+
+// Which file of the depot is not there.
+fn append_absent(line: &mut Vec<u8>, path: &Path) -> Result<(), OutOfMemory>
+    ensures { OnOk result (line.new.items ≡ line.old.items ++ (codes "not-in-depot " ++ path_text path.now)) }
+{
+    append_words(line, "not-in-depot ")?;
+    path.append_to(line)
+}
+
+// Which file of the depot has other bytes than listed.
+fn append_mismatch(
+    line: &mut Vec<u8>,
+    path: &Path,
+    listed: &Stamp,
+    found: &Stamp,
+) -> Result<(), OutOfMemory>
+    ensures { OnOk result (line.new.items ≡ line.old.items ++ (codes "mismatch " ++ path_text path.now ++ codes " " ++ stamp_words listed.now ++ codes " " ++ stamp_words found.now)) }
+{
+    append_words(line, "mismatch ")?;
+    path.append_to(line)?;
+    line.push(b' ')?;
+    append_stamp(line, listed)?;
+    line.push(b' ')?;
+    append_stamp(line, found)
+}

@@ -1,0 +1,180 @@
+// The texts of answers.
+ghost use Rattle.std.specs.Prelude.{◌≡◌, ◌++◌, codes, decimal, length, IfOk, OnOk};
+ghost use Rattle.std.specs.List.{flat_map};
+ghost use Rattle.ext_cmd.specs.Replies.{answer_text, item_line, kind_words, lined, order_word, verdict_word, why_words};
+ghost use Rattle.ext_cmd.specs.Words.{absolute};
+ghost use Rattle.ext_cmd.specs.declared.answer.Answer.TheVariants.{Checked};
+ghost use Rattle.ext_cmd.specs.declared.answer.ItemKind.TheVariants.{Broken, Image};
+
+use crate::answer::{Answer, Item, ItemKind, Verdict, Why};
+use crate::appending::{append_line, append_numbered, append_path, append_words};
+use ext_lines::append_decimal;
+use ext_text::{Name, OutOfMemory, Path, Text};
+use std::alloc::Global;
+use std::cmp::Ordering;
+
+/// The text of an answer: each line ends in a newline, and paths of the host stand after a `/`. The text of a tree is
+/// handed on and not copied.
+///
+/// # Errors
+/// Out of memory alone.
+pub fn answer_text(alloc: Global, answer: Answer) -> Result<Text, OutOfMemory>
+    ensures { IfOk result (λ text. text ≡ answer_text answer) }
+{
+    match answer {
+        Answer::Done => line_of(alloc, "done"),
+        Answer::Unchanged => line_of(alloc, "unchanged"),
+        Answer::Merged(names) => merged_text(alloc, names.as_slice()),
+        Answer::Unmerged => line_of(alloc, "unmerged"),
+        Answer::Found(items) => found_text(alloc, items.as_slice()),
+        Answer::Tree(text) => Ok(text),
+        Answer::Order(order) => line_of(alloc, order_word(order)),
+        Answer::Checked { files, bytes } => checked_text(alloc, files, bytes),
+    }
+}
+
+// A line alone.
+fn line_of(alloc: Global, line: &str) -> Result<Text, OutOfMemory>
+    ensures { IfOk result (λ text. text ≡ lined line.now) }
+{
+    let mut text = Vec::with_capacity(alloc, line.len() + 1)?;
+    append_line(&mut text, line.as_bytes())?;
+    Ok(Text::from_vec(text))
+}
+
+// The word of an order.
+fn order_word(order: Ordering) -> &'static str
+    ensures { result.now ≡ order_word order }
+{
+    match order {
+        Ordering::Less => "less",
+        Ordering::Equal => "equal",
+        Ordering::Greater => "greater",
+    }
+}
+
+// ---- what is merged
+
+// How many names, and each on a line of its own.
+fn merged_text(alloc: Global, names: &[Name]) -> Result<Text, OutOfMemory>
+    ensures { IfOk result (λ text. text ≡ lined (codes "merged " ++ decimal (length names.now)) ++ flat_map lined names.now) }
+{
+    let mut text = Vec::from_slice(alloc, b"merged ")?;
+    append_decimal(&mut text, names.len() as u64)?;
+    text.push(b'\n')?;
+    append_names(&mut text, names)?;
+    Ok(Text::from_vec(text))
+}
+
+// Each name on a line of its own.
+fn append_names(text: &mut Vec<u8>, names: &[Name]) -> Result<(), OutOfMemory>
+    ensures { OnOk result (text.new.items ≡ text.old.items ++ flat_map lined names.now) }
+{
+    'names: for name in names {
+        append_line(text, name.bytes())?;
+    }
+    Ok(())
+}
+
+// ---- what is found
+
+// A line for each item.
+fn found_text(alloc: Global, items: &[Item]) -> Result<Text, OutOfMemory>
+    ensures { IfOk result (λ text. text ≡ flat_map item_line items.now) }
+{
+    let mut text = Vec::new(alloc);
+    'items: for item in items {
+        append_item(&mut text, item)?;
+    }
+    Ok(Text::from_vec(text))
+}
+
+// The line of an item.
+fn append_item(text: &mut Vec<u8>, item: &Item) -> Result<(), OutOfMemory>
+    ensures { OnOk result (text.new.items ≡ text.old.items ++ item_line item.now) }
+{
+    text.extend_from_slice(item.name.bytes())?;
+    text.push(b' ')?;
+    append_kind(text, &item.place, item.kind)?;
+    text.push(b'\n')?;
+    Ok(())
+}
+
+// What an item is, and where.
+fn append_kind(text: &mut Vec<u8>, place: &Path, kind: ItemKind) -> Result<(), OutOfMemory>
+    ensures { OnOk result (text.new.items ≡ text.old.items ++ kind_words place.now kind) }
+{
+    match kind {
+        ItemKind::Image(verdict) => append_image(text, place, verdict),
+        ItemKind::Masked => append_placed(text, "masked ", place),
+        ItemKind::Raw => append_placed(text, "raw ", place),
+        ItemKind::Broken(why) => append_broken(text, place, why),
+    }
+}
+
+// A word and a place.
+fn append_placed(text: &mut Vec<u8>, word: &str, place: &Path) -> Result<(), OutOfMemory>
+    ensures { OnOk result (text.new.items ≡ text.old.items ++ (word.now ++ absolute place.now)) }
+{
+    append_words(text, word)?;
+    append_path(text, place)
+}
+
+// An image, and whether it fits.
+fn append_image(text: &mut Vec<u8>, place: &Path, verdict: Verdict) -> Result<(), OutOfMemory>
+    ensures { OnOk result (text.new.items ≡ text.old.items ++ kind_words place.now (Image verdict)) }
+{
+    append_placed(text, "image ", place)?;
+    text.push(b' ')?;
+    append_words(text, verdict_word(verdict))
+}
+
+// An image that can't be used, and why.
+fn append_broken(text: &mut Vec<u8>, place: &Path, why: Why) -> Result<(), OutOfMemory>
+    ensures { OnOk result (text.new.items ≡ text.old.items ++ kind_words place.now (Broken why)) }
+{
+    append_placed(text, "broken ", place)?;
+    text.push(b' ')?;
+    append_why(text, why)
+}
+
+// The word of a verdict.
+fn verdict_word(verdict: Verdict) -> &'static str
+    ensures { result.now ≡ verdict_word verdict }
+{
+    match verdict {
+        Verdict::Fits => "fits",
+        Verdict::Scope => "scope",
+        Verdict::Architecture => "architecture",
+        Verdict::NoId => "no-id",
+        Verdict::Id => "id",
+        Verdict::Level => "level",
+        Verdict::Version => "version",
+    }
+}
+
+// Why an image can't be used.
+fn append_why(text: &mut Vec<u8>, why: Why) -> Result<(), OutOfMemory>
+    ensures { OnOk result (text.new.items ≡ text.old.items ++ why_words why) }
+{
+    match why {
+        Why::NotDirectory => append_words(text, "not-directory"),
+        Why::HasOsRelease => append_words(text, "has-os-release"),
+        Why::NoRelease => append_words(text, "no-release"),
+        Why::BadRelease { line } => append_numbered(text, "bad-release ", line),
+    }
+}
+
+// ---- what is checked
+
+// How many files, and their bytes.
+fn checked_text(alloc: Global, files: u64, bytes: u64) -> Result<Text, OutOfMemory>
+    ensures { IfOk result (λ text. text ≡ answer_text (Checked files bytes)) }
+{
+    let mut text = Vec::from_slice(alloc, b"ok ")?;
+    append_decimal(&mut text, files)?;
+    text.push(b' ')?;
+    append_decimal(&mut text, bytes)?;
+    text.push(b'\n')?;
+    Ok(Text::from_vec(text))
+}

@@ -1,0 +1,86 @@
+// The words after `sysext` and `confext`. The first of them has the place 2.
+ghost use Rattle.std.specs.Prelude.{◌≡◌, ◌↔◌, IsTrue, codes};
+ghost use Rattle.ext_cmd.specs.Grammar.{Any, Chooses, Ends, IsForce, Maybe, TakesVerb};
+ghost use Rattle.ext_cmd.specs.Keyword.{verb_text};
+ghost use Rattle.ext_cmd.specs.Reading.{ReadsAfterVerb, ReadsPart, no_words};
+ghost use Rattle.ext_cmd.specs.Words.{force_words, view_words};
+ghost use Rattle.ext_cmd.specs.declared.keyword.Verb.TheVariants as verbs;
+
+use crate::arguments::{next, no_more};
+use crate::command::ViewCommand;
+use crate::keyword::Verb;
+use crate::words::CmdErr;
+use ext_text::Text;
+
+// What is done with the extensions of a class.
+pub(crate) fn read_view(words: &[Text]) -> Result<ViewCommand, CmdErr>
+    ensures { ReadsPart view_words Any (Chooses verb_text TakesVerb) words.now 2 result }
+{
+    match next(words) {
+        None => Err(CmdErr::Usage { place: 2 }),
+        Some((word, more)) => match Verb::read(word) {
+            None => Err(CmdErr::Usage { place: 2 }),
+            Some(verb) => read_after(verb, more),
+        },
+    }
+}
+
+// A verb and the words after it.
+fn read_after(verb: Verb, more: &[Text]) -> Result<ViewCommand, CmdErr>
+    ensures { ReadsAfterVerb verb more.now result }
+{
+    match verb {
+        Verb::List => alone(ViewCommand::List, more),
+        Verb::Status => alone(ViewCommand::Status, more),
+        Verb::Unmerge => alone(ViewCommand::Unmerge, more),
+        Verb::Merge => read_merge(more),
+        Verb::Refresh => read_refresh(more),
+    }
+}
+
+// `merge [--force]`.
+fn read_merge(more: &[Text]) -> Result<ViewCommand, CmdErr>
+    ensures { ReadsAfterVerb verbs.Merge more.now result }
+{
+    let force = read_force(more)?;
+    Ok(ViewCommand::Merge { force })
+}
+
+// `refresh [--force]`.
+fn read_refresh(more: &[Text]) -> Result<ViewCommand, CmdErr>
+    ensures { ReadsAfterVerb verbs.Refresh more.now result }
+{
+    let force = read_force(more)?;
+    Ok(ViewCommand::Refresh { force })
+}
+
+// A command whose verb no word follows.
+fn alone(view: ViewCommand, more: &[Text]) -> Result<ViewCommand, CmdErr>
+    ensures { ReadsPart no_words (λ v. v ≡ view) Ends more.now 3 result }
+{
+    no_more(more, 3)?;
+    Ok(view)
+}
+
+// Whether `--force` stands there.
+fn read_force(words: &[Text]) -> Result<bool, CmdErr>
+    ensures { ReadsPart force_words Any (Maybe IsForce Ends) words.now 3 result }
+{
+    match next(words) {
+        None => Ok(false),
+        Some((word, more)) => {
+            if !is_force(word) {
+                return Err(CmdErr::Usage { place: 3 });
+            }
+            no_more(more, 4)?;
+            Ok(true)
+        }
+    }
+}
+
+// The option of `merge` and `refresh`.
+fn is_force(word: &[u8]) -> bool
+    ensures { IsTrue result ↔ (word.now ≡ codes "--force") }
+{
+    matches!(word, b"--force")
+}

@@ -1,0 +1,83 @@
+// The words of commands.
+ghost use Rattle.std.specs.Prelude.{◌∷◌};
+ghost use Rattle.ext_cmd.specs.Reading.{ReadsAfter, ReadsWords};
+
+use crate::arguments::next;
+use crate::command::Command;
+use crate::keyword::Keyword;
+use crate::readers::{
+    read_cat, read_check, read_compare, read_confext, read_import, read_init, read_layer,
+    read_migrate, read_remove, read_sysext, read_tree,
+};
+use ext_text::{OutOfMemory, Text, Words};
+use std::alloc::Global;
+use thiserror::Error;
+
+/// Why words give no command.
+#[derive(Clone, Copy, Debug, PartialEq, Eq, Error)]
+pub enum CmdErr {
+    /// An allocation failed.
+    #[error("out of memory")]
+    OutOfMemory,
+    /// The words are no command.
+    #[error("no command from word {place} on")]
+    Usage {
+        /// The place of the first fault, counted from 1: the least place such that no command begins with the words up to
+        /// it. Where a command begins with all of them, the place after the last.
+        place: u64,
+    },
+}
+
+impl From<OutOfMemory> for CmdErr {
+    ghost use Rattle.std.specs.Prelude.{◌≡◌};
+    ghost use Rattle.ext_cmd.specs.declared.words.CmdErr.TheVariants as errors;
+
+    ghost from_gives = { λ _ e. e ≡ errors.OutOfMemory };
+
+    fn from(_failed: OutOfMemory) -> CmdErr {
+        CmdErr::OutOfMemory
+    }
+}
+
+/// The command whose words these are.
+///
+/// # Errors
+/// `Usage` exactly where they are those of no command, with the place of the first fault; `OutOfMemory` may come at any
+/// words.
+pub fn read_words(alloc: Global, words: &Words) -> Result<Command, CmdErr>
+    ensures { ReadsWords words.now result }
+{
+    match next(words.as_slice()) {
+        None => Err(CmdErr::Usage { place: 1 }),
+        Some((word, more)) => read_from(alloc, word, more),
+    }
+}
+
+// The command of the first word and those after it.
+fn read_from(alloc: Global, word: &[u8], more: &[Text]) -> Result<Command, CmdErr>
+    ensures { ReadsWords (word.now ∷ more.now) result }
+{
+    match Keyword::read(word) {
+        None => Err(CmdErr::Usage { place: 1 }),
+        Some(keyword) => read_after(alloc, keyword, more),
+    }
+}
+
+// The command of a keyword and the words after it.
+fn read_after(alloc: Global, keyword: Keyword, more: &[Text]) -> Result<Command, CmdErr>
+    ensures { ReadsAfter keyword more.now result }
+{
+    match keyword {
+        Keyword::Init => read_init(alloc, more),
+        Keyword::ImportFs => read_import(alloc, more),
+        Keyword::Remove => read_remove(alloc, more),
+        Keyword::Sysext => read_sysext(more),
+        Keyword::Confext => read_confext(more),
+        Keyword::Tree => read_tree(alloc, more),
+        Keyword::Cat => read_cat(alloc, more),
+        Keyword::Compare => read_compare(alloc, more),
+        Keyword::Check => read_check(more),
+        Keyword::Layer => read_layer(more),
+        Keyword::Migrate => read_migrate(more),
+    }
+}
