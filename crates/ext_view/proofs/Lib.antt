@@ -1,0 +1,15 @@
+pub mod InsideLemmas
+pub mod ReplacedLemmas
+pub mod ImageLemmas
+pub mod MatchedLemmas
+pub mod SurveyLemmas
+pub mod FoundLemmas
+pub mod CountLemmas
+pub mod HostLemmas
+pub mod UnmergedLemmas
+pub mod LayerLemmas
+pub mod EntryLemmas
+pub mod ViewLemmas
+pub mod ChosenLemmas
+pub mod SampleLemmas
+pub mod LawsLemmas

@@ -1,0 +1,11 @@
+pub mod Errors
+pub mod Matched
+pub mod Hierarchies
+pub mod ImageRelease
+pub mod Survey
+pub mod View
+pub mod Plans
+pub mod Laws
+pub mod Judging
+pub mod Parts
+pub mod Layering
