@@ -1,0 +1,2 @@
+-- For the crates above: what a command wants of a store is fit for what is seen.
+pub use Rattle.ext_step.proofs.WantsLemmas.{wants_fit, first_wants_fit}

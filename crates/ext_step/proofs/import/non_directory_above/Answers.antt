@@ -1,0 +1,15 @@
+use Rattle.std.proofs.Common.{◌<◌, length, arith, sym, ap, ◌∙◌}
+use Rattle.ext_tree.specs.Graft.{is_non_directory_at}
+use Rattle.ext_tree.specs.Tree.{lookup}
+use Rattle.ext_step.proofs.ImportLemmas.{fewer_proper, open_above}
+use Rattle.ext_step.proofs.import.non_directory_above.Goals as goal
+
+pub returns-then-is_non_directory : goal.returns-then-is_non_directory
+returns-then-is_non_directory c =
+    rw c.in_ok-above.ensures (record {
+      above = fewer_proper c.counts.count c.args.path.now (omega (arith, ap length c.names-count-end.ensures.same));
+      stands = cc (c.is_non_directory.ensures, c.if-is_non_directory.true, c.get.ensures, c.in_ok-above.ensures);
+    })
+
+pub returns : goal.returns
+returns c = open_above c.args.tree.now c.args.path.now (λ k fewer. c.counts.invariant k (omega (arith, ap length c.names-count-end.ensures.same)))

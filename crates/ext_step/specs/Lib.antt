@@ -1,0 +1,13 @@
+pub mod DepotText
+pub mod Intents
+pub mod Init
+pub mod Change
+pub mod Import
+pub mod Remove
+pub mod Tree
+pub mod Cat
+pub mod Check
+pub mod Migrate
+pub mod Compare
+pub mod Layer
+pub mod Step

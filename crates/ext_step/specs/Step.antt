@@ -1,0 +1,45 @@
+-- What each command wants of a store, by what it sees of it and what the depot has: one line a command.
+use Rattle.std.specs.Prelude.{◌≡◌, Bool, true, false, Option, Some, None}
+use Rattle.ext_depot.specs.Depot.{DepotState}
+use Rattle.ext_cmd.specs.declared.command.Command.{Command}
+use Rattle.ext_cmd.specs.declared.command.Command.TheVariants.{Init, ImportFs, Remove, Sysext, Confext, Tree, Cat, Compare, Check, Layer, Migrate}
+use Rattle.ext_cmd.specs.declared.refusal.Refusal.TheVariants.{NoStore, StoreExists}
+use Rattle.ext_step.specs.Cat.{cat_intent}
+use Rattle.ext_step.specs.Import.{ImportWants}
+use Rattle.ext_step.specs.Init.{InitWants}
+use Rattle.ext_step.specs.Intents.{Seen}
+use Rattle.ext_step.specs.Migrate.{migrate_intent}
+use Rattle.ext_step.specs.Remove.{remove_intent}
+use Rattle.ext_step.specs.Tree.{meant_path, tree_intent}
+use Rattle.ext_step.specs.declared.intent.Intent.{Intent}
+use Rattle.ext_step.specs.declared.intent.Intent.TheVariants.{Checks, Refuses}
+
+-- where there is a store
+abbrev pub WantsOf : Seen → DepotState → Command → Intent → Type 0
+WantsOf seen depot (Init arch scope hierarchies) intent = intent ≡ Refuses StoreExists
+WantsOf seen depot (ImportFs resource path) intent = ImportWants seen.host depot resource path intent
+WantsOf seen depot (Remove path) intent = intent ≡ remove_intent seen.host path
+WantsOf seen depot (Sysext view) intent = ⊥
+WantsOf seen depot (Confext view) intent = ⊥
+WantsOf seen depot (Tree path) intent = intent ≡ tree_intent seen.host (meant_path path)
+WantsOf seen depot (Cat path) intent = intent ≡ cat_intent seen.host path
+WantsOf seen depot (Compare a b) intent = ⊥
+WantsOf seen depot Check intent = intent ≡ Checks
+WantsOf seen depot Layer intent = ⊥
+WantsOf seen depot Migrate intent = intent ≡ migrate_intent seen
+
+-- where there is none
+abbrev pub WantsFirst : Command → Intent → Type 0
+WantsFirst (Init arch scope hierarchies) intent = InitWants arch scope hierarchies intent
+WantsFirst _ intent = intent ≡ Refuses NoStore
+
+-- what a command wants
+abbrev pub Wants : Option Seen → DepotState → Command → Intent → Type 0
+Wants None depot command intent = WantsFirst command intent
+Wants (Some seen) depot command intent = WantsOf seen depot command intent
+
+-- a command of a store: `compare` and `layer` look at none
+abbrev pub is_of_store : Command → Bool
+is_of_store (Compare a b) = false
+is_of_store Layer = false
+is_of_store _ = true

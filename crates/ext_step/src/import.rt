@@ -1,0 +1,207 @@
+// The command `import-fs`.
+ghost use Rattle.std.specs.Prelude.{◌≡◌, ◌-◌, ◌^◌, min, IfOk, IfErr, MatchOption};
+ghost use Rattle.std.specs.Option.{option_copied};
+ghost use Rattle.ext_tree.specs.Graft.{IsOpen, is_non_directory_at};
+ghost use Rattle.ext_depot.specs.Depot.{IsKept};
+ghost use Rattle.ext_host.specs.Valid as valid;
+ghost use Rattle.ext_host.specs.Valid.{IsValidHost};
+ghost use Rattle.ext_cmd.specs.declared.refusal.Refusal.TheVariants.{Limit};
+ghost use Rattle.ext_step.specs.DepotText.{PlanCause};
+ghost use Rattle.ext_step.specs.Import.{FittingWants, ImportWants, IsUnder, PartWants, TextWants, TreeWants, sized};
+ghost use Rattle.ext_step.specs.declared.depot_text.DepotText.TheVariants.{Whole};
+ghost use Rattle.ext_step.specs.declared.intent.Intent.TheVariants.{Refuses};
+
+use crate::change::read_only_at;
+use crate::depot_text::{DepotText, read_depot_text};
+use crate::intent::Intent;
+use crate::plan_err::PlanErr;
+use ext_cmd::{Answer, Refusal, Resource};
+use ext_depot::Depot;
+use ext_host::{Held, Host, from_depot};
+use ext_text::{OutOfMemory, Path, Text, Which};
+use ext_tree::{Entry, MOST_ENTRIES, Stamp, Tree, TreeErr, TreeTextErr, read_tree};
+use std::alloc::Global;
+
+/// The most bytes of all files of a host.
+const MOST_BYTES: u64 = 4_294_967_296;
+
+/// What `import-fs` wants of a host, by what the depot has.
+///
+/// # Errors
+/// A fault of the depot, only where it counted one, and out of memory.
+pub(crate) fn import_step<P: Depot>(
+    alloc: Global,
+    host: &Host,
+    resource: &Resource,
+    path: &Path,
+    depot: &mut P,
+) -> Result<Intent, PlanErr>
+    requires { IsValidHost host.now }
+    ensures wants { IfOk result (ImportWants host.now (P.state depot.old) resource.now path.now) }
+    ensures kept { IsKept (P.state depot.old) (P.state depot.new) }
+    ensures cause { IfErr result (PlanCause (P.state depot.old).faults (P.state depot.new).faults) }
+{
+    let found = read_depot_text(alloc, depot, resource.tree_text())?;
+    Ok(import_text(alloc, host, resource, path, found)?)
+}
+
+// What it wants, by what was found at the path of the tree text.
+fn import_text(
+    alloc: Global,
+    host: &Host,
+    resource: &Resource,
+    path: &Path,
+    found: DepotText,
+) -> Result<Intent, OutOfMemory>
+    requires { IsValidHost host.now }
+    ensures { IfOk result (TextWants host.now resource.now path.now found) }
+{
+    match found {
+        DepotText::Absent => {
+            let path = resource.tree_text().copy()?;
+            Ok(Intent::Refuses(Refusal::NotInDepot { path }))
+        }
+        DepotText::TooLong => Ok(limit(Which::Text)),
+        DepotText::Whole(text) => import_whole(alloc, host, resource, path, &text),
+    }
+}
+
+// What it wants, by the bytes of the tree text.
+fn import_whole(
+    alloc: Global,
+    host: &Host,
+    resource: &Resource,
+    path: &Path,
+    text: &Text,
+) -> Result<Intent, OutOfMemory>
+    requires { IsValidHost host.now }
+    ensures { IfOk result (TextWants host.now resource.now path.now (Whole text.now)) }
+{
+    match read_tree(alloc, text.bytes()) {
+        Ok(tree) => import_tree(alloc, host, resource.path(), path, &tree),
+        Err(TreeTextErr::OutOfMemory) => Err(OutOfMemory),
+        Err(TreeTextErr::BadTree { line }) => {
+            let path = Some(resource.tree_text().copy()?);
+            Ok(Intent::Refuses(Refusal::BadTree { line, path }))
+        }
+    }
+}
+
+// What it wants, by the tree.
+fn import_tree(
+    alloc: Global,
+    host: &Host,
+    resource: &Path,
+    path: &Path,
+    tree: &Tree<Stamp>,
+) -> Result<Intent, OutOfMemory>
+    requires { IsValidHost host.now }
+    ensures { IfOk result (TreeWants host.now resource.now path.now tree.now) }
+{
+    if host.locks(path) {
+        let path = read_only_at(host, path)?;
+        return Ok(Intent::Refuses(Refusal::ReadOnly { path }));
+    }
+    match non_directory_above(&host.root, path)? {
+        Some(path) => Ok(Intent::Refuses(Refusal::NotDirectory { path })),
+        None => import_open(alloc, host, resource, path, tree),
+    }
+}
+
+// The path of an entry that is no directory and above the path, if there is one.
+fn non_directory_above(tree: &Tree<Held>, path: &Path) -> Result<Option<Path>, OutOfMemory>
+    ensures { IfOk result (λ found. MatchOption found (IsOpen tree.now path.now) (IsUnder tree.now path.now)) }
+{
+    'counts: for count in 0..path.names().len() {
+        let above = path.prefix(count)?;
+        if is_non_directory(tree.get(&above)) {
+            return Ok(Some(above));
+        }
+    }
+    Ok(None)
+}
+
+// Whether an entry that is no directory stands there.
+fn is_non_directory(entry: Option<&Entry<Held>>) -> bool
+    ensures { result ≡ is_non_directory_at (option_copied entry.entry) }
+{
+    match entry {
+        None => false,
+        Some(entry) => !entry.is_directory(),
+    }
+}
+
+// What it wants, where nothing but directories is above the path, which may be written.
+fn import_open(
+    alloc: Global,
+    host: &Host,
+    resource: &Path,
+    path: &Path,
+    tree: &Tree<Stamp>,
+) -> Result<Intent, OutOfMemory>
+    requires { IsOpen host.now.root path.now }
+    ensures { IfOk result (FittingWants host.now resource.now path.now tree.now) }
+{
+    match from_depot(alloc, tree, resource) {
+        Ok(part) => import_part(host, path, &part),
+        Err(TreeErr::OutOfMemory) => Err(OutOfMemory),
+        Err(_) => Ok(limit(Which::Path)),
+    }
+}
+
+// What it wants, by the tree with its files in the depot.
+fn import_part(host: &Host, path: &Path, part: &Tree<Held>) -> Result<Intent, OutOfMemory>
+    requires { IsOpen host.now.root path.now }
+    ensures { IfOk result (PartWants host.now path.now part.now) }
+{
+    let mut next = host.copy()?;
+    next.touch(path);
+    match next.root.graft(path, part) {
+        Ok(()) => Ok(sized(next)),
+        Err(TreeErr::OutOfMemory) => Err(OutOfMemory),
+        Err(TreeErr::Path) => Ok(limit(Which::Path)),
+        Err(TreeErr::Limit) => Ok(limit(Which::Entries)),
+        Err(TreeErr::NotDirectory | TreeErr::Exists) => unreachable!(),
+    }
+}
+
+// The coming host, where it is within the limits.
+fn sized(next: Host) -> Intent
+    ensures { result ≡ sized next }
+{
+    if next.root.entries() + next.lower.entries() > MOST_ENTRIES as u64 {
+        limit(Which::Entries)
+    } else if all_bytes(&next.root).saturating_add(all_bytes(&next.lower)) > MOST_BYTES {
+        limit(Which::Bytes)
+    } else {
+        Intent::Changes(next, Answer::Done)
+    }
+}
+
+// The bytes of all files of a tree, up to the last value of their type.
+fn all_bytes(tree: &Tree<Held>) -> u64
+    ensures { result ≡ min (valid.all_bytes tree.now) (2 ^ 64 - 1) }
+{
+    let mut sum = 0u64;
+    'pairs: for (_, entry) in tree.pairs() {
+        sum = sum.saturating_add(bytes_of(entry));
+    }
+    sum
+}
+
+// The bytes of an entry's file.
+fn bytes_of(entry: &Entry<Held>) -> u64
+    ensures { result ≡ valid.bytes_of entry.now }
+{
+    match entry {
+        Entry::File(_, held) => held.stamp().size,
+        _ => 0,
+    }
+}
+
+// The refusal of what would pass a limit.
+fn limit(which: Which) -> Intent
+    ensures { result ≡ Refuses (Limit which) }
+{
+    Intent::Refuses(Refusal::Limit { which })
+}

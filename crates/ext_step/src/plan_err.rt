@@ -1,0 +1,36 @@
+use ext_io::Failed;
+use ext_text::OutOfMemory;
+use thiserror::Error;
+
+/// Why nothing was planned.
+#[derive(Clone, Copy, Debug, PartialEq, Eq, Error)]
+pub enum PlanErr {
+    /// The depot had a fault.
+    #[error("depot fault")]
+    DepotFault,
+    /// An allocation failed.
+    #[error("out of memory")]
+    OutOfMemory,
+}
+
+impl From<OutOfMemory> for PlanErr {
+    ghost use Rattle.std.specs.Prelude.{◌≡◌};
+    ghost use Rattle.ext_step.specs.declared.plan_err.PlanErr.TheVariants as errors;
+
+    ghost from_gives = { λ _ e. e ≡ errors.OutOfMemory };
+
+    fn from(_failed: OutOfMemory) -> PlanErr {
+        PlanErr::OutOfMemory
+    }
+}
+
+impl From<Failed> for PlanErr {
+    ghost use Rattle.std.specs.Prelude.{◌≡◌};
+    ghost use Rattle.ext_step.specs.declared.plan_err.PlanErr.TheVariants as errors;
+
+    ghost from_gives = { λ _ e. e ≡ errors.DepotFault };
+
+    fn from(_failed: Failed) -> PlanErr {
+        PlanErr::DepotFault
+    }
+}
