@@ -1,6 +1,3 @@
-mod faults;
-mod reading;
-
 use super::*;
 use ext_host::{Attachment, Held, Host, Item, Manifest, Past, from_depot};
 use ext_text::{Arch, Digest, ListOf, Name, NameErr, Names, Path, PathErr, Paths, Scope};

@@ -1,9 +1,3 @@
-pub mod PlacedLemmas
-pub mod StoredLemmas
-pub mod ApplyingLemmas
-pub mod ReplacingLemmas
-pub mod CheckLemmas
-pub mod LineLemmas
-pub mod PiecesLemmas
-pub mod RunLemmas
-pub mod AloneLemmas
+pub mod WordsLemmas
+pub mod RunningLemmas
+pub mod ReplyLemmas

@@ -1,9 +1,11 @@
+pub mod Refusal
 pub mod Status
-pub mod Machine
-pub mod Exits
-pub mod Applying
-pub mod Replying
-pub mod Lines
-pub mod Alone
+pub mod Outcome
+pub mod Layer
+pub mod Compare
+pub mod Keyword
+pub mod Words
+pub mod Reading
+pub mod Step
 pub mod Running
 pub mod Laws

@@ -1,0 +1,5 @@
+use Rattle.ext_top.proofs.RunningLemmas.{run_completes}
+use Rattle.ext_top.proofs.running.run.Goals as goal
+
+pub returns-clause-complete : goal.returns-clause-complete
+returns-clause-complete g c = run_completes _ _ _ _ c.run_words.ensures.runs
