@@ -88,11 +88,11 @@ FindsWrong two g host (Some found) = (line : ℕ) × IsWrongAt two g host line �
 
 -- ---- the first faulty line
 
--- the lines run through, and a manifest says other than the base has; its line is as a count of 64 bits tells it
+-- the lines run through, and a manifest says other than the base has
 pub record HasWrongManifest (g : ℕ) (bytes : List ℕ) (line : ℕ) : Type 0 where
   pub said : Said
   pub is_said : IsSaid g bytes said
-  pub found : FindsWrong said.two g said.host (Some line)
+  pub wrong : IsWrongAt said.two g said.host line
 
 abbrev pub IsFaulty : ℕ → List ℕ → ℕ → Type 0
 IsFaulty g bytes line =

@@ -5,3 +5,4 @@ pub mod Faulty
 pub mod Reading
 pub mod Items
 pub mod Laws
+pub mod IndexLaws

@@ -6,6 +6,10 @@
 pub use Rattle.ext_reading.proofs.LawLemmas.{no_stop, one_reading, one_stop}
 -- what lines say that run through is a host that an index lists, and they are its text
 pub use Rattle.ext_reading.proofs.ListingLemmas.{said_is_listed}
+-- and the lines of its text say that host
+pub use Rattle.ext_reading.proofs.ListedLemmas.{listed_is_said}
+-- lines are not more than the bytes of their text
+pub use Rattle.ext_reading.proofs.FewLemmas.{lines_below_bytes}
 -- the lines of a run hold no newline
 pub use Rattle.ext_reading.proofs.OneStepLemmas.{runs_lack}
 -- ---- entries

@@ -26,13 +26,13 @@ use Rattle.ext_reading.proofs.SectionLemmas.{FirstLine, ToEnd, first_line_of}
 abbrev pub with_classes : SoFar → List (List ℕ) → List (List ℕ) → SoFar
 with_classes s sysext confext = record s { sysext_hier = s.sysext_hier ++ sysext; confext_hier = s.confext_hier ++ confext }
 
-no_more : (s : SoFar) → with_classes s [] [] ≡ s
+pub no_more : (s : SoFar) → with_classes s [] [] ≡ s
 no_more s = λ i. record s { sysext_hier = append-nil s.sysext_hier i; confext_hier = append-nil s.confext_hier i }
 
-more_sysext : (s : SoFar) (name : List ℕ) (xs ys : List (List ℕ)) → with_classes (with_sysext_hier s name) xs ys ≡ with_classes s (name ∷ xs) ys
+pub more_sysext : (s : SoFar) (name : List ℕ) (xs ys : List (List ℕ)) → with_classes (with_sysext_hier s name) xs ys ≡ with_classes s (name ∷ xs) ys
 more_sysext s name xs ys = λ i. record s { sysext_hier = append_assoc s.sysext_hier (name ∷ []) xs i; confext_hier = s.confext_hier ++ ys }
 
-more_confext : (s : SoFar) (name : List ℕ) (xs ys : List (List ℕ)) → with_classes (with_confext_hier s name) xs ys ≡ with_classes s xs (name ∷ ys)
+pub more_confext : (s : SoFar) (name : List ℕ) (xs ys : List (List ℕ)) → with_classes (with_confext_hier s name) xs ys ≡ with_classes s xs (name ∷ ys)
 more_confext s name xs ys = λ i. record s { sysext_hier = s.sysext_hier ++ xs; confext_hier = append_assoc s.confext_hier (name ∷ []) ys i }
 
 -- the hierarchies of both classes, however many they are
@@ -71,7 +71,7 @@ apart_more (x ∷ xs) names name apart other =
     ((λ has. elim (Contains-push_cases names name x has) [ inl old ↦ apart.0 old | inr new ↦ other.0 (sym new) ]), apart_more xs names name apart.1 other.1)
 
 -- and back
-none_of : (xs names more : List (List ℕ)) (name : List ℕ) → AllByRecursion (λ x. ¬ Contains (names ++ name ∷ more) x) xs → has_name xs name ≡ false
+pub none_of : (xs names more : List (List ℕ)) (name : List ℕ) → AllByRecursion (λ x. ¬ Contains (names ++ name ∷ more) x) xs → has_name xs name ≡ false
 none_of [] names more name apart = refl
 none_of (x ∷ xs) names more name apart =
     let out : eq_by_cmp bytes_cmp x name ≡ false = false_from_ne_true _ (λ tied. apart.0 (subst (Contains (names ++ name ∷ more)) (sym (same_name x name tied)) (there names more name))) in
@@ -85,7 +85,7 @@ none_of (x ∷ xs) names more name apart =
 plain_more : (xs : List (List ℕ)) (name : List ℕ) → AreAscending bytes_cmp xs → IsTrue (may_follow bytes_cmp (λ n. n) xs name) → AreAscending bytes_cmp (xs ++ name ∷ [])
 plain_more xs name up follows = subst (AreAscending bytes_cmp) (map_same (xs ++ name ∷ [])) (ascending_more bytes_cmp (λ n. n) bytes_total.trans xs name (subst (AreAscending bytes_cmp) (sym (map_same xs)) up) follows)
 
-plain_follows : (xs : List (List ℕ)) (name : List ℕ) (more : List (List ℕ)) → AreAscending bytes_cmp (xs ++ name ∷ more) → IsTrue (may_follow bytes_cmp (λ n. n) xs name)
+pub plain_follows : (xs : List (List ℕ)) (name : List ℕ) (more : List (List ℕ)) → AreAscending bytes_cmp (xs ++ name ∷ more) → IsTrue (may_follow bytes_cmp (λ n. n) xs name)
 plain_follows xs name more up = ascending_follows bytes_cmp (λ n. n) xs name more (subst (AreAscending bytes_cmp) (sym (map_same (xs ++ name ∷ more))) up)
 
 sysext_more : (s : SoFar) (more : ℕ) (name : List ℕ) → AreClasses s → IsName name → MaySysext s more name → AreClasses (with_sysext_hier s name)

@@ -18,4 +18,9 @@ pub mod DefaultLemmas
 pub mod HomeLemmas
 pub mod PastLemmas
 pub mod ListingLemmas
+pub mod ListedRowLemmas
+pub mod FewLemmas
+pub mod ClassRunLemmas
+pub mod ListedPartLemmas
+pub mod ListedLemmas
 pub mod ForCallers

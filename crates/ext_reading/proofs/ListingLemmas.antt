@@ -93,7 +93,7 @@ classes_of s are some other = record {
 }
 
 -- what has been read behind the line of the machine
-abbrev begun : Bool → Arch → Scope → SoFar
+abbrev pub begun : Bool → Arch → Scope → SoFar
 begun two arch scope = record start.so_far { two = two; arch = arch; scope = scope }
 
 no_classes : (two : Bool) (arch : Arch) (scope : Scope) → AreClasses (begun two arch scope)

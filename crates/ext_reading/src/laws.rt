@@ -1,5 +1,5 @@
 //! What follows from the definitions of reading alone.
-ghost use Rattle.ext_reading.specs.Laws.{NoStop, OneReading, OneStop, SaidIsListed};
+ghost use Rattle.ext_reading.specs.Laws.{ListedIsSaid, NoStop, OneReading, OneStop, SaidIsListed};
 
 /// Bytes whose lines run through say one thing and stop nowhere; others stop at one line at most.
 pub fn lines_are_read_in_one_way()
@@ -11,4 +11,10 @@ pub fn lines_are_read_in_one_way()
 /// What lines say that run through is a host that an index lists, and they are the lines of its text.
 pub fn what_is_said_is_listed()
     ensures { SaidIsListed }
+{}
+
+/// The lines of the text of a host that an index lists run through and say that host, where the text is not longer than a count
+/// on a line can tell.
+pub fn what_is_listed_is_said()
+    ensures { ListedIsSaid }
 {}

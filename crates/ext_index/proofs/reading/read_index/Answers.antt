@@ -2,6 +2,7 @@ use Rattle.std.proofs.Common.{◌≡◌, ℕ, ◌≤◌, length, inl, inr, subst
 use Rattle.ext_index.specs.Faulty.{FindsWrong}
 use Rattle.ext_index.specs.ValidIndex.{most_index_bytes}
 use Rattle.ext_index.proofs.ReadingLemmas.{index_said, manifests_now, manifests_past}
+use Rattle.ext_index.proofs.WrongLineLemmas.{wrong_exactly}
 use Rattle.ext_index.proofs.reading.read_index.Goals as goal
 
 -- src/reading.rt:31:11
@@ -30,12 +31,7 @@ returns-in-None c =
 -- src/reading.rt:24:1
 pub returns-in-Some : goal.returns-in-Some
 returns-in-Some c =
+    let range = c.ranges.generation.fits in
     let fits = c.if-bytes-gt-MOST_INDEX_BYTES.false in
-    inr (
-      omega arith,
-      inr (record {
-        said = c.in_ok-said.said;
-        is_said = c.in_ok-said.ensures;
-        found = subst (FindsWrong c.in_ok-said.said.two c.args.generation c.in_ok-said.said.host) c.in-Some.is (c.wrong_line.ensures c.args.generation);
-      }),
-    )
+    let found = subst (FindsWrong c.in_ok-said.said.two c.args.generation c.in_ok-said.said.host) c.in-Some.is (c.wrong_line.ensures c.args.generation) in
+    inr (omega arith, inr (wrong_exactly c.args.generation c.args.bytes.now c.in_ok-said.said c.in-Some.line (omega arith) (omega arith) c.in_ok-said.ensures found))
