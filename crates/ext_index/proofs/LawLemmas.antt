@@ -17,10 +17,8 @@ use Rattle.ext_host.specs.declared.past.Past.{Past}
 use Rattle.ext_reading.specs.Laws.{IsListing}
 use Rattle.ext_reading.specs.Listed.{IsListed, IsListedTree}
 use Rattle.ext_reading.specs.Reading.{IsSaid}
-use Rattle.ext_reading.specs.State.{host_of}
 use Rattle.ext_reading.specs.declared.said.Said.{Said}
-use Rattle.ext_reading.specs.declared.state.SoFar.{SoFar}
-use Rattle.ext_reading.proofs.ForCallers.{listed_is_said, no_stop, one_reading, one_stop}
+use Rattle.ext_reading.proofs.ForCallers.{listed_is_said, no_stop, one_said, one_stop}
 use Rattle.ext_index.specs.Faulty.{AreRight, HasWrongManifest, IsFaulty, IsRight, IsWrongAt}
 use Rattle.ext_index.specs.ValidIndex.{GivesIndex, IsIndexOf, IsValidFor, text_number}
 use Rattle.ext_index.proofs.WrongLineLemmas.{one_wrong_line, right_has_none}
@@ -89,12 +87,6 @@ index_says : (two : Bool) (g : ℕ) (host : Host) (bytes : List ℕ) → g ≤ 4
 index_says two g host bytes last index =
     let fits = index.fits in
     listed_is_said g bytes (said_with two host) last (omega arith) (record { formed = index.formed; listed = listed_host g host index.valid; text_1 = index.text_1; text = index.text })
-
--- bytes say one host
-one_said : (g : ℕ) (bytes : List ℕ) (a b : Said) → g ≤ 4294967295 → IsSaid g bytes a → IsSaid g bytes b → a ≡ b
-one_said g bytes a b last one other =
-    let same = one_reading g bytes one.so_far other.so_far last one.through other.through in
-    λ i. record { host = (one.host ∙ ap host_of same ∙ sym other.host) i; two = (one.two ∙ ap (λ (s : SoFar). s.two) same ∙ sym other.two) i }
 
 pub one_host : (g : ℕ) (bytes : List ℕ) (a b : Host × ℕ) → g ≤ 4294967295 → GivesIndex g bytes a → GivesIndex g bytes b → a ≡ b
 one_host g bytes a b last one other =

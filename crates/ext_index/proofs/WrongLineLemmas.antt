@@ -82,7 +82,7 @@ past_within g host trees tree after parted =
 
 no_more : {X : Type 0} (xs : List X) (x : X) (ys : List X) → [] ≡ xs ++ x ∷ ys → ⊥
 no_more xs x ys none =
-    let empty : length {A = _} [] ≡ length (xs ++ x ∷ ys) = ap length none in
+    let empty : 0 ≡ length (xs ++ x ∷ ys) = ap length none in
     let both = length-append xs (x ∷ ys) in
     omega arith
 

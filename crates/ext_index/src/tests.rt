@@ -1,3 +1,6 @@
+mod faults;
+mod reading;
+
 use super::*;
 use ext_host::{Attachment, Held, Host, Item, Manifest, Past, from_depot};
 use ext_text::{Arch, Digest, ListOf, Name, NameErr, Names, Path, PathErr, Paths, Scope};

@@ -2,8 +2,8 @@
 
 -- ---- reading lines
 
--- bytes say one thing, stop nowhere where their lines run through, and stop at one line at most
-pub use Rattle.ext_reading.proofs.LawLemmas.{no_stop, one_reading, one_stop}
+-- bytes say one host, stop nowhere where their lines run through, and stop at one line at most
+pub use Rattle.ext_reading.proofs.LawLemmas.{no_stop, one_said, one_stop}
 -- what lines say that run through is a host that an index lists, and they are its text
 pub use Rattle.ext_reading.proofs.ListingLemmas.{said_is_listed}
 -- and the lines of its text say that host

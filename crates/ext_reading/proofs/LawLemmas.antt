@@ -4,8 +4,9 @@ use Rattle.std.specs.List.{AllByRecursion}
 use Rattle.ext_lines.specs.Lines.{lines_text}
 use Rattle.ext_lines.specs.Split.{IsSplit, Lacks}
 use Rattle.ext_lines.proofs.ForCallers.{split_once}
-use Rattle.ext_reading.specs.Reading.{IsRead, RunsThrough, StopsAt}
-use Rattle.ext_reading.specs.State.{at, start}
+use Rattle.ext_reading.specs.Reading.{IsRead, IsSaid, RunsThrough, StopsAt}
+use Rattle.ext_reading.specs.State.{at, host_of, start}
+use Rattle.ext_reading.specs.declared.said.Said.{Said}
 use Rattle.ext_reading.specs.Step.{Runs, Steps}
 use Rattle.ext_reading.specs.declared.state.Reading.{Reading}
 use Rattle.ext_reading.specs.declared.state.SoFar.{SoFar}
@@ -85,6 +86,12 @@ one_reading g bytes s t last p q =
       | inr (inl on) ↦ absurd (at_end g t q.lines on.next on.more _ last q.runs (subst (λ ls. Runs g start ls (at s stages.Done)) on.lines p.runs))
       | inr (inr same) ↦ ap (λ (r : Reading). r.so_far) (runs_once g start (at s stages.Done) (at t stages.Done) q.lines last (subst (λ ls. Runs g start ls (at s stages.Done)) same.0 p.runs) q.runs)
     ]
+
+-- and one host, as the text of one number
+pub one_said : (g : ℕ) (bytes : List ℕ) (a b : Said) → g ≤ 4294967295 → IsSaid g bytes a → IsSaid g bytes b → a ≡ b
+one_said g bytes a b last one other =
+    let same = one_reading g bytes one.so_far other.so_far last one.through other.through in
+    λ i. record { host = (one.host ∙ ap host_of same ∙ sym other.host) i; two = (one.two ∙ ap (λ (s : SoFar). s.two) same ∙ sym other.two) i }
 
 pub no_stop : (g : ℕ) (bytes : List ℕ) (s : SoFar) (line : ℕ) → g ≤ 4294967295 → RunsThrough g bytes s → ¬ StopsAt g bytes line
 no_stop g bytes s line last through stop =
