@@ -1,5 +1,5 @@
 -- Counts that stop at the last number of 64 bits.
-use Rattle.std.proofs.Common.{◌≡◌, ℕ, ◌+◌, List, [], ◌∷◌, ◌++◌, length, sym, ap, ◌∙◌, length-append, codes, arith}
+use Rattle.std.proofs.Common.{◌≡◌, ℕ, ◌+◌, List, ◌∷◌, ◌++◌, length, sym, ap, ◌∙◌, length-append, codes, arith}
 use Rattle.std.specs.List.{flat_map}
 use Rattle.ext_host.specs.Host.{HostTree}
 use Rattle.ext_host.specs.declared.manifest.Manifest.{Manifest}

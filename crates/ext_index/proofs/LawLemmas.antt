@@ -1,5 +1,5 @@
 -- An index is that of one host, and none is faulty; faulty bytes are faulty at one line.
-use Rattle.std.proofs.Common.{◌≡◌, ◌≢◌, ℕ, ◌<◌, ◌≤◌, Bool, true, false, ◌⊎◌, inl, inr, List, [], ◌∷◌, length, refl, sym, ap, ◌∙◌, subst, arith}
+use Rattle.std.proofs.Common.{◌≡◌, ◌≢◌, ℕ, ◌≤◌, Bool, true, inl, inr, List, [], ◌∷◌, length, refl, sym, ap, ◌∙◌, subst, arith}
 use Rattle.std.proofs.lemmas.Bool.{false≢true}
 use Rattle.std.specs.Prelude.{IsTrue, Option, Some}
 use Rattle.std.specs.List.{AllByRecursion}
@@ -14,12 +14,11 @@ use Rattle.ext_host.specs.declared.host.Host.{Host}
 use Rattle.ext_host.specs.declared.manifest.Item.{Item}
 use Rattle.ext_host.specs.declared.manifest.Manifest.{Manifest}
 use Rattle.ext_host.specs.declared.past.Past.{Past}
-use Rattle.ext_reading.specs.Laws.{IsListing}
 use Rattle.ext_reading.specs.Listed.{IsListed, IsListedTree}
 use Rattle.ext_reading.specs.Reading.{IsSaid}
 use Rattle.ext_reading.specs.declared.said.Said.{Said}
 use Rattle.ext_reading.proofs.ForCallers.{listed_is_said, no_stop, one_said, one_stop}
-use Rattle.ext_index.specs.Faulty.{AreRight, HasWrongManifest, IsFaulty, IsRight, IsWrongAt}
+use Rattle.ext_index.specs.Faulty.{AreRight, IsFaulty, IsRight, IsWrongAt}
 use Rattle.ext_index.specs.ValidIndex.{GivesIndex, IsIndexOf, IsValidFor, text_number}
 use Rattle.ext_index.proofs.WrongLineLemmas.{one_wrong_line, right_has_none}
 

@@ -1,17 +1,16 @@
 -- What was read, as an index of a valid host.
-use Rattle.std.proofs.Common.{◌≡◌, ℕ, ◌≤◌, List, [], ◌∷◌, length}
+use Rattle.std.proofs.Common.{ℕ, ◌≤◌, List, [], ◌∷◌, length}
 use Rattle.std.specs.List.{AllByRecursion}
 use Rattle.ext_host.specs.Host.{Hierarchies, HostTree, hierarchies_in, past_tree, present}
 use Rattle.ext_host.specs.Valid.{IsManifest, IsValidHost, IsValidTree}
 use Rattle.ext_host.specs.declared.past.Past.{Past}
 use Rattle.ext_host.specs.declared.host.Host.{Host}
-use Rattle.ext_reading.specs.Laws.{IsListing}
 use Rattle.ext_reading.specs.Listed.{IsListed, IsListedTree}
 use Rattle.ext_reading.specs.Reading.{IsSaid}
 use Rattle.ext_reading.specs.declared.said.Said.{Said}
 use Rattle.ext_reading.proofs.ForCallers.{said_is_listed}
 use Rattle.ext_index.specs.Faulty.{AreRight, IsRight}
-use Rattle.ext_index.specs.ValidIndex.{IsIndexOf, IsValidFor, most_index_bytes}
+use Rattle.ext_index.specs.ValidIndex.{IsIndexOf, most_index_bytes}
 
 -- ---- a tree whose manifests say what the base has is valid
 

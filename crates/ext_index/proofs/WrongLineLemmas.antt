@@ -1,5 +1,5 @@
 -- The line of a manifest that says other than the base has: it is one of the index's lines, and there is one such line.
-use Rattle.std.proofs.Common.{◌≡◌, ℕ, ◌+◌, ◌<◌, ◌≤◌, Bool, true, false, ◌⊎◌, inl, inr, List, [], ◌∷◌, ◌++◌, length, refl, sym, ap, ◌∙◌, subst, arith, codes, length-append}
+use Rattle.std.proofs.Common.{◌≡◌, ℕ, ◌+◌, ◌≤◌, Bool, true, false, inl, inr, List, [], ◌∷◌, ◌++◌, length, refl, sym, ap, ◌∙◌, subst, arith, codes, length-append}
 use Rattle.std.specs.Prelude.{Some}
 use Rattle.std.specs.List.{AllByRecursion, flat_map}
 use Rattle.std.proofs.lemmas.List.Concat.{flat_map-append}
@@ -10,12 +10,11 @@ use Rattle.ext_host.specs.declared.past.Past.{Past}
 use Rattle.ext_host.specs.declared.host.Host.{Host}
 use Rattle.ext_record.specs.Lines.{number_line}
 use Rattle.ext_record.specs.Out.{at_most_64_bits}
-use Rattle.ext_reading.specs.Laws.{IsListing}
 use Rattle.ext_reading.specs.Listed.{IsOfText1}
 use Rattle.ext_reading.specs.Reading.{IsSaid}
 use Rattle.ext_reading.specs.declared.said.Said.{Said}
 use Rattle.ext_reading.proofs.ForCallers.{lines_below_bytes, said_is_listed}
-use Rattle.ext_index.specs.Faulty.{AreRight, FindsWrong, HasWrongManifest, IsFirstWrong, IsRight, IsWrongAt, IsWrongNow, IsWrongPast, head_lines, lines_to_kept, lines_to_past}
+use Rattle.ext_index.specs.Faulty.{AreRight, FindsWrong, HasWrongManifest, IsFirstWrong, IsRight, IsWrongAt, IsWrongPast, head_lines, lines_to_kept, lines_to_past}
 use Rattle.ext_index.specs.Index.{attachment_lines, index_lines, index_text, machine_lines, manifest_lines, merged_lines, past_lines, record_lines, section_lines, tree_lines}
 use Rattle.ext_index.specs.ValidIndex.{most_index_bytes}
 

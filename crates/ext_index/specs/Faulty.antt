@@ -5,8 +5,6 @@
 -- than the base has is faulty at its first line.
 use Rattle.std.specs.Prelude.{◌≡◌, ℕ, ◌+◌, ◌<◌, ◌≤◌, Bool, false, if◌then◌else◌, ◌⊎◌, List, [], ◌∷◌, ◌++◌, length, codes, Option, Some, None}
 use Rattle.std.specs.List.{AllByRecursion, flat_map}
-use Rattle.ext_tree.specs.declared.entry.Entry.{Entry}
-use Rattle.ext_host.specs.Held.{HeldFile}
 use Rattle.ext_host.specs.Host.{Hierarchies, HostTree, base_at, hierarchies_in, past_tree, present}
 use Rattle.ext_host.specs.Valid.{HasItems}
 use Rattle.ext_host.specs.declared.manifest.Manifest.{Manifest}

@@ -1,5 +1,5 @@
 -- The items of files: what a manifest should say of them, in path order.
-use Rattle.std.specs.Prelude.{ℕ, List, [], ◌∷◌, ◌++◌, Option, Some, None}
+use Rattle.std.specs.Prelude.{ℕ, List, [], ◌∷◌}
 use Rattle.std.specs.List.{flat_map}
 use Rattle.ext_tree.specs.Tree.{Entries}
 use Rattle.ext_tree.specs.declared.entry.Entry.{Entry}

@@ -1,18 +1,16 @@
 -- The lines of attachments, read and printed.
-use Rattle.std.proofs.Common.{◌≡◌, ℕ, zero, suc, ◌<◌, ◌≤◌, Bool, List, [], ◌∷◌, ◌++◌, length, Option, refl, sym, ap, ◌∙◌, subst, arith, codes}
-use Rattle.std.specs.Prelude.{map}
+use Rattle.std.proofs.Common.{◌≡◌, ℕ, zero, suc, ◌≤◌, Bool, List, [], ◌∷◌, ◌++◌, length, refl, sym, ap, ◌∙◌, subst, arith, codes}
 use Rattle.std.specs.List.{AllByRecursion, flat_map}
 use Rattle.ext_lines.specs.ByteOrder.{bytes_cmp, bytes_total}
-use Rattle.ext_text.specs.Name.{IsName}
 use Rattle.ext_text.specs.Order.{paths_total}
 use Rattle.ext_text.specs.Path.{IsPath, path_cmp}
-use Rattle.ext_text.proofs.ForCallers.{all_both, all_weaker}
+use Rattle.ext_text.proofs.ForCallers.{all_weaker}
 use Rattle.ext_host.specs.Valid.{AreAscending, AreAttachments, IsAttachment}
 use Rattle.ext_host.specs.declared.attachment.Attachment.{Attachment}
 use Rattle.ext_record.specs.Lines.{IsLinePath, attachment_line, number_line, path_line, worded}
 use Rattle.ext_reading.specs.Index.{attachment_lines}
 use Rattle.ext_reading.specs.Listed.{IsWellFormedAttachment}
-use Rattle.ext_reading.specs.State.{at_part, no_parts, then_added, then_attached}
+use Rattle.ext_reading.specs.State.{at_part, then_added, then_attached}
 use Rattle.ext_reading.specs.Step.{most_count}
 use Rattle.ext_reading.specs.declared.state.PartStage.TheVariants as parts
 use Rattle.ext_reading.specs.declared.state.Parts.{Parts}

@@ -1,5 +1,5 @@
 -- The lines of hierarchies of two classes lead on.
-use Rattle.std.proofs.Common.{◌≡◌, ℕ, zero, suc, ◌+◌, ◌<◌, ◌≤◌, false, not, inl, inr, List, [], ◌∷◌, ◌++◌, length, IsTrue, refl, sym, ap, ◌∙◌, subst, arith, append_assoc, append-nil, length-append}
+use Rattle.std.proofs.Common.{◌≡◌, ℕ, suc, ◌+◌, ◌<◌, ◌≤◌, not, inl, inr, List, [], ◌∷◌, ◌++◌, length, refl, sym, ap, ◌∙◌, subst, arith, append_assoc, append-nil, length-append}
 use Rattle.std.specs.Prelude.{Contains, map}
 use Rattle.std.specs.List.{AllByRecursion}
 use Rattle.ext_lines.specs.ByteOrder.{bytes_cmp}
@@ -9,7 +9,6 @@ use Rattle.ext_host.specs.Valid.{AreAscending}
 use Rattle.ext_record.specs.Lines.{hierarchy_line}
 use Rattle.ext_reading.specs.State.{at_part, then_hierarchies, with_confext_hier, with_sysext_hier}
 use Rattle.ext_reading.specs.declared.state.PartStage.TheVariants as parts
-use Rattle.ext_reading.specs.declared.state.Reading.{Reading}
 use Rattle.ext_reading.specs.declared.state.SoFar.{SoFar}
 use Rattle.ext_reading.proofs.HierarchyLemmas.{class_lines, more_confext, more_sysext, no_more, none_of, plain_follows, with_classes}
 use Rattle.ext_reading.proofs.SectionLemmas.{ToEnd}

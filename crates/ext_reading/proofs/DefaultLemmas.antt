@@ -1,12 +1,10 @@
 -- The default hierarchies are hierarchies of two classes.
-use Rattle.std.proofs.Common.{◌≡◌, ℕ, zero, suc, ◌<◌, true, List, [], ◌∷◌, ◌++◌, get_or, length, refl, ap, arith, codes}
+use Rattle.std.proofs.Common.{◌≡◌, ℕ, zero, suc, ◌<◌, true, List, [], ◌∷◌, get_or, length, refl, ap, arith}
 use Rattle.std.specs.Prelude.{Contains}
 use Rattle.std.specs.List.{AllByRecursion}
 use Rattle.std.proofs.lemmas.Str.{IsUtf8-from_ascii}
 use Rattle.std.proofs.lemmas.List.Elements.{All-from_recursion}
 use Rattle.ext_text.specs.Name.{IsName, is_name_byte}
-use Rattle.ext_text.specs.declared.class.Class.TheVariants.{Sysext, Confext}
-use Rattle.ext_host.specs.Host.{default_hierarchies}
 use Rattle.ext_reading.specs.State.{with_defaults}
 use Rattle.ext_reading.specs.declared.state.SoFar.{SoFar}
 use Rattle.ext_reading.proofs.HierarchyLemmas.{AreClasses}

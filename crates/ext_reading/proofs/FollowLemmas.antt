@@ -1,22 +1,22 @@
 -- Lists to which each item was added behind the last one: they ascend, and an ascending list is made so.
-use Rattle.std.proofs.Common.{◌≡◌, ℕ, suc, ◌+◌, ◌-◌, Bool, true, false, not, ◌&&◌, ◌||◌, ◌⊎◌, inl, inr, List, [], ◌∷◌, ◌++◌, length, Option, Some, None, IsTrue, refl, sym, ap, ◌∙◌, subst, arith, append_assoc, append-nil}
+use Rattle.std.proofs.Common.{◌≡◌, ℕ, suc, ◌-◌, true, false, not, ◌||◌, List, [], ◌∷◌, ◌++◌, length, Some, IsTrue, refl, sym, ap, ◌∙◌, subst, arith, append_assoc, append-nil}
 use Rattle.std.specs.Prelude.{map, slice_get}
-use Rattle.std.proofs.lemmas.Bool.{and_parts, and_from, false≢true, not-true, true≢false, false_from_ne_true}
+use Rattle.std.proofs.lemmas.Bool.{and_parts, and_from, not-true, true≢false, false_from_ne_true}
 use Rattle.std.proofs.lemmas.List.{map-append}
 use Rattle.std.specs.Cmp.{IsTotalOrder, nat_cmp_total, on_total, then_total}
 use Rattle.std.specs.Cmp.Lexicographic.{lists_total, nat_list_cmp_total}
 use Rattle.std.specs.List.{AllByRecursion}
 use Rattle.std.specs.Ordering.{is_gt, is_lt}
 use Rattle.std.specs.declared.cmp.Ordering.{Ordering}
-use Rattle.std.specs.declared.cmp.Ordering.TheVariants.{Less, Equal, Greater}
+use Rattle.std.specs.declared.cmp.Ordering.TheVariants.{Less}
 use Rattle.ext_lines.specs.ByteOrder.{bytes_total}
 use Rattle.ext_text.specs.Order.{paths_total}
 use Rattle.ext_text.specs.Path.{are_related, is_prefix, path_cmp}
-use Rattle.ext_text.proofs.ForCallers.{all_append, all_back, all_prefix, convex, is_less, prefix_order}
-use Rattle.ext_vers.specs.Version.{letters, order_of, rank, token_cmp, tokens, value, version_cmp}
+use Rattle.ext_text.proofs.ForCallers.{all_append, convex, is_less, prefix_order}
+use Rattle.ext_vers.specs.Version.{letters, order_of, rank, token_cmp, tokens, value}
 use Rattle.ext_host.specs.Valid.{AreApart, AreAscending}
 use Rattle.ext_host.specs.declared.manifest.Manifest.{Manifest}
-use Rattle.ext_host.proofs.ForCallers.{ascending_next, ascending_prefix, ascending_push}
+use Rattle.ext_host.proofs.ForCallers.{ascending_next}
 use Rattle.ext_reading.specs.Rules.{comes_after, comes_apart, last_of, may_follow, may_follow_apart}
 use Rattle.ext_reading.proofs.SectionLemmas.{AllMay, after}
 

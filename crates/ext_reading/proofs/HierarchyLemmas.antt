@@ -1,26 +1,25 @@
 -- The lines of hierarchies, read and printed.
-use Rattle.std.proofs.Common.{◌≡◌, ◌≢◌, ℕ, zero, suc, ◌+◌, ◌<◌, ◌≤◌, Bool, true, false, not, ◌||◌, ◌⊎◌, inl, inr, List, [], ◌∷◌, ◌++◌, length, IsTrue, refl, sym, ap, ◌∙◌, subst, arith, append_assoc, append-nil, length-append}
+use Rattle.std.proofs.Common.{◌≡◌, ◌≢◌, ℕ, zero, suc, ◌+◌, ◌<◌, ◌≤◌, Bool, true, false, not, ◌||◌, inl, inr, List, [], ◌∷◌, ◌++◌, length, IsTrue, refl, sym, ap, ◌∙◌, subst, arith, append_assoc, append-nil, length-append}
 use Rattle.std.specs.Prelude.{map, Contains}
 use Rattle.std.proofs.lemmas.Bool.{false_from_ne_true, not-true, true≢false}
 use Rattle.std.proofs.lemmas.List.Elements.{Contains-append_left, Contains-push, Contains-push_cases}
-use Rattle.std.specs.List.{AllByRecursion, list_any}
+use Rattle.std.specs.List.{AllByRecursion}
 use Rattle.std.specs.Ordering.{eq_by_cmp}
 use Rattle.ext_lines.specs.ByteOrder.{bytes_cmp, bytes_total}
 use Rattle.ext_text.specs.Name.{IsName}
 use Rattle.ext_text.specs.declared.class.Class.TheVariants.{Sysext, Confext}
-use Rattle.ext_text.proofs.ForCallers.{all_append, all_back, all_prefix, all_weaker, same_name, tied_name}
+use Rattle.ext_text.proofs.ForCallers.{all_append, same_name, tied_name}
 use Rattle.ext_host.specs.Valid.{AreAscending}
 use Rattle.ext_record.specs.Lines.{hierarchy_line}
 use Rattle.ext_reading.specs.State.{at, at_part, then_hierarchies, with_confext_hier, with_sysext_hier}
 use Rattle.ext_reading.specs.Rules.{may_follow}
 use Rattle.ext_reading.specs.Step.{MayConfext, MaySysext, has_name}
 use Rattle.ext_reading.specs.declared.state.PartStage.TheVariants as parts
-use Rattle.ext_reading.specs.declared.state.Reading.{Reading}
 use Rattle.ext_reading.specs.declared.state.SoFar.{SoFar}
 use Rattle.ext_reading.specs.declared.state.Stage.TheVariants as stages
-use Rattle.ext_reading.proofs.FollowLemmas.{ascending_follows, ascending_more, snoc}
+use Rattle.ext_reading.proofs.FollowLemmas.{ascending_follows, ascending_more}
 use Rattle.ext_reading.proofs.MergedLemmas.{map_same}
-use Rattle.ext_reading.proofs.SectionLemmas.{FirstLine, ToEnd, first_line_of}
+use Rattle.ext_reading.proofs.SectionLemmas.{ToEnd, first_line_of}
 
 -- with more hierarchies of both classes
 abbrev pub with_classes : SoFar → List (List ℕ) → List (List ℕ) → SoFar

@@ -1,5 +1,5 @@
 -- Homes over all trees of an index: each file is kept up to its generation, and files of one home have one stamp.
-use Rattle.std.proofs.Common.{◌≡◌, ℕ, ◌≤◌, List, [], ◌∷◌, Option, Some, refl, sym, ap, ◌∙◌, subst}
+use Rattle.std.proofs.Common.{◌≡◌, ℕ, List, [], ◌∷◌, Some, sym, ◌∙◌, subst}
 use Rattle.std.specs.Prelude.{map}
 use Rattle.std.proofs.lemmas.List.Elements.{All-contains, All-from_recursion}
 use Rattle.std.specs.List.{AllByRecursion}
@@ -9,8 +9,7 @@ use Rattle.ext_tree.specs.declared.entry.Entry.TheVariants.{Dir, Opaque, File, L
 use Rattle.ext_tree.specs.declared.stamp.Stamp.{Stamp}
 use Rattle.ext_host.specs.Drawn.{IsFileOf}
 use Rattle.ext_host.specs.Held.{HeldFile}
-use Rattle.ext_host.specs.declared.body.Body.{Body}
-use Rattle.ext_host.specs.declared.body.Body.TheVariants.{Here, Kept, Depot}
+use Rattle.ext_host.specs.declared.body.Body.TheVariants.{Kept}
 use Rattle.ext_host.specs.declared.home.Home.{Home}
 use Rattle.ext_record.specs.Homed.{HasHomedLine, homed_form}
 use Rattle.ext_record.specs.Homes.{kept_entry}
@@ -18,9 +17,8 @@ use Rattle.ext_record.specs.declared.homed.Homed.{Homed}
 use Rattle.ext_tree.specs.EntryLine.{IsWritable}
 use Rattle.ext_reading.specs.Listed.{IsKeptUpTo}
 use Rattle.ext_reading.specs.Stamps.{Agrees, Stamps, noted, stamp_at}
-use Rattle.ext_reading.specs.State.{row_of}
 use Rattle.ext_reading.specs.Step.{IsUpTo}
-use Rattle.ext_reading.proofs.PartsLemmas.{all_found, all_map}
+use Rattle.ext_reading.proofs.PartsLemmas.{all_found}
 use Rattle.ext_reading.proofs.RowLemmas.{AllAgree, Row, noted_all, rows_of}
 use Rattle.ext_reading.proofs.StampLemmas.{noted_keeps, noted_same}
 

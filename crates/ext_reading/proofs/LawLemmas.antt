@@ -1,10 +1,10 @@
 -- Bytes are read in one way: the lines of one reading are the first lines of every other.
-use Rattle.std.proofs.Common.{◌≡◌, ℕ, ◌+◌, ◌≤◌, ◌⊎◌, inl, inr, List, [], ◌∷◌, ◌++◌, length, refl, sym, ap, ◌∙◌, subst, arith, append_assoc, append-nil}
+use Rattle.std.proofs.Common.{◌≡◌, ℕ, ◌+◌, ◌≤◌, ◌⊎◌, inl, inr, List, [], ◌∷◌, ◌++◌, length, refl, sym, ap, ◌∙◌, subst, append_assoc, append-nil}
 use Rattle.std.specs.List.{AllByRecursion}
 use Rattle.ext_lines.specs.Lines.{lines_text}
-use Rattle.ext_lines.specs.Split.{IsSplit, Lacks}
+use Rattle.ext_lines.specs.Split.{Lacks}
 use Rattle.ext_lines.proofs.ForCallers.{split_once}
-use Rattle.ext_reading.specs.Reading.{IsRead, IsSaid, RunsThrough, StopsAt}
+use Rattle.ext_reading.specs.Reading.{IsSaid, RunsThrough, StopsAt}
 use Rattle.ext_reading.specs.State.{at, host_of, start}
 use Rattle.ext_reading.specs.declared.said.Said.{Said}
 use Rattle.ext_reading.specs.Step.{Runs, Steps}

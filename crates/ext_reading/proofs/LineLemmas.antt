@@ -1,7 +1,6 @@
 -- What a line that may not stand next says of every reading of it.
-use Rattle.std.proofs.Common.{◌≡◌, ◌≢◌, ◌↔◌, ℕ, ◌≤◌, Bool, true, false, ◌⊎◌, inl, inr, List, [], ◌∷◌, ◌++◌, Option, Some, None, codes, ◌<◌, IsTrue, refl, sym, ap, ◌∙◌, subst, arith}
+use Rattle.std.proofs.Common.{◌≡◌, ◌↔◌, ℕ, ◌≤◌, Bool, false, inl, inr, List, Option, Some, None, codes, ◌<◌, IsTrue, sym, ◌∙◌, subst, arith}
 use Rattle.std.proofs.lemmas.Bool.{false≢true}
-use Rattle.ext_tree.specs.Tree.{IsTree}
 use Rattle.ext_tree.specs.declared.entry.Entry.{Entry}
 use Rattle.ext_record.specs.Homed.{HasHomedLine, homed_line}
 use Rattle.ext_record.specs.declared.homed.Homed.{Homed}

@@ -1,21 +1,18 @@
 -- The text of a listed host says that host.
-use Rattle.std.proofs.Common.{◌≡◌, ℕ, zero, suc, ◌+◌, ◌<◌, ◌≤◌, Bool, true, false, List, [], ◌∷◌, ◌++◌, length, refl, sym, ap, ◌∙◌, subst, arith, codes, append_assoc, append-nil, length-append}
-use Rattle.std.specs.Prelude.{Contains, map}
-use Rattle.std.proofs.lemmas.Bool.{true≢false}
+use Rattle.std.proofs.Common.{◌≡◌, ℕ, zero, suc, ◌+◌, ◌≤◌, Bool, true, false, List, [], ◌∷◌, ◌++◌, length, refl, sym, ap, subst, arith, codes, length-append}
+use Rattle.std.specs.Prelude.{Contains}
 use Rattle.std.specs.List.{AllByRecursion, flat_map}
-use Rattle.ext_lines.specs.Lines.{lines_text}
-use Rattle.ext_text.specs.declared.class.Class.TheVariants.{Sysext, Confext}
 use Rattle.ext_tree.specs.Tree.{Entries}
 use Rattle.ext_host.specs.Drawn.{trees_of}
 use Rattle.ext_host.specs.Held.{HeldFile}
-use Rattle.ext_host.specs.Host.{default_hierarchies, hierarchies_in, past_tree, present}
+use Rattle.ext_host.specs.Host.{hierarchies_in, past_tree, present}
 use Rattle.ext_host.specs.declared.host.Host.{Host}
 use Rattle.ext_host.specs.declared.past.Past.{Past}
-use Rattle.ext_record.specs.Lines.{header_line, host_line, number_line}
-use Rattle.ext_reading.specs.Index.{hierarchy_lines, index_lines, index_text, lines_1, lines_2, machine_lines, past_lines, section_lines}
+use Rattle.ext_record.specs.Lines.{number_line}
+use Rattle.ext_reading.specs.Index.{index_lines, index_text, lines_1, lines_2, machine_lines, past_lines, section_lines}
 use Rattle.ext_reading.specs.Laws.{IsListing}
 use Rattle.ext_reading.specs.Listed.{IsListed, IsListedTree, IsOfText1, IsWellFormed, IsWellFormedTree}
-use Rattle.ext_reading.specs.Reading.{IsSaid, RunsThrough}
+use Rattle.ext_reading.specs.Reading.{IsSaid}
 use Rattle.ext_reading.specs.State.{at, at_part, hierarchies_so_far, host_done, host_of, start, then_hierarchies, then_past, with_defaults}
 use Rattle.ext_reading.specs.declared.said.Said.{Said}
 use Rattle.ext_reading.specs.declared.state.PartStage.TheVariants as parts
@@ -23,7 +20,7 @@ use Rattle.ext_reading.specs.declared.state.SoFar.{SoFar}
 use Rattle.ext_reading.specs.declared.state.Stage.TheVariants as stages
 use Rattle.ext_reading.proofs.ClassRunLemmas.{classes_run}
 use Rattle.ext_reading.proofs.FewLemmas.{few_of_lines, few_of_pasts, lines_below_bytes}
-use Rattle.ext_reading.proofs.HierarchyLemmas.{class_lines, with_classes}
+use Rattle.ext_reading.proofs.HierarchyLemmas.{with_classes}
 use Rattle.ext_reading.proofs.ListedPartLemmas.{AreKeptIn, ArePastsIn, IsListedIn, behind_pasts, behind_tree, host_behind_pasts, pasts_run, tree_leads, two_behind_pasts}
 use Rattle.ext_reading.proofs.ListedRowLemmas.{none_noted}
 use Rattle.ext_reading.proofs.ListingLemmas.{begun}

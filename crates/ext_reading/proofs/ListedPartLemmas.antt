@@ -1,5 +1,5 @@
 -- The parts of a listed host, and its past trees, lead on.
-use Rattle.std.proofs.Common.{◌≡◌, ℕ, zero, suc, ◌+◌, ◌<◌, ◌≤◌, List, [], ◌∷◌, ◌++◌, length, refl, sym, ap, ◌∙◌, subst, arith, codes, append_assoc, append-nil, length-append}
+use Rattle.std.proofs.Common.{◌≡◌, ℕ, ◌+◌, ◌<◌, ◌≤◌, List, [], ◌∷◌, ◌++◌, length, refl, sym, ◌∙◌, subst, arith, append_assoc, append-nil, length-append}
 use Rattle.std.specs.Prelude.{Contains, map}
 use Rattle.std.specs.List.{AllByRecursion, flat_map}
 use Rattle.std.specs.Ordering.{nat_cmp}
@@ -9,21 +9,19 @@ use Rattle.ext_host.specs.Held.{HeldFile}
 use Rattle.ext_host.specs.Host.{HostTree, past_tree}
 use Rattle.ext_host.specs.Valid.{AreAscending, all_bytes, most_past}
 use Rattle.ext_host.specs.declared.past.Past.{Past}
-use Rattle.ext_record.specs.Lines.{number_line}
 use Rattle.ext_reading.specs.Index.{past_lines, section_lines}
 use Rattle.ext_reading.specs.Listed.{IsKeptUpTo, IsListedTree, IsWellFormedTree}
 use Rattle.ext_reading.specs.State.{after_parts, at, at_part, hierarchies_so_far, host_of, no_parts, past_done, then_past}
 use Rattle.ext_reading.specs.declared.state.PartStage.TheVariants as parts
-use Rattle.ext_reading.specs.declared.state.Reading.{Reading}
 use Rattle.ext_reading.specs.declared.state.SoFar.{SoFar}
 use Rattle.ext_reading.specs.declared.state.Stage.TheVariants as stages
 use Rattle.ext_reading.specs.declared.state.Whose.TheVariants as whose
 use Rattle.ext_reading.proofs.FollowLemmas.{ascending_follows}
-use Rattle.ext_reading.proofs.ListedRowLemmas.{AgreeIn, AreOfFiles, FileIn, files_in_tree, listed_rows, rows_agree, rows_back, rows_have_lines}
+use Rattle.ext_reading.proofs.ListedRowLemmas.{AgreeIn, AreOfFiles, files_in_tree, listed_rows, rows_agree, rows_back, rows_have_lines}
 use Rattle.ext_reading.proofs.MergedLemmas.{with_parts}
 use Rattle.ext_reading.proofs.PartsLemmas.{AreFew, IsPartsOf, behind, parts_run, tree_with}
 use Rattle.ext_reading.proofs.PastLemmas.{generation_of}
-use Rattle.ext_reading.proofs.RowLemmas.{Row, noted_all, rows_of}
+use Rattle.ext_reading.proofs.RowLemmas.{noted_all}
 use Rattle.ext_reading.proofs.SectionLemmas.{ToEnd}
 
 -- what has been read behind the parts of a tree

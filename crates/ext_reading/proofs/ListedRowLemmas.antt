@@ -1,6 +1,6 @@
 -- The entries of a listed host as the rows of its index: each has a line, its file is kept up to the generation, and the homes
 -- that are noted are those of the host's files, so that no two differ in their stamps.
-use Rattle.std.proofs.Common.{◌≡◌, ℕ, zero, suc, ◌<◌, ◌≤◌, List, [], ◌∷◌, length, Option, Some, None, IsTrue, refl, sym, ap, ◌∙◌, subst, arith}
+use Rattle.std.proofs.Common.{◌≡◌, ℕ, zero, suc, ◌<◌, ◌≤◌, List, [], ◌∷◌, length, Some, None, refl, sym, ap, ◌∙◌, arith}
 use Rattle.std.specs.Prelude.{Contains, is_some, map, slice_get}
 use Rattle.std.proofs.lemmas.Bool.{false≢true}
 use Rattle.std.specs.List.{AllByRecursion}
@@ -22,7 +22,7 @@ use Rattle.ext_record.specs.Homed.{HasHomedLine, homed_form}
 use Rattle.ext_record.specs.Homes.{home_of, kept_entry, listed_entry, listed_file}
 use Rattle.ext_record.specs.declared.homed.Homed.{Homed}
 use Rattle.ext_reading.specs.Listed.{IsHomeUpTo, IsKeptUpTo}
-use Rattle.ext_reading.specs.Stamps.{Agrees, FileAgrees, IsOrNone, Stamps, noted, noted_file, stamp_at}
+use Rattle.ext_reading.specs.Stamps.{Agrees, IsOrNone, Stamps, noted, noted_file, stamp_at}
 use Rattle.ext_reading.specs.Step.{IsUpTo}
 use Rattle.ext_reading.proofs.RowLemmas.{AllAgree, Row, noted_all, rows_of}
 use Rattle.ext_reading.proofs.StampLemmas.{noted_other, noted_same, same_or_other}

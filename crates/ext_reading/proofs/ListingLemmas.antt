@@ -1,37 +1,34 @@
 -- Lines that run through are the text of a host that an index lists.
-use Rattle.std.proofs.Common.{◌≡◌, ◌≢◌, ℕ, ◌+◌, ◌<◌, ◌≤◌, Bool, true, false, List, [], ◌∷◌, ◌++◌, length, refl, sym, ap, ◌∙◌, subst, arith, codes, append_assoc}
+use Rattle.std.proofs.Common.{◌≡◌, ◌≢◌, ℕ, ◌+◌, ◌<◌, ◌≤◌, Bool, true, false, List, [], ◌∷◌, ◌++◌, length, refl, sym, ap, ◌∙◌, subst, arith, codes}
 use Rattle.std.specs.Prelude.{map}
 use Rattle.std.proofs.lemmas.Bool.{true≢false}
-use Rattle.std.specs.List.{AllByRecursion, flat_map}
+use Rattle.std.specs.List.{flat_map}
 use Rattle.ext_lines.specs.Lines.{lines_text}
-use Rattle.ext_text.specs.Name.{IsName}
 use Rattle.ext_text.specs.declared.arch.Arch.{Arch}
 use Rattle.ext_text.specs.declared.class.Class.TheVariants.{Sysext, Confext}
 use Rattle.ext_text.specs.declared.scope.Scope.{Scope}
 use Rattle.ext_text.specs.declared.scope.Scope.TheVariants.{Portable}
-use Rattle.ext_tree.specs.Tree.{Entries}
 use Rattle.ext_host.specs.Drawn.{IsFileOf, trees_of}
 use Rattle.ext_host.specs.Host.{HostTree, default_hierarchies, present}
 use Rattle.ext_host.specs.Valid.{AreOfClasses}
 use Rattle.ext_host.specs.declared.host.Host.{Host}
 use Rattle.ext_host.specs.declared.past.Past.{Past}
-use Rattle.ext_record.specs.Lines.{header_line, hierarchy_line, host_line, number_line}
-use Rattle.ext_reading.specs.Index.{index_lines, index_text, lines_1, lines_2, machine_lines, past_lines, section_lines}
+use Rattle.ext_record.specs.Lines.{header_line, host_line, number_line}
+use Rattle.ext_reading.specs.Index.{index_lines, index_text, lines_2, past_lines, section_lines}
 use Rattle.ext_reading.specs.Laws.{IsListing}
 use Rattle.ext_reading.specs.Listed.{AreKeptUpTo, IsListed, IsOfText1, IsWellFormed}
-use Rattle.ext_reading.specs.Reading.{IsSaid, RunsThrough}
-use Rattle.ext_reading.specs.State.{at, at_part, host_done, host_of, no_parts, start, then_hierarchies, then_machine, with_defaults}
+use Rattle.ext_reading.specs.Reading.{IsSaid}
+use Rattle.ext_reading.specs.State.{at, at_part, host_done, host_of, start, then_machine, with_defaults}
 use Rattle.ext_reading.specs.declared.said.Said.{Said}
 use Rattle.ext_reading.specs.declared.state.PartStage.TheVariants as parts
 use Rattle.ext_reading.specs.declared.state.Reading.{Reading}
 use Rattle.ext_reading.specs.declared.state.SoFar.{SoFar}
 use Rattle.ext_reading.specs.declared.state.Stage.TheVariants as stages
-use Rattle.ext_reading.specs.declared.state.Whose.TheVariants as whose
 use Rattle.ext_reading.proofs.DefaultLemmas.{defaults_are_classes}
 use Rattle.ext_reading.proofs.HierarchyLemmas.{AreClasses, class_lines, classes_read, with_classes}
 use Rattle.ext_reading.proofs.HomeLemmas.{TreesAgree, TreesHaveLines, files_agree, files_are_kept}
-use Rattle.ext_reading.proofs.PartsLemmas.{PartsRead, behind, parts_read, tree_with}
-use Rattle.ext_reading.proofs.PastLemmas.{PastsRead, pasts_read, trees_in}
+use Rattle.ext_reading.proofs.PartsLemmas.{behind, parts_read}
+use Rattle.ext_reading.proofs.PastLemmas.{pasts_read}
 use Rattle.ext_reading.proofs.RowLemmas.{Row, rows_of}
 use Rattle.ext_reading.proofs.SectionLemmas.{ToEnd, first_line_of}
 

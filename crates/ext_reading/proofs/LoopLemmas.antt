@@ -1,18 +1,16 @@
 -- The loop over lines: what one line more makes of what was read, and how it ends.
-use Rattle.std.proofs.Common.{◌≡◌, ◌≢◌, ℕ, ◌+◌, ◌≤◌, List, [], ◌∷◌, ◌++◌, length, Result, Ok, Err, refl, sym, ap, ◌∙◌, subst, arith, length-append, append-nil}
-use Rattle.std.specs.List.{AllByRecursion}
+use Rattle.std.proofs.Common.{◌≡◌, ℕ, ◌+◌, ◌≤◌, List, [], ◌∷◌, ◌++◌, length, Result, Ok, Err, refl, sym, ap, ◌∙◌, subst, arith, length-append, append-nil}
 use Rattle.ext_lines.specs.Lines.{lines_text}
 use Rattle.ext_lines.specs.Split.{IsSplit, Lacks}
 use Rattle.ext_lines.proofs.ForCallers.{lines_text-push, split_none, split_once}
 use Rattle.ext_text.proofs.ForCallers.{all_append}
-use Rattle.ext_reading.specs.Reading.{Finishes, IsRead, IsSaid, ReadsLines, RunsThrough, StopsAt}
+use Rattle.ext_reading.specs.Reading.{Finishes, IsRead, ReadsLines, StopsAt}
 use Rattle.ext_reading.specs.State.{at, start}
 use Rattle.ext_reading.specs.Step.{Runs, Steps}
 use Rattle.ext_reading.specs.declared.err.IndexErr.{IndexErr}
 use Rattle.ext_reading.specs.declared.err.IndexErr.TheVariants.{OutOfMemory, Broken}
 use Rattle.ext_reading.specs.declared.said.Said.{Said}
 use Rattle.ext_reading.specs.declared.state.Reading.{Reading}
-use Rattle.ext_reading.specs.declared.state.Stage.TheVariants as stages
 
 -- after a line there are fewer bytes
 pub split_short : (bytes line more : List ℕ) → IsSplit 10 bytes line more → length more + 1 ≤ length bytes

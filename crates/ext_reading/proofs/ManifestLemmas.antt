@@ -1,5 +1,5 @@
 -- The lines of kept manifests, read and printed.
-use Rattle.std.proofs.Common.{◌≡◌, ℕ, zero, suc, ◌<◌, ◌≤◌, List, [], ◌∷◌, ◌++◌, length, Option, refl, sym, ap, ◌∙◌, subst, arith, codes}
+use Rattle.std.proofs.Common.{◌≡◌, ℕ, zero, suc, ◌≤◌, List, [], ◌∷◌, ◌++◌, length, refl, sym, ap, ◌∙◌, subst, arith, codes}
 use Rattle.std.specs.Prelude.{map}
 use Rattle.std.specs.List.{AllByRecursion, flat_map}
 use Rattle.ext_text.specs.Digest.{IsDigest}
@@ -9,7 +9,7 @@ use Rattle.ext_text.proofs.ForCallers.{all_weaker}
 use Rattle.ext_host.specs.Valid.{AreApart, AreAscending, IsManifest}
 use Rattle.ext_host.specs.declared.manifest.Item.{Item}
 use Rattle.ext_host.specs.declared.manifest.Manifest.{Manifest}
-use Rattle.ext_record.specs.Lines.{IsLinePath, item_line, manifest_line, number_line}
+use Rattle.ext_record.specs.Lines.{IsLinePath, manifest_line, number_line}
 use Rattle.ext_reading.specs.Index.{line_of_item, manifest_lines}
 use Rattle.ext_reading.specs.Listed.{IsWellFormedManifest}
 use Rattle.ext_reading.specs.State.{at_part, then_items, then_kept}

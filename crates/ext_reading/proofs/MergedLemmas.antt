@@ -7,8 +7,8 @@ use Rattle.ext_vers.specs.Version.{order_of}
 use Rattle.ext_host.specs.Valid.{AreAscending, AreMerged}
 use Rattle.ext_record.specs.Lines.{number_line, worded}
 use Rattle.ext_reading.specs.Index.{merged_lines}
-use Rattle.ext_reading.specs.State.{at_part, no_parts, then_confext, then_sysext, with_confext, with_sysext}
-use Rattle.ext_reading.specs.Step.{AttachedAt, ConfextAt, most_count}
+use Rattle.ext_reading.specs.State.{at_part, no_parts, then_confext, then_sysext}
+use Rattle.ext_reading.specs.Step.{most_count}
 use Rattle.ext_reading.specs.declared.state.PartStage.TheVariants as parts
 use Rattle.ext_reading.specs.declared.state.Parts.{Parts}
 use Rattle.ext_reading.specs.declared.state.Reading.{Reading}

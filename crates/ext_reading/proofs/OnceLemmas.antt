@@ -1,14 +1,12 @@
 -- Each line of an index says one thing.
-use Rattle.std.proofs.Common.{◌≡◌, ◌≢◌, ℕ, ◌<◌, ◌≤◌, ◌^◌, Bool, true, false, cond, eqb, List, [], ◌∷◌, ◌++◌, length, get_or, drop, Option, Some, None, refl, sym, ap, ◌∙◌, subst, arith, codes, decimal}
+use Rattle.std.proofs.Common.{◌≡◌, ℕ, ◌<◌, ◌≤◌, Bool, true, false, eqb, List, [], ◌∷◌, ◌++◌, length, get_or, drop, refl, sym, ap, ◌∙◌, subst, arith, codes}
 use Rattle.std.specs.Prelude.{if◌then◌else◌}
 use Rattle.std.proofs.lemmas.Fmt.{decimal_injective}
-use Rattle.std.proofs.lemmas.Bool.{false≢true}
-use Rattle.ext_lines.proofs.ForCallers.{split_same, split_once}
+use Rattle.ext_lines.proofs.ForCallers.{split_once}
 use Rattle.ext_text.specs.Arch.{arch_name}
 use Rattle.ext_text.specs.Class.{class_name}
 use Rattle.ext_text.specs.Digest.{IsDigest}
 use Rattle.ext_text.specs.Name.{IsName}
-use Rattle.ext_text.specs.Path.{IsPath, path_text}
 use Rattle.ext_text.specs.Scope.{scope_name}
 use Rattle.ext_text.specs.declared.arch.Arch.{Arch}
 use Rattle.ext_text.specs.declared.arch.Arch.TheVariants.{X86, X86_64, Arm, Arm64, Riscv64, S390x, Ppc64Le, Loongarch64}

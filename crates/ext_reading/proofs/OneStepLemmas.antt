@@ -1,5 +1,5 @@
 -- A line is read in one way, and holds no newline.
-use Rattle.std.proofs.Common.{◌≡◌, ◌≢◌, ℕ, ◌<◌, ◌≤◌, Bool, true, false, ◌⊎◌, inl, inr, List, [], ◌∷◌, ◌++◌, sym, ap, ◌∙◌, subst, arith, codes, decimal, refl}
+use Rattle.std.proofs.Common.{◌≡◌, ℕ, ◌≤◌, Bool, true, false, inl, inr, List, [], ◌∷◌, ◌++◌, sym, ap, ◌∙◌, subst, arith, codes, decimal, refl}
 use Rattle.std.specs.List.{AllByRecursion}
 use Rattle.ext_lines.specs.Split.{Lacks}
 use Rattle.ext_lines.proofs.ForCallers.{decimal_lacks, differs, hex_lacks, lacks_append, lacks_cons}
@@ -7,27 +7,20 @@ use Rattle.ext_text.proofs.ForCallers.{path_lacks}
 use Rattle.ext_tree.proofs.ForCallers.{line_lacks}
 use Rattle.ext_record.proofs.ForCallers.{homed_lack, lacks_by}
 use Rattle.ext_text.specs.Arch.{arch_name}
-use Rattle.ext_text.specs.Class.{class_name}
-use Rattle.ext_text.specs.Digest.{IsDigest}
 use Rattle.ext_text.specs.Name.{IsName}
-use Rattle.ext_text.specs.Path.{IsPath, path_text}
+use Rattle.ext_text.specs.Path.{path_text}
 use Rattle.ext_text.specs.Scope.{scope_name}
 use Rattle.ext_text.specs.declared.arch.Arch.{Arch}
 use Rattle.ext_text.specs.declared.arch.Arch.TheVariants.{X86, X86_64, Arm, Arm64, Riscv64, S390x, Ppc64Le, Loongarch64}
-use Rattle.ext_text.specs.declared.class.Class.{Class}
 use Rattle.ext_text.specs.declared.class.Class.TheVariants as classes
-use Rattle.ext_text.specs.declared.digest.Digest.{Digest}
 use Rattle.ext_text.specs.declared.scope.Scope.{Scope}
 use Rattle.ext_text.specs.declared.scope.Scope.TheVariants as scopes
-use Rattle.ext_host.specs.declared.attachment.Attachment.{Attachment}
-use Rattle.ext_host.specs.declared.manifest.Item.{Item}
-use Rattle.ext_host.specs.declared.manifest.Manifest.{Manifest}
 use Rattle.ext_tree.specs.declared.entry.Entry.{Entry}
 use Rattle.ext_record.specs.Homed.{homed_form}
-use Rattle.ext_record.specs.Lines.{IsLinePath, attachment_line, header_line, hierarchy_line, host_line, item_line, manifest_line, number_line, path_line, worded}
+use Rattle.ext_record.specs.Lines.{IsLinePath, attachment_line, header_line, number_line, path_line, worded}
 use Rattle.ext_record.specs.declared.homed.Homed.{Homed}
 use Rattle.ext_reading.specs.State.{at, at_part, then_added, then_attached, then_confext, then_hierarchies, then_items, then_kept, then_lower, then_machine, then_past, then_root, then_sysext, with_confext_hier, with_lower, with_root, with_sysext_hier}
-use Rattle.ext_reading.specs.Step.{AttachedAt, ConfextAt, PartStepsAt, Runs, Steps, StepsAt, SysextAt, most_count}
+use Rattle.ext_reading.specs.Step.{AttachedAt, ConfextAt, PartStepsAt, Runs, Steps, StepsAt, SysextAt}
 use Rattle.ext_reading.specs.declared.state.PartStage.{PartStage}
 use Rattle.ext_reading.specs.declared.state.PartStage.TheVariants as parts
 use Rattle.ext_reading.specs.declared.state.Reading.{Reading}

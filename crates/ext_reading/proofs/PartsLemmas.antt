@@ -1,12 +1,9 @@
 -- The parts of a host, or of a past tree, read and printed.
-use Rattle.std.proofs.Common.{◌≡◌, ℕ, ◌+◌, ◌<◌, ◌≤◌, true, false, cond, List, [], ◌∷◌, ◌++◌, length, Option, Some, None, IfSome, IsTrue, is_some, refl, sym, ap, ◌∙◌, subst, arith, codes, append_assoc, length-append}
+use Rattle.std.proofs.Common.{◌≡◌, ℕ, ◌+◌, ◌≤◌, true, false, cond, List, [], ◌∷◌, ◌++◌, length, Option, Some, None, IfSome, IsTrue, is_some, refl, sym, ap, ◌∙◌, subst, arith, codes, append_assoc}
 use Rattle.std.specs.Prelude.{map}
 use Rattle.std.proofs.lemmas.Bool.{false≢true}
-use Rattle.std.proofs.lemmas.List.{length-map}
-use Rattle.std.specs.List.{AllByRecursion, flat_map}
-use Rattle.std.specs.FinMap.{find}
+use Rattle.std.specs.List.{AllByRecursion}
 use Rattle.std.specs.Ordering.{eq_by_cmp}
-use Rattle.ext_text.specs.Name.{IsName}
 use Rattle.ext_text.specs.Digest.{IsDigest}
 use Rattle.ext_text.specs.Path.{IsPath, path_cmp}
 use Rattle.ext_text.proofs.ForCallers.{all_weaker, same_path}
@@ -18,27 +15,25 @@ use Rattle.ext_text.specs.Order.{paths_total}
 use Rattle.ext_tree.proofs.ForCallers.{each_found, empty_tree}
 use Rattle.ext_host.specs.Held.{HeldFile}
 use Rattle.ext_host.specs.Host.{HostTree, is_in, merged_hierarchies}
-use Rattle.ext_host.specs.Valid.{AreApart, AreAscending, AreAttachments, AreInRange, AreMerged, IsManifest, IsWithinLimits, all_bytes, held_form}
+use Rattle.ext_host.specs.Valid.{AreApart, AreAscending, AreAttachments, AreInRange, AreMerged, IsManifest, all_bytes, held_form}
 use Rattle.ext_host.specs.declared.attachment.Attachment.{Attachment}
 use Rattle.ext_host.specs.declared.manifest.Item.{Item}
 use Rattle.ext_host.specs.declared.manifest.Manifest.{Manifest}
-use Rattle.ext_record.specs.Homed.{HasHomedLine, IsHomed, homed_form}
+use Rattle.ext_record.specs.Homed.{HasHomedLine, homed_form}
 use Rattle.ext_record.specs.Homes.{kept_entry}
 use Rattle.ext_record.specs.declared.homed.Homed.{Homed}
 use Rattle.ext_reading.specs.Index.{merged_lines, section_lines, tree_lines}
 use Rattle.ext_reading.specs.Listed.{IsListedTree, IsWellFormedManifest, IsWellFormedTree}
-use Rattle.ext_reading.specs.Stamps.{Stamps}
-use Rattle.ext_reading.specs.State.{after_parts, at_part, hierarchies_so_far, merged_so_far, no_parts, row_of, tree_of}
+use Rattle.ext_reading.specs.State.{after_parts, at_part, hierarchies_so_far, no_parts, row_of}
 use Rattle.ext_reading.specs.Step.{most_count}
 use Rattle.ext_reading.specs.declared.state.PartStage.TheVariants as parts
 use Rattle.ext_reading.specs.declared.state.Parts.{Parts}
-use Rattle.ext_reading.specs.declared.state.Reading.{Reading}
 use Rattle.ext_reading.specs.declared.state.SoFar.{SoFar}
 use Rattle.ext_reading.proofs.AttachmentLemmas.{attached_read, attached_run, counted_attachments, line_path}
 use Rattle.ext_reading.proofs.FollowLemmas.{path_of}
 use Rattle.ext_reading.proofs.ManifestLemmas.{IsListedItem, IsListedManifest, counted_manifests, kept_read, kept_run}
 use Rattle.ext_reading.proofs.MergedLemmas.{confext_read, confext_run, sysext_read, sysext_run, with_parts}
-use Rattle.ext_reading.proofs.RowLemmas.{AllAgree, LowerFacts, RootFacts, Row, lower_read, lower_run, noted_all, root_read, root_run, rows_of, with_lowers, with_roots}
+use Rattle.ext_reading.proofs.RowLemmas.{AllAgree, LowerFacts, RootFacts, Row, lower_read, lower_run, noted_all, root_read, root_run, rows_of, with_roots}
 use Rattle.ext_reading.proofs.SectionLemmas.{ToEnd}
 
 -- ---- entries

@@ -1,5 +1,5 @@
 -- Past trees, read.
-use Rattle.std.proofs.Common.{◌≡◌, ℕ, zero, suc, ◌+◌, ◌<◌, ◌≤◌, List, [], ◌∷◌, ◌++◌, length, refl, sym, ap, ◌∙◌, subst, arith, codes, append_assoc, append-nil, length-append}
+use Rattle.std.proofs.Common.{◌≡◌, ℕ, zero, suc, ◌<◌, ◌≤◌, List, [], ◌∷◌, ◌++◌, length, refl, sym, ap, ◌∙◌, subst, arith, codes, append_assoc, append-nil, length-append}
 use Rattle.std.specs.Prelude.{map}
 use Rattle.std.specs.Cmp.{nat_cmp_total}
 use Rattle.std.specs.List.{AllByRecursion, flat_map}
@@ -8,21 +8,18 @@ use Rattle.ext_tree.specs.Tree.{Entries}
 use Rattle.ext_host.specs.Held.{HeldFile}
 use Rattle.ext_host.specs.Host.{HostTree, past_tree}
 use Rattle.ext_host.specs.Valid.{AreAscending, most_past}
-use Rattle.ext_host.specs.declared.host.Host.{Host}
 use Rattle.ext_host.specs.declared.past.Past.{Past}
 use Rattle.ext_record.specs.Lines.{number_line}
 use Rattle.ext_reading.specs.Index.{past_lines, section_lines}
 use Rattle.ext_reading.specs.Listed.{IsListedTree, IsWellFormedTree}
-use Rattle.ext_reading.specs.State.{at, hierarchies_so_far, host_of, no_parts, past_done, past_of, then_past}
-use Rattle.ext_reading.specs.declared.state.PartStage.TheVariants as parts
-use Rattle.ext_reading.specs.declared.state.Reading.{Reading}
+use Rattle.ext_reading.specs.State.{at, hierarchies_so_far, host_of, no_parts, past_done, then_past}
 use Rattle.ext_reading.specs.declared.state.SoFar.{SoFar}
 use Rattle.ext_reading.specs.declared.state.Stage.TheVariants as stages
 use Rattle.ext_reading.specs.declared.state.Whose.TheVariants as whose
 use Rattle.ext_reading.proofs.FollowLemmas.{ascending_more}
 use Rattle.ext_reading.proofs.HomeLemmas.{TreesAgree, TreesHaveLines}
 use Rattle.ext_reading.proofs.MergedLemmas.{with_parts}
-use Rattle.ext_reading.proofs.PartsLemmas.{PartsRead, behind, parts_read, tree_with}
+use Rattle.ext_reading.proofs.PartsLemmas.{behind, parts_read, tree_with}
 use Rattle.ext_reading.proofs.RowLemmas.{Row, rows_of}
 use Rattle.ext_reading.proofs.SectionLemmas.{ToEnd, first_line_of}
 

@@ -1,13 +1,13 @@
 -- The lines of what is seen and of what lies under it, read and printed.
-use Rattle.std.proofs.Common.{◌≡◌, ℕ, zero, suc, ◌+◌, ◌<◌, ◌≤◌, List, [], ◌∷◌, ◌++◌, length, IsTrue, refl, sym, ap, ◌∙◌, subst, arith, codes, append_assoc, append-nil, add_assoc, add-zero, length-append}
+use Rattle.std.proofs.Common.{◌≡◌, ℕ, zero, suc, ◌+◌, ◌≤◌, List, [], ◌∷◌, ◌++◌, length, IsTrue, refl, sym, ap, ◌∙◌, subst, arith, codes, append_assoc, append-nil, add_assoc, add-zero, length-append}
 use Rattle.std.specs.Prelude.{map}
 use Rattle.std.proofs.lemmas.List.{length-map}
 use Rattle.std.proofs.lemmas.List.Sums.{sum_by-cons}
-use Rattle.std.specs.List.{AllByRecursion, flat_map, sum_by}
+use Rattle.std.specs.List.{AllByRecursion}
 use Rattle.ext_tree.specs.Tree.{Entries, IsTree, most_entries}
 use Rattle.ext_tree.specs.declared.entry.Entry.{Entry}
 use Rattle.ext_tree.specs.declared.entry.Entry.TheVariants.{Dir, Opaque, File, Link, Hide}
-use Rattle.ext_tree.proofs.ForCallers.{empty_tree, pop_tree}
+use Rattle.ext_tree.proofs.ForCallers.{pop_tree}
 use Rattle.ext_host.specs.Held.{HeldFile}
 use Rattle.ext_host.specs.Host.{is_in}
 use Rattle.ext_host.specs.Valid.{all_bytes, bytes_of, most_bytes}
@@ -20,7 +20,6 @@ use Rattle.ext_reading.specs.Stamps.{Agrees, Stamps, noted}
 use Rattle.ext_reading.specs.State.{after_parts, at_part, merged_so_far, row_of, then_lower, then_root, with_lower, with_root}
 use Rattle.ext_reading.specs.Step.{IsUpTo, MayEnter, most_count}
 use Rattle.ext_reading.specs.declared.state.PartStage.TheVariants as parts
-use Rattle.ext_reading.specs.declared.state.Reading.{Reading}
 use Rattle.ext_reading.specs.declared.state.SoFar.{SoFar}
 use Rattle.ext_reading.proofs.MergedLemmas.{flat_single}
 use Rattle.ext_reading.proofs.SectionLemmas.{AllMay, Opened, ToEnd, after, again, first_line_of, peel}

@@ -1,6 +1,6 @@
 -- Sections of an index: so many items, each on its lines. A run over the lines of a section and what follows them tells its
 -- items, and items that may follow one another have such a run.
-use Rattle.std.proofs.Common.{◌≡◌, ◌≢◌, ℕ, zero, suc, List, [], ◌∷◌, ◌++◌, length, refl, sym, ap, ◌∙◌, subst, arith, append_assoc}
+use Rattle.std.proofs.Common.{◌≡◌, ℕ, zero, suc, List, [], ◌∷◌, ◌++◌, length, refl, sym, ap, ◌∙◌, subst, arith, append_assoc}
 use Rattle.std.specs.List.{flat_map}
 use Rattle.ext_reading.specs.State.{at}
 use Rattle.ext_reading.specs.Step.{Runs, Steps}

@@ -1,12 +1,10 @@
 -- The entry of a line, and the tree that it goes into.
-use Rattle.std.proofs.Common.{◌≡◌, ◌↔◌, ℕ, ◌+◌, ◌<◌, ◌≤◌, Bool, true, false, List, [], ◌∷◌, ◌++◌, Some, length, IsTrue, sym, ap, ◌∙◌, subst, arith, length-append}
-use Rattle.ext_tree.specs.Tree.{Entries, IsTree, IsTreeWithin, most_entries}
+use Rattle.std.proofs.Common.{◌≡◌, ◌↔◌, ℕ, ◌+◌, Bool, false, List, [], ◌∷◌, ◌++◌, Some, length, IsTrue, sym, ap, ◌∙◌, subst, arith, length-append}
+use Rattle.ext_tree.specs.Tree.{Entries, IsTree, IsTreeWithin}
 use Rattle.ext_tree.specs.declared.entry.Entry.{Entry}
 use Rattle.ext_host.specs.Held.{HeldFile}
 use Rattle.ext_host.specs.Host.{is_in}
-use Rattle.ext_record.specs.Homed.{HasHomedLine, homed_line}
 use Rattle.ext_record.specs.Homes.{kept_entry}
-use Rattle.ext_record.specs.declared.homed.Homed.{Homed}
 use Rattle.ext_reading.specs.State.{merged_so_far, then_lower, then_root}
 use Rattle.ext_reading.specs.Step.{EntersLine, StepsAt}
 use Rattle.ext_reading.specs.declared.state.PartStage.TheVariants as parts

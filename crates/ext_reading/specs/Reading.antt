@@ -1,9 +1,8 @@
 -- What reading the lines of an index gives.
-use Rattle.std.specs.Prelude.{◌≡◌, ◌≢◌, ℕ, ◌+◌, Bool, List, [], ◌++◌, length, Option, Some, None, Result, Ok, Err}
+use Rattle.std.specs.Prelude.{◌≡◌, ◌≢◌, ℕ, ◌+◌, List, [], ◌++◌, length, Option, Some, None, Result, Ok, Err}
 use Rattle.std.specs.List.{AllByRecursion}
 use Rattle.ext_lines.specs.Lines.{lines_text}
 use Rattle.ext_lines.specs.Split.{IsSplit, Lacks}
-use Rattle.ext_host.specs.declared.host.Host.{Host}
 use Rattle.ext_reading.specs.State.{at, host_of, start}
 use Rattle.ext_reading.specs.Step.{Runs, Steps}
 use Rattle.ext_reading.specs.declared.err.IndexErr.{IndexErr}

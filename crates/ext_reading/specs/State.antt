@@ -1,5 +1,5 @@
 -- How far an index has been read: the states between its lines.
-use Rattle.std.specs.Prelude.{ℕ, zero, suc, ◌+◌, Bool, false, if◌then◌else◌, List, [], ◌∷◌, ◌++◌, Option, Some, None}
+use Rattle.std.specs.Prelude.{ℕ, zero, suc, ◌+◌, false, if◌then◌else◌, List, [], ◌∷◌, ◌++◌, Some, None}
 use Rattle.ext_text.specs.declared.arch.Arch.TheVariants.{X86}
 use Rattle.ext_text.specs.declared.class.Class.TheVariants.{Sysext, Confext}
 use Rattle.ext_text.specs.declared.scope.Scope.TheVariants.{System}

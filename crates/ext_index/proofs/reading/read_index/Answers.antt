@@ -1,6 +1,5 @@
-use Rattle.std.proofs.Common.{◌≡◌, ℕ, ◌≤◌, length, inl, inr, subst, refl, arith}
+use Rattle.std.proofs.Common.{inr, subst, arith}
 use Rattle.ext_index.specs.Faulty.{FindsWrong}
-use Rattle.ext_index.specs.ValidIndex.{most_index_bytes}
 use Rattle.ext_index.proofs.ReadingLemmas.{index_said, manifests_now, manifests_past}
 use Rattle.ext_index.proofs.WrongLineLemmas.{wrong_exactly}
 use Rattle.ext_index.proofs.reading.read_index.Goals as goal

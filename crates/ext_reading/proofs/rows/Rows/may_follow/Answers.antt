@@ -1,4 +1,4 @@
-use Rattle.std.proofs.Common.{List, ◌∷◌, [], ◌++◌, subst, ◌∙◌, IsTrue}
+use Rattle.std.proofs.Common.{◌∷◌, [], ◌++◌, subst, ◌∙◌, IsTrue}
 use Rattle.ext_host.specs.Held.{HeldFile}
 use Rattle.ext_tree.specs.Tree.{Entries, IsTree}
 use Rattle.ext_reading.proofs.rows.Rows.may_follow.Goals as goal
