@@ -12,6 +12,8 @@ mod giving;
 mod kept_files;
 pub mod laws;
 mod placing;
+#[cfg(test)]
+mod tests;
 mod writing;
 
 pub use errors::HomesErr;

@@ -1,0 +1,16 @@
+pub mod Opened
+pub mod Errors
+pub mod Store
+pub mod Sound
+pub mod Broken
+pub mod Opening
+pub mod Committing
+pub mod Checking
+pub mod PreparingIndex
+pub mod PreparingPaths
+pub mod PreparingStages
+pub mod PreparingCauses
+pub mod Preparing
+pub mod PreparingWork
+pub mod Laws
+pub mod Plans

@@ -1,0 +1,44 @@
+ghost use Rattle.std.specs.Prelude.{◌≡◌, []};
+ghost use Rattle.ext_store.specs.Names.{current_path, next_path};
+
+use crate::opened::Opened;
+use ext_text::Path;
+use std::marker::Model;
+
+/// A change that is ready in a store: all of the coming generation stands there, and `next` names it. Contracts see it as that
+/// generation. It holds what a switch needs, so that a switch takes no memory.
+#[derive(Debug, Drop)]
+pub struct Prepared {
+    pub(crate) opened: Opened,
+    pub(crate) folder: Path,
+    pub(crate) next: Path,
+    pub(crate) current: Path,
+}
+
+impl Model for Prepared {
+    ghost use Rattle.ext_gen.specs.Committing.{HasPaths};
+    ghost use Rattle.ext_gen.specs.Opened.{Generation};
+
+    ghost Value = { Generation };
+
+    ghost view = { λ p. p.opened };
+
+    ghost invariant = { λ p. HasPaths p.folder p.next p.current };
+}
+
+impl Prepared {
+    /// What is prepared, with the paths of the store folder, of `next` and of `current`.
+    pub(crate) fn new(opened: Opened, folder: Path, next: Path, current: Path) -> Prepared
+        requires folder { folder ≡ [] }
+        requires next { next ≡ next_path }
+        requires current { current ≡ current_path }
+        ensures { result ≡ opened }
+    {
+        Prepared {
+            opened,
+            folder,
+            next,
+            current,
+        }
+    }
+}
