@@ -1,4 +1,3 @@
-pub mod IndexLaws
 pub mod StatesLemmas
 pub mod FirmLemmas
 pub mod PreparingListLemmas

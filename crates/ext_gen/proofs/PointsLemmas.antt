@@ -1,11 +1,12 @@
 -- What a store points to: one generation, or none, or nothing where it is broken.
-use Rattle.std.proofs.Common.{◌≡◌, ◌≢◌, ◌⊎◌, ℕ, List, [], ◌∷◌, ◌++◌, Option, Some, None, refl, sym, ap, ◌∙◌, subst, inl, inr}
+use Rattle.std.proofs.Common.{◌≡◌, ◌≢◌, ◌⊎◌, ℕ, ◌<◌, ◌≤◌, List, [], ◌∷◌, ◌++◌, Option, Some, None, refl, sym, ap, ◌∙◌, subst, inl, inr, arith}
 use Rattle.std.proofs.lemmas.List.{append_cancel_right}
 use Rattle.std.specs.Prelude.{unwrap_or}
 use Rattle.ext_disk.specs.Disk.{Node, Tree, Places, folder, file, now}
 use Rattle.ext_host.specs.declared.host.Host.{Host}
 use Rattle.ext_index.specs.Faulty.{IsFaulty}
 use Rattle.ext_index.specs.ValidIndex.{GivesIndex}
+use Rattle.ext_index.proofs.ForCallers.{faulty_is_none, one_faulty_line, one_host}
 use Rattle.ext_store.specs.Names.{IsGeneration, current_path, current_text, generation_name, generation_of, index_path}
 use Rattle.ext_store.proofs.ForCallers.{named_generation}
 use Rattle.ext_gen.specs.Opened.{Generation}
@@ -13,9 +14,11 @@ use Rattle.ext_gen.specs.Store.{State, generation_in, IsCurrent, Points, Stands}
 use Rattle.ext_gen.specs.Sound.{IsSound}
 use Rattle.ext_gen.specs.Broken.{NamesNone, IsFaultyIndex, IsBroken}
 use Rattle.ext_gen.proofs.StatesLemmas.{sound_now, stands_points}
-use Rattle.ext_gen.proofs.IndexLaws.{one_host, faulty_is_none, one_faulty_line}
 
--- ---- files and what names them
+-- ---- numbers, files and what names them
+
+last_number : (n : ℕ) → IsGeneration n → n ≤ 4294967295
+last_number n is = let below : n < 4294967296 = is.1 in omega arith
 
 abbrev bytes_in : Option Node → List ℕ
 bytes_in None = []
@@ -52,7 +55,7 @@ same_current t g h one two =
     let number : g.number ≡ h.number = one_number t g.number h.number one.number two.number one.current two.current in
     let bytes : one.bytes ≡ two.bytes = one_index t g.number h.number one.bytes two.bytes number one.index two.index in
     same_given g h number
-    (one_host g.number one.bytes (g.host, g.text) (h.host, h.text) one.reads
+    (one_host g.number one.bytes (g.host, g.text) (h.host, h.text) (last_number g.number one.number) one.reads
     (subst (λ n. GivesIndex n one.bytes (h.host, h.text)) (sym number) (subst (λ b. GivesIndex h.number b (h.host, h.text)) (sym bytes) two.reads)))
 
 -- a store points to one generation, or to none
@@ -82,13 +85,13 @@ broken_points_to_nothing t line None (inr broken) points = no_file _ (sym points
 broken_points_to_nothing t line (Some g) (inr broken) points =
     let number : broken.number ≡ g.number = one_number t broken.number g.number broken.is points.number broken.current points.current in
     let found : t (index_path broken.number) ≡ Some (file points.bytes) = ap (λ n. t (index_path n)) number ∙ points.index in
-    faulty_is_none g.number points.bytes line (g.host, g.text)
+    faulty_is_none g.number points.bytes line (g.host, g.text) (last_number g.number points.number)
     (subst (λ n. IsFaulty n points.bytes line) number (subst (λ o. IsFaultyIndex broken.number o line) found broken.index)) points.reads
 
-one_line_of : (n : ℕ) (o : Option Node) (k l : ℕ) → IsFaultyIndex n o k → IsFaultyIndex n o l → k ≡ l
-one_line_of n None k l one two = one ∙ sym two
-one_line_of n (Some folder) k l one two = one ∙ sym two
-one_line_of n (Some (file bytes)) k l one two = one_faulty_line n bytes k l one two
+one_line_of : (n : ℕ) (o : Option Node) (k l : ℕ) → IsGeneration n → IsFaultyIndex n o k → IsFaultyIndex n o l → k ≡ l
+one_line_of n None k l is one two = one ∙ sym two
+one_line_of n (Some folder) k l is one two = one ∙ sym two
+one_line_of n (Some (file bytes)) k l is one two = one_faulty_line n bytes k l (last_number n is) one two
 
 -- and is broken in one line
 pub one_broken_line : (t : Tree) (k l : ℕ) → IsBroken t k → IsBroken t l → k ≡ l
@@ -97,7 +100,7 @@ one_broken_line t k l (inl one) (inr two) = absurd (none_named (t current_path) 
 one_broken_line t k l (inr one) (inl two) = absurd (none_named (t current_path) one.number one.is one.current two.0)
 one_broken_line t k l (inr one) (inr two) =
     let number : two.number ≡ one.number = one_number t two.number one.number two.is one.is two.current one.current in
-    one_line_of one.number (t (index_path one.number)) k l one.index (subst (λ n. IsFaultyIndex n (t (index_path n)) l) number two.index)
+    one_line_of one.number (t (index_path one.number)) k l one.is one.index (subst (λ n. IsFaultyIndex n (t (index_path n)) l) number two.index)
 
 -- a sound store is not broken
 pub sound_is_not_broken : (d : Places) (line : ℕ) → IsSound d → IsBroken (now d) line → ⊥
