@@ -17,6 +17,7 @@ use Rattle.ext_host.specs.declared.host.Host.{Host}
 use Rattle.ext_cmd.specs.Words.{IsWellFormed}
 use Rattle.ext_cmd.specs.declared.command.Command.{Command}
 use Rattle.ext_cmd.specs.declared.command.Command.TheVariants.{Init, ImportFs, Remove, Sysext, Confext, Tree, Cat, Compare, Check, Layer, Migrate}
+use Rattle.ext_text.specs.declared.class.Class.TheVariants as classes
 use Rattle.ext_text.specs.declared.which.Which.TheVariants as limits
 use Rattle.ext_cmd.specs.declared.answer.Answer.TheVariants as answers
 use Rattle.ext_cmd.specs.declared.answer.Answer.TheVariants.{Done, Unchanged}
@@ -36,6 +37,7 @@ use Rattle.ext_step.specs.declared.intent.Intent.{Intent}
 use Rattle.ext_step.specs.declared.intent.Intent.TheVariants.{Changes, Answers, Checks, Shows, Refuses}
 use Rattle.ext_step.proofs.FitLemmas.{cut_is_planned, graft_is_planned, same_is_planned}
 use Rattle.ext_step.proofs.InitLemmas.{new_is_planned}
+use Rattle.ext_step.proofs.ViewsLemmas.{view_fits}
 
 -- it is fit where it is one that is
 fit_of : (seen : Option Host) (a b : Intent) → b ≡ a → IsFit seen a → IsFit seen b
@@ -107,8 +109,8 @@ shown_fits host path (Some (File mode held)) is = record { tree = host.root; amo
 shown_fits host path (Some (Link target)) is = tt
 shown_fits host path (Some Hide) is = tt
 
-migrate_fits : (seen : Seen) → IsValidHost seen.host → IsFit (Some seen.host) (migrate_intent seen)
-migrate_fits seen valid = elim seen.newest as (λ b. IsFit (Some seen.host) (if b then Answers Unchanged else Changes seen.host Done)) [ true ↦ tt | false ↦ same_is_planned seen.host valid ]
+migrate_fits : (host : Host) (newest : Bool) → IsValidHost host → IsFit (Some host) (migrate_intent host newest)
+migrate_fits host newest valid = elim newest as (λ b. IsFit (Some host) (if b then Answers Unchanged else Changes host Done)) [ true ↦ tt | false ↦ same_is_planned host valid ]
 
 -- ---- all commands
 
@@ -117,14 +119,14 @@ pub wants_fit : (seen : Seen) (depot : DepotState) (command : Command) (intent :
 wants_fit seen depot (Init arch scope hierarchies) intent valid is = fit_of (Some seen.host) _ intent is tt
 wants_fit seen depot (ImportFs resource path) intent valid (found, text, wants) = text_fits seen.host resource path found intent valid wants
 wants_fit seen depot (Remove path) intent valid is = fit_of (Some seen.host) _ intent is (remove_fits seen.host path valid)
-wants_fit seen depot (Sysext view) intent valid is = absurd is
-wants_fit seen depot (Confext view) intent valid is = absurd is
+wants_fit seen depot (Sysext view) intent valid is = view_fits seen.host seen.told classes.Sysext view intent is
+wants_fit seen depot (Confext view) intent valid is = view_fits seen.host seen.told classes.Confext view intent is
 wants_fit seen depot (Tree path) intent valid is = fit_of (Some seen.host) _ intent is (text_of_tree_fits seen.host (meant_path path))
 wants_fit seen depot (Cat path) intent valid is = fit_of (Some seen.host) _ intent is (shown_fits seen.host path (lookup seen.host.root path) refl)
 wants_fit seen depot (Compare a b) intent valid is = absurd is
 wants_fit seen depot Check intent valid is = fit_of (Some seen.host) _ intent is refl
 wants_fit seen depot Layer intent valid is = absurd is
-wants_fit seen depot Migrate intent valid is = fit_of (Some seen.host) _ intent is (migrate_fits seen valid)
+wants_fit seen depot Migrate intent valid is = fit_of (Some seen.host) _ intent is (migrate_fits seen.host seen.newest valid)
 
 -- where there is none
 pub first_wants_fit : (command : Command) (intent : Intent) → IsWellFormed command → WantsFirst command intent → IsFit None intent

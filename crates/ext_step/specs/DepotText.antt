@@ -5,7 +5,7 @@ use Rattle.ext_depot.specs.Depot.{DepotState}
 use Rattle.ext_step.specs.declared.depot_text.DepotText.{DepotText}
 use Rattle.ext_step.specs.declared.depot_text.DepotText.TheVariants.{Absent, TooLong, Whole}
 use Rattle.ext_step.specs.declared.plan_err.PlanErr.{PlanErr}
-use Rattle.ext_step.specs.declared.plan_err.PlanErr.TheVariants.{DepotFault, OutOfMemory}
+use Rattle.ext_step.specs.declared.plan_err.PlanErr.TheVariants.{DepotFault, Shelf, OutOfMemory}
 
 -- the most bytes of a text in the depot
 abbrev pub most_text : ℕ
@@ -23,6 +23,7 @@ IsTextAt depot path found = IfSome depot.contents (λ files. found ≡ text_of (
 -- why nothing was planned: the depot had a fault, or there was no memory
 abbrev pub PlanCause : ℕ → ℕ → PlanErr → Type 0
 PlanCause before after DepotFault = Rose before after
+PlanCause before after (Shelf e) = ⊥
 PlanCause before after OutOfMemory = Unit {0}
 
 -- a file stands at the path, where that is told

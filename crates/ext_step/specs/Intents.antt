@@ -3,16 +3,18 @@ use Rattle.std.specs.Prelude.{◌≡◌, Bool, List, [], Option, Some, None, IsS
 use Rattle.ext_tree.specs.Tree.{Entries}
 use Rattle.ext_host.specs.Drawn.{AreDrawnFrom, IsFileOf, trees_of}
 use Rattle.ext_host.specs.Held.{HeldFile}
+use Rattle.ext_host.specs.Shelf.{Told}
 use Rattle.ext_host.specs.Valid.{IsValidHost}
 use Rattle.ext_host.specs.declared.past.Past.{Past}
 use Rattle.ext_host.specs.declared.host.Host.{Host}
 use Rattle.ext_step.specs.declared.intent.Intent.{Intent}
 use Rattle.ext_step.specs.declared.intent.Intent.TheVariants.{Changes, Answers, Checks, Shows, Refuses}
 
--- the host, and whether the store's text has its newest form
+-- the host, whether the store's text has its newest form, and what is told of the bytes of the host's files
 pub record Seen : Type 0 where
   pub host : Host
   pub newest : Bool
+  pub told : HeldFile → Told
 
 -- the trees of the host that is seen, those of its past among them; where none is, there are none
 abbrev pub trees_seen : Option Host → List (Entries HeldFile)

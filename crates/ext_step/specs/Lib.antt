@@ -10,4 +10,6 @@ pub mod Check
 pub mod Migrate
 pub mod Compare
 pub mod Layer
+pub mod Views
+pub mod Causes
 pub mod Step

@@ -1,6 +1,11 @@
 -- What each command wants of a store, by what it sees of it and what the depot has: one line a command.
 use Rattle.std.specs.Prelude.{◌≡◌, Bool, true, false, Option, Some, None}
+use Rattle.ext_text.specs.declared.class.Class.TheVariants as classes
 use Rattle.ext_depot.specs.Depot.{DepotState}
+use Rattle.ext_host.specs.Drawn.{IsFileOf, trees_of}
+use Rattle.ext_host.specs.Held.{HeldFile}
+use Rattle.ext_host.specs.Shelf.{Told}
+use Rattle.ext_host.specs.declared.host.Host.{Host}
 use Rattle.ext_cmd.specs.declared.command.Command.{Command}
 use Rattle.ext_cmd.specs.declared.command.Command.TheVariants.{Init, ImportFs, Remove, Sysext, Confext, Tree, Cat, Compare, Check, Layer, Migrate}
 use Rattle.ext_cmd.specs.declared.refusal.Refusal.TheVariants.{NoStore, StoreExists}
@@ -11,6 +16,7 @@ use Rattle.ext_step.specs.Intents.{Seen}
 use Rattle.ext_step.specs.Migrate.{migrate_intent}
 use Rattle.ext_step.specs.Remove.{remove_intent}
 use Rattle.ext_step.specs.Tree.{meant_path, tree_intent}
+use Rattle.ext_step.specs.Views.{ViewWants}
 use Rattle.ext_step.specs.declared.intent.Intent.{Intent}
 use Rattle.ext_step.specs.declared.intent.Intent.TheVariants.{Checks, Refuses}
 
@@ -19,14 +25,18 @@ abbrev pub WantsOf : Seen → DepotState → Command → Intent → Type 0
 WantsOf seen depot (Init arch scope hierarchies) intent = intent ≡ Refuses StoreExists
 WantsOf seen depot (ImportFs resource path) intent = ImportWants seen.host depot resource path intent
 WantsOf seen depot (Remove path) intent = intent ≡ remove_intent seen.host path
-WantsOf seen depot (Sysext view) intent = ⊥
-WantsOf seen depot (Confext view) intent = ⊥
+WantsOf seen depot (Sysext view) intent = ViewWants seen.host seen.told classes.Sysext view intent
+WantsOf seen depot (Confext view) intent = ViewWants seen.host seen.told classes.Confext view intent
 WantsOf seen depot (Tree path) intent = intent ≡ tree_intent seen.host (meant_path path)
 WantsOf seen depot (Cat path) intent = intent ≡ cat_intent seen.host path
 WantsOf seen depot (Compare a b) intent = ⊥
 WantsOf seen depot Check intent = intent ≡ Checks
 WantsOf seen depot Layer intent = ⊥
-WantsOf seen depot Migrate intent = intent ≡ migrate_intent seen
+WantsOf seen depot Migrate intent = intent ≡ migrate_intent seen.host seen.newest
+
+-- both tell the same of each file of the host
+abbrev pub TellAlike : Host → (HeldFile → Told) → (HeldFile → Told) → Type 0
+TellAlike host told other = (held : HeldFile) → IsFileOf (trees_of host) held → told held ≡ other held
 
 -- where there is none
 abbrev pub WantsFirst : Command → Intent → Type 0

@@ -19,6 +19,8 @@ mod plan_err;
 mod remove;
 mod steps;
 mod tree;
+mod view_items;
+mod views;
 
 pub use compare::compare_step;
 pub use depot_text::{DepotText, read_depot_text};

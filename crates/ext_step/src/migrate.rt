@@ -12,7 +12,7 @@ use ext_text::OutOfMemory;
 /// # Errors
 /// Out of memory alone.
 pub(crate) fn migrate_step(host: &Host, newest: bool) -> Result<Intent, OutOfMemory>
-    ensures { IfOk result (λ intent. intent ≡ migrate_intent (record { host = host.now; newest = newest })) }
+    ensures { IfOk result (λ intent. intent ≡ migrate_intent host.now newest) }
 {
     if newest {
         Ok(Intent::Answers(Answer::Unchanged))

@@ -1,3 +1,4 @@
+use ext_host::ShelfErr;
 use ext_io::Failed;
 use ext_text::OutOfMemory;
 use thiserror::Error;
@@ -8,6 +9,9 @@ pub enum PlanErr {
     /// The depot had a fault.
     #[error("depot fault")]
     DepotFault,
+    /// The shelf did not give the bytes of a file of the host; never for want of memory.
+    #[error("a file of the host is not given")]
+    Shelf(ShelfErr),
     /// An allocation failed.
     #[error("out of memory")]
     OutOfMemory,
