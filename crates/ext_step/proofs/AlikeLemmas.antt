@@ -1,5 +1,5 @@
 -- What a command wants rests on what is told of the host's files, and on nothing else that is told.
-use Rattle.std.proofs.Common.{◌≡◌, ℕ, Bool, false, List, [], ◌∷◌, inl, inr, subst}
+use Rattle.std.proofs.Common.{ℕ, Bool, false, List, [], ◌∷◌, inl, inr, subst}
 use Rattle.std.specs.FinMap.{FinMap}
 use Rattle.ext_lines.specs.ByteOrder.{bytes_cmp}
 use Rattle.ext_text.specs.declared.class.Class.{Class}
@@ -27,7 +27,7 @@ use Rattle.ext_cmd.specs.declared.refusal.Refusal.{Refusal}
 use Rattle.ext_cmd.specs.declared.refusal.Refusal.TheVariants as refusals
 use Rattle.ext_text.specs.declared.which.Which.{Which}
 use Rattle.ext_step.specs.Step.{TellAlike, WantsOf}
-use Rattle.ext_step.specs.Views.{IsNotRefreshed, IsNotSurveyed, ListWants, ListWantsOf, MergeWants, RefreshWants, RefreshWantsOf, ViewWants}
+use Rattle.ext_step.specs.Views.{IsNotRefreshed, IsNotSurveyed, ListWantsOf, MergeWants, RefreshWants, RefreshWantsOf, ViewWants}
 use Rattle.ext_step.specs.declared.intent.Intent.{Intent}
 use Rattle.ext_step.proofs.ViewFilesLemmas.{host_file, image_file}
 

@@ -1,10 +1,10 @@
 -- What a command wants of a valid host is fit: a host that it wants is valid and drawn from that one, and a file that it shows
 -- is one of that host's.
-use Rattle.std.proofs.Common.{◌≡◌, ℕ, zero, suc, ◌+◌, ◌<◌, ◌≤◌, Bool, true, false, cond, not, ◌&&◌, ◌||◌, if◌then◌else◌, List, [], ◌∷◌, ◌++◌, drop, length, Option, Some, None, is_some, refl, sym, ap, ◌∙◌, subst, arith}
-use Rattle.std.specs.Prelude.{◌≢◌, Contains, IsSome, IsTrue, nat_lt}
-use Rattle.std.specs.List.{AllByRecursion, filter, flat_map, sum_by}
+use Rattle.std.proofs.Common.{◌≡◌, ℕ, zero, suc, ◌+◌, ◌≤◌, Bool, true, false, cond, not, ◌&&◌, ◌||◌, if◌then◌else◌, List, [], ◌∷◌, ◌++◌, drop, length, Option, Some, None, refl, sym, ap, ◌∙◌, subst, arith}
+use Rattle.std.specs.Prelude.{◌≢◌, Contains}
+use Rattle.std.specs.List.{AllByRecursion, flat_map}
 use Rattle.std.specs.FinMap.Entries.{where_key}
-use Rattle.std.proofs.lemmas.Bool.{and_parts, false≢true, le-leb, true≢false}
+use Rattle.std.proofs.lemmas.Bool.{and_parts, false≢true, true≢false}
 use Rattle.std.proofs.lemmas.List.Sums.{sum_by-cons}
 use Rattle.ext_text.specs.Path.{are_related, is_prefix, is_proper_prefix, path_cmp}
 use Rattle.std.specs.Ordering.{eq_by_cmp}
@@ -12,28 +12,28 @@ use Rattle.ext_lines.specs.ByteOrder.{bytes_cmp}
 use Rattle.ext_text.proofs.ForCallers.{all_weaker, prefix_trans, same_name, tied_name}
 use Rattle.ext_tree.specs.Cut.{IsCut, cut}
 use Rattle.ext_tree.specs.EntryLine.{IsWritable}
-use Rattle.ext_tree.specs.Graft.{IsGraft, grafted, made, or_made}
-use Rattle.ext_tree.specs.Tree.{Entries, IsTree, lookup, most_entries}
+use Rattle.ext_tree.specs.Graft.{IsGraft, made, or_made}
+use Rattle.ext_tree.specs.Tree.{Entries, lookup, most_entries}
 use Rattle.ext_tree.specs.TreeText.{AreWritable, stamp_form}
 use Rattle.ext_tree.specs.declared.entry.Entry.{Entry}
 use Rattle.ext_tree.specs.declared.entry.Entry.TheVariants.{Dir, Opaque, File, Link, Hide}
 use Rattle.ext_tree.specs.declared.stamp.Stamp.{Stamp}
 use Rattle.ext_tree.proofs.ForCallers.{grafted_apart, is_cut}
 use Rattle.ext_tree.specs.Refusals.{is_root}
-use Rattle.ext_host.specs.DepotBodies.{from_depot, in_depot, pair_in_depot}
-use Rattle.ext_host.specs.Drawn.{AreDrawnFrom, HasFile, IsDrawnFrom, IsFileOf, trees_of}
+use Rattle.ext_host.specs.DepotBodies.{from_depot, in_depot}
+use Rattle.ext_host.specs.Drawn.{AreDrawnFrom, trees_of}
 use Rattle.ext_host.specs.Held.{HeldFile}
-use Rattle.ext_host.specs.Host.{Hierarchies, base_at, hierarchies_in, is_in, merged_hierarchies, present}
+use Rattle.ext_host.specs.Host.{base_at, hierarchies_in, is_in, merged_hierarchies, present}
 use Rattle.ext_host.specs.Touch.{untouched}
-use Rattle.ext_host.specs.Valid.{AreInRange, AreManifests, HasItems, IsManifest, IsValidHost, IsWithinLimits, all_bytes, bytes_of, held_form, most_bytes}
-use Rattle.ext_host.specs.declared.body.Body.TheVariants.{Here, Kept, Depot}
+use Rattle.ext_host.specs.Valid.{AreInRange, HasItems, IsValidHost, all_bytes, bytes_of, held_form, most_bytes}
+use Rattle.ext_host.specs.declared.body.Body.TheVariants.{Kept}
 use Rattle.ext_host.specs.declared.home.Home.{Home}
 use Rattle.ext_host.specs.declared.host.Host.{Host}
 use Rattle.ext_host.specs.declared.manifest.Manifest.{Manifest}
 use Rattle.ext_host.specs.declared.past.Past.{Past}
 use Rattle.ext_host.proofs.ForCallers.{cut_is_drawn, drawn_from_itself, drawn_one_by_one, graft_is_drawn, touched_is_valid, trees_are_drawn, trees_drawn_through}
 use Rattle.ext_step.specs.Change.{changed_at}
-use Rattle.ext_step.specs.Intents.{IsPlanned, past_seen, trees_seen}
+use Rattle.ext_step.specs.Intents.{IsPlanned}
 use Rattle.ext_step.proofs.EntriesLemmas.{all_of_found, all_where, found_of_all}
 
 -- ---- paths that are not related to a path

@@ -1,6 +1,6 @@
 -- Imports: what stands above a path, and what is wanted once all paths fit.
-use Rattle.std.proofs.Common.{◌≡◌, ℕ, ◌+◌, ◌<◌, ◌≤◌, true, false, cond, List, length, take, Result, Ok, Err, refl, sym, ap, ◌∙◌, subst, arith, inl, inr}
-use Rattle.std.specs.Prelude.{◌⊎◌, IfOk, nat_lt}
+use Rattle.std.proofs.Common.{◌≡◌, ℕ, ◌+◌, ◌<◌, true, false, List, length, take, Result, Ok, Err, sym, ap, ◌∙◌, subst, arith, inl, inr}
+use Rattle.std.specs.Prelude.{IfOk}
 use Rattle.std.specs.List.{AllByRecursion}
 use Rattle.std.proofs.lemmas.Bool.{cond-true, lt-ltb}
 use Rattle.std.proofs.Common.{length-take}
@@ -14,14 +14,11 @@ use Rattle.ext_tree.specs.declared.stamp.Stamp.{Stamp}
 use Rattle.ext_host.specs.DepotBodies as bodies
 use Rattle.ext_host.specs.DepotBodies.{from_depot}
 use Rattle.ext_host.specs.Held.{HeldFile}
-use Rattle.ext_host.specs.Valid.{all_bytes, most_bytes}
 use Rattle.ext_host.specs.declared.host.Host.{Host}
-use Rattle.ext_cmd.specs.declared.answer.Answer.TheVariants.{Done}
 use Rattle.ext_cmd.specs.declared.refusal.Refusal.TheVariants.{Limit}
-use Rattle.ext_step.specs.Change.{changed_at}
-use Rattle.ext_step.specs.Import.{AllFit, FittingWants, PartWants, sized}
+use Rattle.ext_step.specs.Import.{FittingWants, PartWants}
 use Rattle.ext_step.specs.declared.intent.Intent.{Intent}
-use Rattle.ext_step.specs.declared.intent.Intent.TheVariants.{Changes, Refuses}
+use Rattle.ext_step.specs.declared.intent.Intent.TheVariants.{Refuses}
 
 -- fewer names than a path has are a proper prefix of it
 pub fewer_proper : (k : ℕ) (p : List (List ℕ)) → k < length p → is_proper_prefix (take k p) p ≡ true

@@ -1,5 +1,5 @@
 -- The release files that are read for a view are files of the host.
-use Rattle.std.proofs.Common.{◌≡◌, ℕ, zero, ◌++◌, ◌∷◌, List, [], Bool, true, false, if◌then◌else◌, Some, None, inl, inr, refl, sym, ◌∙◌, arith}
+use Rattle.std.proofs.Common.{◌≡◌, ℕ, zero, ◌++◌, ◌∷◌, List, [], true, false, if◌then◌else◌, Some, None, inl, inr, refl, sym, ◌∙◌, arith}
 use Rattle.ext_text.specs.declared.class.Class.{Class}
 use Rattle.ext_tree.specs.Part.{part}
 use Rattle.ext_tree.specs.Tree.{Entries, lookup}
@@ -35,7 +35,7 @@ host_file host base held is (inr (none, (end, mode, leads, found))) = base_file 
 pub image_file : (host : Host) (base : Entries HeldFile) (class : Class) (place : List (List ℕ)) (name : List ℕ) (held : HeldFile) → IsBaseTree host base → HasReleaseFile base class place name held → IsFileOf (trees_of host) held
 image_file host base class place name held is has =
     let file = has.file in
-    part_file host base has.image file.0 file.1 held is file.2.1
+    part_file host base has.image file.0 file.1 held is file.3
 
 pub read_file : (host : Host) (base : Entries HeldFile) (class : Class) (held : HeldFile) → IsBaseTree host base → IsRead host base class held → IsFileOf (trees_of host) held
 read_file host base class held is (inl file) = host_file host base held is file

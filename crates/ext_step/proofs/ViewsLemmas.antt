@@ -1,6 +1,6 @@
 -- What the commands `sysext` and `confext` want: by what surveying and merging answer, and that it is fit.
 use Rattle.std.proofs.Common.{◌≡◌, ℕ, Bool, false, List, [], ◌∷◌, Option, Some, None, Result, Ok, Err, inl, inr, refl, sym, ap, ◌∙◌, subst}
-use Rattle.std.specs.Prelude.{IfErr, IfOk, map}
+use Rattle.std.specs.Prelude.{IfErr, IfOk}
 use Rattle.ext_text.specs.declared.class.Class.{Class}
 use Rattle.ext_text.specs.declared.class.Class.TheVariants.{Sysext, Confext, Portable}
 use Rattle.ext_tree.specs.Tree.{Entries}
@@ -9,29 +9,23 @@ use Rattle.ext_host.specs.Shelf.{Told}
 use Rattle.ext_host.specs.declared.host.Host.{Host}
 use Rattle.ext_host.specs.declared.host.Plan.{Plan}
 use Rattle.ext_view.specs.Hierarchies.{is_merged}
-use Rattle.ext_view.specs.Plans.{GivesNext, Merges, PlansNext, PlansView, Refreshes, Unmerges}
+use Rattle.ext_view.specs.Plans.{Merges, PlansNext, PlansView, Refreshes, Unmerges}
 use Rattle.ext_view.specs.Survey.{Surveys}
 use Rattle.ext_view.specs.View.{chosen, with_view}
 use Rattle.ext_view.specs.declared.errors.ViewErr.{ViewErr}
 use Rattle.ext_view.specs.declared.errors.ViewErr.TheVariants as errors
-use Rattle.ext_view.specs.declared.outcome.Merge.{Merge}
 use Rattle.ext_view.specs.declared.surveyed.SurveyItem.{SurveyItem}
 use Rattle.ext_cmd.specs.declared.answer.Answer.{Answer}
-use Rattle.ext_cmd.specs.declared.answer.Answer.TheVariants as answers
 use Rattle.ext_cmd.specs.declared.command.ViewCommand.{ViewCommand}
 use Rattle.ext_cmd.specs.declared.command.ViewCommand.TheVariants as views
 use Rattle.ext_cmd.specs.declared.refusal.Refusal.TheVariants as refusals
 use Rattle.ext_step.specs.Causes.{ViewCause, refused}
 use Rattle.ext_step.specs.Intents.{IsFit}
-use Rattle.ext_step.specs.Views.{ListWants, MergeWants, RefreshWants, RefreshWantsOf, UnmergeWants, ViewWants, item_told, planned}
+use Rattle.ext_step.specs.Views.{ListWants, MergeWants, RefreshWants, RefreshWantsOf, ViewWants, planned}
 use Rattle.ext_step.specs.declared.intent.Intent.{Intent}
-use Rattle.ext_step.specs.declared.intent.Intent.TheVariants.{Answers}
 use Rattle.ext_step.proofs.ViewFilesLemmas.{read_file}
 
 -- ---- list
-
-pub list_found : (told : HeldFile → Told) (old new : ℕ) (host : Host) (class : Class) (items : List SurveyItem) → Surveys told old new host class false (Ok items) → ListWants host told class (Answers (answers.Found (map item_told items)))
-list_found told old new host class items (base, is, of) = (base, is, inl (items, of, refl))
 
 pub list_refused : (told : HeldFile → Told) (old new : ℕ) (host : Host) (class : Class) (e : ViewErr) → Surveys told old new host class false (Err e) → IfOk (refused e) (ListWants host told class)
 list_refused told old new host class errors.OutOfMemory fails = tt
@@ -51,9 +45,6 @@ list_cause told old new host class force (errors.Limit which) fails = tt
 
 -- ---- refresh
 
-pub refresh_planned : (told : HeldFile → Told) (old new : ℕ) (host : Host) (class : Class) (force : Bool) (merge : Merge) → Refreshes told old new host class force (Ok merge) → GivesNext host (Ok merge) → RefreshWants host told class force (planned merge.plan (answers.Merged merge.names))
-refresh_planned told old new host class force merge (base, is, of) next = (base, is, inl (merge, of, next, refl))
-
 pub refresh_refused : (told : HeldFile → Told) (old new : ℕ) (host : Host) (class : Class) (force : Bool) (e : ViewErr) → Refreshes told old new host class force (Err e) → IfOk (refused e) (RefreshWants host told class force)
 refresh_refused told old new host class force errors.OutOfMemory fails = tt
 refresh_refused told old new host class force errors.Merged (base, is, fails) = absurd fails
@@ -71,9 +62,6 @@ refresh_cause told old new host class force (errors.Shelf e) (base, is, (held, r
 refresh_cause told old new host class force (errors.Limit which) fails = tt
 
 -- ---- merge
-
-pub merge_planned : (told : HeldFile → Told) (old new : ℕ) (host : Host) (class : Class) (force : Bool) (merge : Merge) → Merges told old new host class force (Ok merge) → GivesNext host (Ok merge) → MergeWants host told class force (planned merge.plan (answers.Merged merge.names))
-merge_planned told old new host class force merge (free, of) next = inr (free, refresh_planned told old new host class force merge of next)
 
 if_ok_weaker : {T E : Type 0} (P Q : T → Type 0) (r : Result T E) → ((x : T) → P x → Q x) → IfOk r P → IfOk r Q
 if_ok_weaker P Q (Ok x) weaker holds = weaker x holds
@@ -97,11 +85,6 @@ merge_cause told old new host class force errors.NoHostRelease fails = tt
 merge_cause told old new host class force (errors.BadHostRelease line) fails = tt
 merge_cause told old new host class force (errors.Shelf e) (free, fails) = refresh_cause told old new host class force (errors.Shelf e) fails
 merge_cause told old new host class force (errors.Limit which) fails = tt
-
--- ---- unmerge
-
-pub unmerge_planned : (host : Host) (class : Class) (plan : Option Plan) → Unmerges host class (Ok plan) → PlansNext host plan → UnmergeWants host class (planned plan answers.Unmerged)
-unmerge_planned host class plan of next = (plan, of, next, refl)
 
 -- ---- what is wanted is fit
 

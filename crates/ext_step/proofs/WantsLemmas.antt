@@ -1,16 +1,14 @@
 -- What a command wants is fit for what is seen.
-use Rattle.std.proofs.Common.{◌≡◌, ℕ, ◌+◌, ◌≤◌, ◌<◌, Bool, true, false, if◌then◌else◌, List, [], ◌∷◌, length, ◌⊎◌, inl, inr, Option, Some, None, is_some, not, zero, refl, sym, ap, ◌∙◌, subst, arith}
-use Rattle.std.specs.Prelude.{Contains, nat_lt}
+use Rattle.std.proofs.Common.{◌≡◌, ℕ, ◌+◌, ◌≤◌, Bool, true, false, if◌then◌else◌, List, [], ◌∷◌, length, inl, inr, Option, Some, None, is_some, not, zero, refl, sym, subst, arith}
+use Rattle.std.specs.Prelude.{nat_lt}
 use Rattle.std.proofs.lemmas.Bool.Decides.{nat_tests}
 use Rattle.ext_tree.specs.Cut.{cut}
-use Rattle.ext_tree.specs.Graft.{IsGraft}
 use Rattle.ext_tree.specs.Tree.{Entries, is_directory, lookup, most_entries}
 use Rattle.ext_tree.specs.TreeText.{IsTreeText}
 use Rattle.ext_tree.specs.declared.entry.Entry.{Entry}
 use Rattle.ext_tree.specs.declared.entry.Entry.TheVariants.{Dir, Opaque, File, Link, Hide}
 use Rattle.ext_tree.specs.declared.stamp.Stamp.{Stamp}
 use Rattle.ext_depot.specs.Depot.{DepotState}
-use Rattle.ext_host.specs.DepotBodies.{from_depot}
 use Rattle.ext_host.specs.Held.{HeldFile}
 use Rattle.ext_host.specs.Valid.{IsValidHost, all_bytes, most_bytes}
 use Rattle.ext_host.specs.declared.host.Host.{Host}
@@ -22,19 +20,18 @@ use Rattle.ext_text.specs.declared.which.Which.TheVariants as limits
 use Rattle.ext_cmd.specs.declared.answer.Answer.TheVariants as answers
 use Rattle.ext_cmd.specs.declared.answer.Answer.TheVariants.{Done, Unchanged}
 use Rattle.ext_cmd.specs.declared.refusal.Refusal.TheVariants.{Limit, NoEntry, NotDirectory, ReadOnly}
-use Rattle.ext_step.specs.Cat.{cat_at, cat_intent}
+use Rattle.ext_step.specs.Cat.{cat_at}
 use Rattle.ext_step.specs.Change.{changed_at, is_read_only}
-use Rattle.ext_step.specs.DepotText.{IsTextAt}
-use Rattle.ext_step.specs.Import.{AllFit, FittingWants, OpenWants, TextWants, TreeWants, sized}
+use Rattle.ext_step.specs.Import.{FittingWants, OpenWants, TextWants, TreeWants, sized}
 use Rattle.ext_step.specs.Intents.{IsFit, IsPlanned, Seen}
 use Rattle.ext_step.specs.Migrate.{migrate_intent}
 use Rattle.ext_step.specs.Remove.{remove_intent}
-use Rattle.ext_step.specs.Step.{Wants, WantsFirst, WantsOf}
+use Rattle.ext_step.specs.Step.{WantsFirst, WantsOf}
 use Rattle.ext_step.specs.Tree.{meant_path, text_below, tree_at, tree_intent}
 use Rattle.ext_step.specs.declared.depot_text.DepotText.{DepotText}
 use Rattle.ext_step.specs.declared.depot_text.DepotText.TheVariants.{Absent, TooLong, Whole}
 use Rattle.ext_step.specs.declared.intent.Intent.{Intent}
-use Rattle.ext_step.specs.declared.intent.Intent.TheVariants.{Changes, Answers, Checks, Shows, Refuses}
+use Rattle.ext_step.specs.declared.intent.Intent.TheVariants.{Changes, Answers, Refuses}
 use Rattle.ext_step.proofs.FitLemmas.{cut_is_planned, graft_is_planned, same_is_planned}
 use Rattle.ext_step.proofs.InitLemmas.{new_is_planned}
 use Rattle.ext_step.proofs.ViewsLemmas.{view_fits}

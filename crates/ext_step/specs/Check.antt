@@ -1,6 +1,6 @@
 -- The command `check`: each file of the host has its listed stamp. What it counts: the file entries of what is seen, of
 -- what lies under the view and of each past tree, and their bytes; two entries of one home count twice.
-use Rattle.std.specs.Prelude.{ℕ, List}
+use Rattle.std.specs.Prelude.{ℕ}
 use Rattle.std.specs.List.{sum_by}
 use Rattle.std.specs.Prelude.{count_by}
 use Rattle.ext_tree.specs.Tree.{Entries, is_file}

@@ -2,7 +2,7 @@
 -- first that holds, in this order, which is this project's own: no tree text, or one that is too long; a faulty line; a path
 -- that a merge locks; a path below something that is no directory; a path past its limits; too many entries, then too
 -- many bytes, of what is seen and what lies under the view.
-use Rattle.std.specs.Prelude.{◌≡◌, ◌≢◌, ℕ, ◌+◌, ◌<◌, ◌≤◌, ◌⊎◌, Bool, true, false, nat_lt, if◌then◌else◌, IsTrue, List, [], length, Some}
+use Rattle.std.specs.Prelude.{◌≡◌, ℕ, ◌+◌, ◌⊎◌, true, false, nat_lt, if◌then◌else◌, IsTrue, List, length, Some}
 use Rattle.std.specs.List.{AllByRecursion}
 use Rattle.ext_text.specs.Path.{is_proper_prefix}
 use Rattle.ext_text.specs.declared.which.Which.TheVariants as limits

@@ -1,7 +1,7 @@
 -- The command `tree`: the text of what stands below a path, each file by its stamp. Links are not followed.
 use Rattle.std.specs.Prelude.{ℕ, List, [], ◌∷◌, Option, Some, None, if◌then◌else◌}
 use Rattle.ext_tree.specs.Part.{part}
-use Rattle.ext_tree.specs.Tree.{Entries, is_directory, lookup}
+use Rattle.ext_tree.specs.Tree.{is_directory, lookup}
 use Rattle.ext_tree.specs.TreeText.{tree_text}
 use Rattle.ext_tree.specs.declared.entry.Entry.{Entry}
 use Rattle.ext_host.specs.Held.{HeldFile}

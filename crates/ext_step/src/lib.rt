@@ -18,6 +18,8 @@ mod migrate;
 mod plan_err;
 mod remove;
 mod steps;
+#[cfg(test)]
+mod tests;
 mod tree;
 mod view_items;
 mod views;

@@ -19,6 +19,8 @@ mod outcome;
 mod replaced;
 mod surveyed;
 mod surveying;
+#[cfg(test)]
+mod tests;
 mod unmerging;
 mod viewed;
 

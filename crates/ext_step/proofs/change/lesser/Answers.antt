@@ -1,6 +1,4 @@
-use Rattle.std.proofs.Common.{refl, sym, ◌∙◌, ap, inr}
-use Rattle.std.specs.Ordering.{is_gt}
-use Rattle.ext_lines.specs.ByteOrder.{bytes_cmp}
+use Rattle.std.proofs.Common.{refl, inr}
 use Rattle.ext_step.proofs.ChangeLemmas.{greater_reversed}
 use Rattle.ext_step.proofs.change.lesser.Goals as goal
 

@@ -1,6 +1,4 @@
-use Rattle.std.proofs.Common.{◌<◌, length, arith, sym, ap, ◌∙◌}
-use Rattle.ext_tree.specs.Graft.{is_non_directory_at}
-use Rattle.ext_tree.specs.Tree.{lookup}
+use Rattle.std.proofs.Common.{length, arith, ap}
 use Rattle.ext_step.proofs.ImportLemmas.{fewer_proper, open_above}
 use Rattle.ext_step.proofs.import.non_directory_above.Goals as goal
 
