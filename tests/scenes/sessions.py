@@ -27,7 +27,7 @@ def shell(commands, folder):
     """What each of the commands writes, on both outputs, in one shell."""
     script = "".join(f"{command}\nprintf '\\0'\n" for command in commands)
     streams = {"stdin": subprocess.DEVNULL, "stdout": subprocess.PIPE, "stderr": subprocess.STDOUT}
-    around = {**os.environ, "LC_ALL": "C", "TMPDIR": str(folder)}
+    around = {**os.environ, "LC_ALL": "C", "TMPDIR": str(folder), "HOSTEXT": str(Path(folder, "hostext"))}
     return subprocess.run(["sh", "-c", script], cwd=folder, env=around, timeout=SECONDS, **streams).stdout.decode().split("\0")
 
 
