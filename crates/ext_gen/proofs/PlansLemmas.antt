@@ -10,7 +10,7 @@ use Rattle.ext_text.specs.declared.arch.Arch.{Arch}
 use Rattle.ext_text.specs.declared.class.Class.TheVariants.{Sysext, Confext}
 use Rattle.ext_text.specs.declared.scope.Scope.{Scope}
 use Rattle.ext_text.specs.declared.scope.Scope.TheVariants.{System, Portable}
-use Rattle.ext_tree.specs.Tree.{Entries, IsTreeWithin, lookup}
+use Rattle.ext_tree.specs.Tree.{Entries, lookup}
 use Rattle.ext_tree.specs.declared.entry.Entry.{Entry}
 use Rattle.ext_tree.specs.declared.entry.Entry.TheVariants.{Dir, Opaque, File, Link, Hide}
 use Rattle.ext_tree.specs.Graft.{IsGraft}
@@ -90,7 +90,7 @@ plain arch root = record {
   past = [];
 }
 
-plain_tree : (arch : Arch) (root : Entries HeldFile) → length root ≤ 262144 → AllByRecursion (λ e. IsSmall e.1) root → IsValidTree defaults (present (plain arch root))
+plain_tree : (arch : Arch) (root : Entries HeldFile) → length root ≤ 1000 → AllByRecursion (λ e. IsSmall e.1) root → IsValidTree defaults (present (plain arch root))
 plain_tree arch root few small =
     let bytes = small_bytes root small in
     record {
@@ -102,7 +102,7 @@ plain_tree arch root few small =
       kept = record { each = tt; order = tt; apart = tt; items = tt };
     }
 
-plain_valid : (arch : Arch) (root : Entries HeldFile) → length root ≤ 262144 → AllByRecursion (λ e. IsSmall e.1) root → IsPlain root (plain arch root)
+plain_valid : (arch : Arch) (root : Entries HeldFile) → length root ≤ 1000 → AllByRecursion (λ e. IsSmall e.1) root → IsPlain root (plain arch root)
 plain_valid arch root few small = record {
   valid = record {
     scope = no_portable;
@@ -119,9 +119,9 @@ plain_valid arch root few small = record {
 
 -- it is made of such parts
 pub made_plain : (arch : Arch) (root pairs lower : Entries HeldFile) (attached : List Attachment) (kept : List Manifest) (sysext_hier confext_hier : List (List ℕ)) (past : List Past) → lower ≡ [] → attached ≡ [] → kept ≡ []
-    → sysext_hier ≡ default_hierarchies Sysext → confext_hier ≡ default_hierarchies Confext → past ≡ [] → pairs ≡ root → IsTreeWithin root → AllByRecursion (λ e. IsSmall e.1) pairs
+    → sysext_hier ≡ default_hierarchies Sysext → confext_hier ≡ default_hierarchies Confext → past ≡ [] → pairs ≡ root → length pairs ≤ 1000 → AllByRecursion (λ e. IsSmall e.1) pairs
     → IsPlain root (record { arch = arch; scope = System; root = root; lower = lower; sysext = None; confext = None; attached = attached; kept = kept; sysext_hier = sysext_hier; confext_hier = confext_hier; past = past })
-made_plain arch root pairs lower attached kept sysext_hier confext_hier past lower_is attached_is kept_is first second past_is same tree small =
+made_plain arch root pairs lower attached kept sysext_hier confext_hier past lower_is attached_is kept_is first second past_is same few small =
     let host : plain arch root ≡ record { arch = arch; scope = System; root = root; lower = lower; sysext = None; confext = None; attached = attached; kept = kept; sysext_hier = sysext_hier; confext_hier = confext_hier; past = past } =
     λ i. record {
       arch = arch;
@@ -136,7 +136,7 @@ made_plain arch root pairs lower attached kept sysext_hier confext_hier past low
       confext_hier = sym second i;
       past = sym past_is i;
     } in
-    subst (IsPlain root) host (plain_valid arch root tree.count (subst (λ l. AllByRecursion (λ e. IsSmall e.1) l) same small))
+    subst (IsPlain root) host (plain_valid arch root (subst (λ (l : Entries HeldFile). length l ≤ 1000) same few) (subst (λ l. AllByRecursion (λ e. IsSmall e.1) l) same small))
 
 -- ---- changes
 

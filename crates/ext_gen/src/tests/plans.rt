@@ -1,5 +1,5 @@
 // Plans for tests: what a change makes of a host of which only small files are seen.
-ghost use Rattle.std.specs.Prelude.{◌≡◌, ◌≤◌, [], ◌∷◌, IsTrue, IfOk};
+ghost use Rattle.std.specs.Prelude.{◌≡◌, ◌≤◌, [], ◌∷◌, length, IsTrue, IfOk};
 ghost use Rattle.std.specs.List.{AllByRecursion};
 ghost use Rattle.std.specs.Option.{option_copied};
 ghost use Rattle.ext_text.specs.Digest.{IsDigest};
@@ -81,7 +81,7 @@ fn host_of(alloc: Global, root: Tree<Held>) -> Result<Host, Fail>
     ensures { IfOk result (IsPlain root) }
 {
     if !are_small(root.pairs()) {
-        return Err("a large file".into());
+        return Err("too large".into());
     }
     let sysext_hier = default_hierarchies(alloc, Class::Sysext)?;
     let confext_hier = default_hierarchies(alloc, Class::Confext)?;
@@ -100,10 +100,14 @@ fn host_of(alloc: Global, root: Tree<Held>) -> Result<Host, Fail>
     })
 }
 
-// Whether each entry is a directory or a small file.
+// Whether there are few entries, each of them a directory or a small file.
 fn are_small(pairs: &[(Path, Entry<Held>)]) -> bool
-    ensures { IsTrue result → AllByRecursion (λ e. IsSmall e.1) pairs.now }
+    ensures few { IsTrue result → length pairs.now ≤ 1000 }
+    ensures small { IsTrue result → AllByRecursion (λ e. IsSmall e.1) pairs.now }
 {
+    if pairs.len() > 1_000 {
+        return false;
+    }
     'pairs: for pair in pairs {
         if !is_small(&pair.1) {
             return false;
