@@ -17,12 +17,12 @@ told_stays a b (Here bytes) rests = refl
 told_stays a b (Kept home) rests = ap (λ o. told_at o (home_path home.generation home.file)) rests.told
 told_stays a b (Depot path) rests = refl
 
--- a disk that rests tells the same of each held file
-pub shelf_stays : {S : Type 0} (state : S → DiskState)
-    → IsStays {S = S} (λ a b. Rests (state a) (state b)) (λ _ held. is_served held.body) (λ s held. body_told (state s) held.body)
-shelf_stays state = record {
-  same = λ a. record { told = refl; count = omega arith };
-  through = λ a b c one two. rests_both (state a) (state b) (state c) one two;
-  served = λ a b held rests. refl;
-  tells = λ a b held rests. told_stays (state a) (state b) held.body rests;
+-- a disk that rests tells the same of each held file; and the shelf keeps the reference to it
+pub shelf_stays : {S N : Type 0} (state : S → DiskState) (name : S → N)
+    → IsStays {S = S} (λ a b. Rests (state a) (state b) × (name b ≡ name a)) (λ _ held. is_served held.body) (λ s held. body_told (state s) held.body)
+shelf_stays state name = record {
+  same = λ a. (record { told = refl; count = omega arith }, refl);
+  through = λ a b c one two. (rests_both (state a) (state b) (state c) one.0 two.0, two.1 ∙ one.1);
+  served = λ a b held stays. refl;
+  tells = λ a b held stays. told_stays (state a) (state b) held.body stays.0;
 }

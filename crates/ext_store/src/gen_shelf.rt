@@ -13,6 +13,7 @@ pub struct GenShelf<'a, D: Disk> {
 }
 
 impl<'a, D: Disk> Shelf for GenShelf<'a, D> {
+    ghost use Rattle.std.specs.Prelude.{◌≡◌};
     ghost use Rattle.ext_disk.specs.Since.{Rests};
     ghost use Rattle.ext_store.specs.HeldFiles.{is_served, body_told};
     ghost use Rattle.ext_store.specs.GenShelf.{shelf_stays};
@@ -23,12 +24,13 @@ impl<'a, D: Disk> Shelf for GenShelf<'a, D> {
 
     ghost faults = { λ s. (D.state s.disk.now).faults };
 
-    ghost stays = { λ a b. Rests (D.state a.disk.now) (D.state b.disk.now) };
+    // The reference stays the same, too: so whoever made the shelf knows what became of the disk.
+    ghost stays = { λ a b. Rests (D.state a.disk.now) (D.state b.disk.now) × (b.disk.ghost_name ≡ a.disk.ghost_name) };
 
     fn bytes(&mut self, alloc: Global, held: &Held) -> Result<Text, ShelfErr> {
         let disk = &mut *self.disk;
         file(alloc, disk, held)
     }
 
-    ghost stays_laws = { shelf_stays (λ s. D.state s.disk.now) };
+    ghost stays_laws = { shelf_stays (λ s. D.state s.disk.now) (λ s. s.disk.ghost_name) };
 }
