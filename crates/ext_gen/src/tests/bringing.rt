@@ -2,6 +2,7 @@
 use super::changes::{carry_out, depot_of, state_of};
 use super::plans::Change;
 use crate::StoreErr;
+use ext_depot::MemoryDepot;
 use ext_disk::{DiskOp, MemoryDisk};
 use ext_host::stamp_of;
 use ext_io::Calls;
@@ -46,22 +47,42 @@ fn most_bytes(disk: &MemoryDisk) -> u64 {
     most
 }
 
-#[test]
-fn a_file_is_brought_once_in_pieces(rt: HostRuntime) -> Result<(), Fail> {
-    let alloc = rt.alloc();
-    let mut disk = MemoryDisk::new(alloc, Calls::new(alloc), None);
+// A depot that has the file.
+fn depot_with_large(alloc: Global) -> Result<MemoryDepot, Fail> {
     let mut depot = depot_of(alloc, Calls::new(alloc))?;
     let zeros = vec![in alloc; 0u8; 200_000]?;
-    depot.put(
-        Path::read(alloc, b"files/large")?,
-        Text::from_bytes(alloc, &zeros)?,
-    )?;
-    // the second time it is compared with the kept one
-    for at in [&b""[..], b"srv"] {
-        let change = Change::Import(at, LARGE);
-        assert!(rt; carry_out(alloc, &mut disk, &mut depot, &change)?.is_none());
+    let path = Path::read(alloc, b"files/large")?;
+    depot.put(path, Text::from_bytes(alloc, &zeros)?)?;
+    Ok(depot)
+}
+
+// Whether the file is brought to this path.
+fn brings(
+    alloc: Global,
+    disk: &mut MemoryDisk,
+    depot: &mut MemoryDepot,
+    at: &'static [u8],
+) -> Result<bool, Fail> {
+    let change = Change::Import(at, LARGE);
+    Ok(carry_out(alloc, disk, depot, &change)?.is_none())
+}
+
+// A store into which it was brought, and then once more: it is compared with the kept one then.
+fn store_with_large(alloc: Global) -> Result<MemoryDisk, Fail> {
+    let mut disk = MemoryDisk::new(alloc, Calls::new(alloc), None);
+    let mut depot = depot_with_large(alloc)?;
+    if !brings(alloc, &mut disk, &mut depot, b"")?
+        || !brings(alloc, &mut disk, &mut depot, b"srv")?
+    {
+        return Err("not brought".into());
     }
-    let home = Path::read(alloc, b"g-1/000/00")?;
+    Ok(disk)
+}
+
+#[test]
+fn a_file_is_brought_once_in_pieces(rt: HostRuntime) -> Result<(), Fail> {
+    let disk = store_with_large(rt.alloc())?;
+    let home = Path::read(rt.alloc(), b"g-1/000/00")?;
     assert!(rt; is_appended(&disk, &home, &PIECES));
     assert!(rt; most_bytes(&disk) == 65_536);
     assert!(rt; disk.appended() < 201_000);
@@ -108,17 +129,25 @@ fn is_refused(refused: &Option<StoreErr>, read: &Option<&[u8]>) -> bool {
     }
 }
 
+// Whether the text is refused so, and the store stands for the state of before.
+fn refuses(
+    alloc: Global,
+    disk: &mut MemoryDisk,
+    text: &'static [u8],
+    read: &Option<&[u8]>,
+) -> Result<bool, Fail> {
+    let mut depot = depot_of(alloc, Calls::new(alloc))?;
+    let change = Change::Import(b"", text);
+    let refused = carry_out(alloc, disk, &mut depot, &change)?;
+    Ok(is_refused(&refused, read) && state_of(alloc, disk)? == (0, 0, 0))
+}
+
 #[test]
 fn another_file_than_listed_is_refused(rt: HostRuntime) -> Result<(), Fail> {
     let alloc = rt.alloc();
     let mut disk = MemoryDisk::new(alloc, Calls::new(alloc), None);
-    let mut depot = depot_of(alloc, Calls::new(alloc))?;
-    assert!(rt; carry_out(alloc, &mut disk, &mut depot, &Change::Keep)?.is_none());
     for (text, read) in &REFUSED {
-        let change = Change::Import(b"", text);
-        let refused = carry_out(alloc, &mut disk, &mut depot, &change)?;
-        assert!(rt; is_refused(&refused, read));
-        assert!(rt; state_of(alloc, &mut disk)? == (1, 0, 0));
+        assert!(rt; refuses(alloc, &mut disk, text, read)?);
     }
     Ok(())
 }

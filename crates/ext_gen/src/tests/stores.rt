@@ -7,8 +7,8 @@ use crate::{StoreErr, check, open};
 use ext_disk::MemoryDisk;
 use ext_host::ShelfErr;
 use ext_io::Calls;
-use ext_store::{Found, index_path, read_file};
-use ext_text::{Text, Which};
+use ext_store::{Found, read_file};
+use ext_text::{Path, Text, Which};
 use std::alloc::Global;
 use std::test::Fail;
 
@@ -71,9 +71,9 @@ fn store_at(
     Ok(disk)
 }
 
-// The bytes of the index of a generation.
-fn index_of(alloc: Global, disk: &mut MemoryDisk, generation: u32) -> Result<Text, Fail> {
-    let path = index_path(alloc, generation)?;
+// The bytes of the index at this path.
+fn index_at(alloc: Global, disk: &mut MemoryDisk, path: &[u8]) -> Result<Text, Fail> {
+    let path = Path::read(alloc, path)?;
     match read_file(alloc, disk, &path, 1_000)? {
         Found::File(text) => Ok(text),
         Found::Absent | Found::Folder | Found::TooLong => Err("no index".into()),
@@ -88,13 +88,21 @@ fn text_of(alloc: Global, disk: &mut MemoryDisk) -> Result<(u32, u64), Fail> {
     }
 }
 
+// Carries out a change that changes nothing.
+fn keep(alloc: Global, disk: &mut MemoryDisk) -> Result<(), Fail> {
+    let mut depot = depot_of(alloc, Calls::new(alloc))?;
+    match carry_out(alloc, disk, &mut depot, &Change::Keep)? {
+        None => Ok(()),
+        Some(_) => Err("refused".into()),
+    }
+}
+
 #[test]
 fn a_new_store_has_text_2(rt: HostRuntime) -> Result<(), Fail> {
     let alloc = rt.alloc();
     let mut disk = MemoryDisk::new(alloc, Calls::new(alloc), None);
-    let mut depot = depot_of(alloc, Calls::new(alloc))?;
-    assert!(rt; carry_out(alloc, &mut disk, &mut depot, &Change::Keep)?.is_none());
-    assert!(rt; index_of(alloc, &mut disk, 1)?.bytes() == EMPTY);
+    keep(alloc, &mut disk)?;
+    assert!(rt; index_at(alloc, &mut disk, b"g-1/index")?.bytes() == EMPTY);
     assert!(rt; text_of(alloc, &mut disk)? == (2, 0));
     Ok(())
 }
@@ -103,10 +111,9 @@ fn a_new_store_has_text_2(rt: HostRuntime) -> Result<(), Fail> {
 fn a_change_moves_a_store_to_text_2(rt: HostRuntime) -> Result<(), Fail> {
     let alloc = rt.alloc();
     let mut disk = store_at(alloc, b"g-1", b"g-1\n", OLD)?;
-    let mut depot = depot_of(alloc, Calls::new(alloc))?;
     assert!(rt; text_of(alloc, &mut disk)? == (1, 0));
-    assert!(rt; carry_out(alloc, &mut disk, &mut depot, &Change::Keep)?.is_none());
-    assert!(rt; index_of(alloc, &mut disk, 2)?.bytes() == EMPTY);
+    keep(alloc, &mut disk)?;
+    assert!(rt; index_at(alloc, &mut disk, b"g-2/index")?.bytes() == EMPTY);
     assert!(rt; text_of(alloc, &mut disk)? == (2, 0));
     Ok(())
 }
@@ -121,15 +128,14 @@ fn store_with_past(alloc: Global, bytes: &'static [u8]) -> Result<MemoryDisk, Fa
 }
 
 #[test]
-fn a_file_of_a_past_tree_is_spared_and_checked(rt: HostRuntime) -> Result<(), Fail> {
+fn a_file_of_a_past_tree_is_spared(rt: HostRuntime) -> Result<(), Fail> {
     let alloc = rt.alloc();
     let mut disk = store_with_past(alloc, b"abc")?;
-    let mut depot = depot_of(alloc, Calls::new(alloc))?;
     assert!(rt; state_of(alloc, &mut disk)? == (2, 1, 3));
     // the next host has no past tree, but the one before it has
-    assert!(rt; carry_out(alloc, &mut disk, &mut depot, &Change::Keep)?.is_none());
+    keep(alloc, &mut disk)?;
     assert!(rt; has(alloc, &mut disk, &[1, 2, 3])?);
-    assert!(rt; carry_out(alloc, &mut disk, &mut depot, &Change::Keep)?.is_none());
+    keep(alloc, &mut disk)?;
     assert!(rt; has(alloc, &mut disk, &[3, 4])?);
     Ok(())
 }
@@ -137,18 +143,22 @@ fn a_file_of_a_past_tree_is_spared_and_checked(rt: HostRuntime) -> Result<(), Fa
 // The bytes that are kept in place of `abc`, and whether they are as many.
 static DAMAGED: [(&[u8], bool); 2] = [(b"ab", false), (b"abd", true)];
 
+// Whether a check finds such a file damaged, by as many bytes or not.
+fn is_damaged(alloc: Global, bytes: &'static [u8], as_many: bool) -> Result<bool, Fail> {
+    let mut disk = store_with_past(alloc, bytes)?;
+    match open(alloc, &mut disk)? {
+        None => Ok(false),
+        Some(opened) => match check(alloc, &mut disk, opened.host()) {
+            Err(ShelfErr::Damaged { found, .. }) => Ok(found.is_some() == as_many),
+            _ => Ok(false),
+        },
+    }
+}
+
 #[test]
 fn a_damaged_file_is_found(rt: HostRuntime) -> Result<(), Fail> {
-    let alloc = rt.alloc();
     for (bytes, as_many) in &DAMAGED {
-        let mut disk = store_with_past(alloc, bytes)?;
-        let Some(opened) = open(alloc, &mut disk)? else {
-            return Err("no generation".into());
-        };
-        match check(alloc, &mut disk, opened.host()) {
-            Err(ShelfErr::Damaged { found, .. }) => assert!(rt; found.is_some() == *as_many),
-            _ => return Err("not damaged".into()),
-        }
+        assert!(rt; is_damaged(rt.alloc(), bytes, *as_many)?);
     }
     Ok(())
 }
@@ -159,24 +169,34 @@ static LAST: [(&[u8], &[u8], bool); 2] = [
     (b"g-4294967295", b"g-4294967295\n", false),
 ];
 
+// Whether a change finds a number for the next generation, or is refused for want of one.
+fn has_number(alloc: Global, disk: &mut MemoryDisk) -> Result<bool, Fail> {
+    let mut depot = depot_of(alloc, Calls::new(alloc))?;
+    match carry_out(alloc, disk, &mut depot, &Change::Keep)? {
+        None => Ok(true),
+        Some(
+            StoreErr::Limit {
+                which: Which::Generations,
+            },
+        ) => Ok(false),
+        Some(_) => Err("another refusal".into()),
+    }
+}
+
+// Whether the next change does what it should: where it is refused, a left-over stays.
+fn goes_on(alloc: Global, name: &[u8], line: &'static [u8], more: bool) -> Result<bool, Fail> {
+    let mut disk = store_at(alloc, name, line, EMPTY)?;
+    put(alloc, &mut disk, b"", b"g-7", &There::Folder)?;
+    let found = has_number(alloc, &mut disk)?;
+    let last = state_of(alloc, &mut disk)?.0 == 4_294_967_295;
+    let gone = kind_in(alloc, &mut disk, b"", b"g-7")?.is_none();
+    Ok(found == more && last && gone == more)
+}
+
 #[test]
 fn the_last_number_is_used_and_none_after_it(rt: HostRuntime) -> Result<(), Fail> {
-    let alloc = rt.alloc();
-    let mut depot = depot_of(alloc, Calls::new(alloc))?;
     for (name, line, more) in &LAST {
-        let mut disk = store_at(alloc, name, line, EMPTY)?;
-        put(alloc, &mut disk, b"", b"g-7", &There::Folder)?;
-        match carry_out(alloc, &mut disk, &mut depot, &Change::Keep)? {
-            None => assert!(rt; *more),
-            Some(
-                StoreErr::Limit {
-                    which: Which::Generations,
-                },
-            ) => assert!(rt; !*more),
-            Some(_) => return Err("another refusal".into()),
-        }
-        assert!(rt; state_of(alloc, &mut disk)?.0 == 4_294_967_295);
-        assert!(rt; kind_in(alloc, &mut disk, b"", b"g-7")?.is_none() == *more);
+        assert!(rt; goes_on(rt.alloc(), name, line, *more)?);
     }
     Ok(())
 }
