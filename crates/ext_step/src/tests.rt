@@ -58,6 +58,11 @@ fn filled(alloc: Global) -> Result<MemoryDepot, Fail> {
     put(alloc, &mut depot, b"host.tree", trees::HOST)?;
     put(alloc, &mut depot, b"images.tree", trees::IMAGES)?;
     put(alloc, &mut depot, b"faulty.tree", trees::FAULTY)?;
+    put(alloc, &mut depot, b"opaque.tree", trees::OPAQUE)?;
+    put(alloc, &mut depot, b"link.tree", trees::LINK)?;
+    put(alloc, &mut depot, b"both.tree", trees::BOTH)?;
+    put(alloc, &mut depot, b"large.tree", trees::LARGE)?;
+    put(alloc, &mut depot, b"loop.tree", trees::LOOP)?;
     Ok(depot)
 }
 
@@ -140,5 +145,14 @@ fn wrong_reply(alloc: Global, rows: &[(&[&str], &str)]) -> Result<Option<usize>,
 #[test]
 fn extensions_are_listed_and_merged(rt: HostRuntime) -> Result<(), Fail> {
     assert_eq!(rt; wrong_reply(rt.alloc(), session::ROWS.as_slice())?, None);
+    Ok(())
+}
+
+#[test]
+fn hierarchies_are_layered_and_come_back(rt: HostRuntime) -> Result<(), Fail> {
+    assert_eq!(rt;
+        wrong_reply(rt.alloc(), session::HIERARCHIES.as_slice())?,
+        None
+    );
     Ok(())
 }

@@ -19,8 +19,6 @@ mod outcome;
 mod replaced;
 mod surveyed;
 mod surveying;
-#[cfg(test)]
-mod tests;
 mod unmerging;
 mod viewed;
 

@@ -40,6 +40,39 @@ pub(super) static ROWS: [(&[&str], &str); 34] = [
     (&["confext", "refresh"], "refused 6 bad-host-release 1\n"),
 ];
 
+// What is layered at the hierarchies, and what comes back.
+pub(super) static HIERARCHIES: [(&[&str], &str); 29] = [
+    (&["init", "x86-64", "system"], "done\n"),
+    (&["import-fs", "opaque", "/"], "done\n"),
+    (&["sysext", "merge"], "merged 1\nx\n"),
+    (&["remove", "/var"], "done\n"),
+    (&["tree", "/"], OPAQUE_MERGED),
+    (&["sysext", "unmerge"], "unmerged\n"),
+    (&["tree", "/"], OPAQUE_BASE),
+    (&["import-fs", "link", "/"], "done\n"),
+    (&["sysext", "merge"], "merged 1\nx\n"),
+    (&["remove", "/var"], "done\n"),
+    (&["tree", "/"], LINK_MERGED),
+    (&["sysext", "unmerge"], "unmerged\n"),
+    (&["tree", "/"], LINK_BASE),
+    (&["import-fs", "both", "/"], "done\n"),
+    (&["sysext", "merge"], "merged 1\nx\n"),
+    (&["confext", "merge"], "merged 1\nc\n"),
+    (&["sysext", "status"], "merged 1\nx\n"),
+    (&["remove", "/etc/motd"], "refused 4 read-only /etc/motd\n"),
+    (&["import-fs", "both", "/"], "refused 4 read-only /etc\n"),
+    (&["sysext", "unmerge"], "unmerged\n"),
+    (&["confext", "status"], "merged 1\nc\n"),
+    (&["tree", "/etc"], ETC_MERGED),
+    (&["confext", "unmerge"], "unmerged\n"),
+    (&["tree", "/etc"], ETC_BASE),
+    (&["import-fs", "large", "/"], "done\n"),
+    (&["sysext", "merge"], "refused 7 limit bytes\n"),
+    (&["sysext", "status"], "unmerged\n"),
+    (&["import-fs", "loop", "/"], "done\n"),
+    (&["sysext", "merge"], "refused 5 no-host-release\n"),
+];
+
 const LISTED: &str = "a-9 image /var/lib/extensions/a-9 fits
 a-10 image /var/lib/extensions/a-10 fits
 alone broken /var/lib/extensions/alone no-release
@@ -57,5 +90,62 @@ end
 
 const LOWER: &str = "hostext-tree 1
 f 644 3 ba7816bf8f01cfea414140de5dae2223b00361a396177a9cb410ff61f20015ad t
+end
+";
+
+const OPAQUE_MERGED: &str = "hostext-tree 1
+d 755 etc
+f 644 24 280140cdebf52d2d404ced30b19da6302fc144948fe503228f24583c554d0d4d etc/os-release
+d 750 opt
+f 644 0 e3b0c44298fc1c149afbf4c8996fb92427ae41e4649b934ca495991b7852b855 opt/y
+d 700 usr
+d 755 usr/lib
+d 755 usr/lib/extension-release.d
+f 644 8 422628a418fd161590cfbd873d9b3c137ef4abf7792df579eb801b7d1d8e4510 usr/lib/extension-release.d/extension-release.x
+end
+";
+
+const OPAQUE_BASE: &str = "hostext-tree 1
+d 755 etc
+f 644 24 280140cdebf52d2d404ced30b19da6302fc144948fe503228f24583c554d0d4d etc/os-release
+d 711 usr
+f 644 3 ba7816bf8f01cfea414140de5dae2223b00361a396177a9cb410ff61f20015ad usr/a
+end
+";
+
+const LINK_MERGED: &str = "hostext-tree 1
+d 755 etc
+f 644 24 280140cdebf52d2d404ced30b19da6302fc144948fe503228f24583c554d0d4d etc/os-release
+d 755 opt
+f 644 0 e3b0c44298fc1c149afbf4c8996fb92427ae41e4649b934ca495991b7852b855 opt/y
+d 755 srv
+f 644 3 ba7816bf8f01cfea414140de5dae2223b00361a396177a9cb410ff61f20015ad srv/z
+d 755 usr
+d 755 usr/lib
+d 755 usr/lib/extension-release.d
+f 644 8 422628a418fd161590cfbd873d9b3c137ef4abf7792df579eb801b7d1d8e4510 usr/lib/extension-release.d/extension-release.x
+end
+";
+
+const LINK_BASE: &str = "hostext-tree 1
+d 755 etc
+f 644 24 280140cdebf52d2d404ced30b19da6302fc144948fe503228f24583c554d0d4d etc/os-release
+l 3 srv opt
+d 755 srv
+f 644 3 ba7816bf8f01cfea414140de5dae2223b00361a396177a9cb410ff61f20015ad srv/z
+d 755 usr
+f 644 0 e3b0c44298fc1c149afbf4c8996fb92427ae41e4649b934ca495991b7852b855 usr/b
+end
+";
+
+const ETC_MERGED: &str = "hostext-tree 1
+d 755 extension-release.d
+f 644 24 280140cdebf52d2d404ced30b19da6302fc144948fe503228f24583c554d0d4d extension-release.d/extension-release.c
+f 644 3 ba7816bf8f01cfea414140de5dae2223b00361a396177a9cb410ff61f20015ad motd
+end
+";
+
+const ETC_BASE: &str = "hostext-tree 1
+f 644 0 e3b0c44298fc1c149afbf4c8996fb92427ae41e4649b934ca495991b7852b855 motd
 end
 ";
