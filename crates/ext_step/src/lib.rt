@@ -1,9 +1,9 @@
 //! Steps of commands: what each of them wants of a store.
 //!
-//! A command sees the host that the store has, and the depot. What it comes to is an [`Intent`]: another host in place of
-//! that one, an answer, the bytes of a file, or a refusal, the first that holds in its order. Nothing here sees a disk, and
-//! nothing is carried out: the crate of the runs does that, once for all of them. A command has one file, here and in the
-//! definitions.
+//! A command sees the host that the store has, the bytes of the host's files through a shelf, and the depot. What it comes to
+//! is an [`Intent`]: another host in place of that one, an answer, the bytes of a file, or a refusal, the first that holds in
+//! its order. Nothing here sees a disk, and nothing is carried out: the crate of the runs does that, once for all of them. A
+//! command has one file, here and in the definitions.
 #![tactic(auto)]
 
 mod cat;
