@@ -1,3 +1,14 @@
-pub mod WordsLemmas
-pub mod RunningLemmas
-pub mod ReplyLemmas
+pub mod PlacedLemmas
+pub mod StoredLemmas
+pub mod ApplyingLemmas
+pub mod ReplacingLemmas
+pub mod CheckLemmas
+pub mod ReadingLemmas
+pub mod LineLemmas
+pub mod PieceLemmas
+pub mod PiecesLemmas
+pub mod RunLemmas
+pub mod AloneLemmas
+pub mod RunsLemmas
+pub mod CompletingLemmas
+pub mod SeenLemmas

@@ -1,23 +1,18 @@
--- Laws of the commands and their replies.
+-- Laws of the commands that look at no store.
 use Rattle.std.specs.Prelude.{◌≡◌, ℕ, List}
-use Rattle.ext_top.specs.Words.{Command, Compare, command_words}
-use Rattle.ext_top.specs.Compare.{compare_line}
-use Rattle.ext_top.specs.Step.{Replies}
-use Rattle.ext_top.specs.declared.status.Status.{Status}
-use Rattle.ext_top.specs.declared.status.Status.TheVariants.{Done}
+use Rattle.ext_vers.specs.Version.{version_cmp}
+use Rattle.ext_gen.specs.Store.{none}
+use Rattle.ext_cmd.specs.Replies.{answer_text}
+use Rattle.ext_cmd.specs.declared.answer.Answer.TheVariants.{Order}
+use Rattle.ext_cmd.specs.declared.command.Command.{Command}
+use Rattle.ext_cmd.specs.declared.command.Command.TheVariants.{Compare}
+use Rattle.ext_top.specs.Alone.{ComesAlone}
+use Rattle.ext_top.specs.Machine.{Outcome, gives}
 
--- words are those of one command
-abbrev pub OneCommand : Type 0
-OneCommand = (c d : Command) → command_words c ≡ command_words d → c ≡ d
-
--- the reply to a source is one: a command has no two statuses and no two texts for the same bytes
+-- the reply to a source is one: such a command comes to one outcome for the same bytes
 abbrev pub OneReply : Type 0
-OneReply =
-    (command : Command) (bytes : List ℕ) (s t : Status) (text other : List ℕ) →
-    Replies command bytes s text → Replies command bytes t other → (s ≡ t) × (text ≡ other)
+OneReply = (command : Command) (bytes : List ℕ) (a b : Outcome) → ComesAlone command bytes a → ComesAlone command bytes b → a ≡ b
 
 -- `compare` is never refused: its reply is its line
 abbrev pub CompareIsDone : Type 0
-CompareIsDone =
-    (a b bytes : List ℕ) (status : Status) (text : List ℕ) →
-    Replies (Compare a b) bytes status text → (status ≡ Done) × (text ≡ compare_line a b)
+CompareIsDone = (a b bytes : List ℕ) (outcome : Outcome) → ComesAlone (Compare a b) bytes outcome → outcome ≡ gives none (answer_text (Order (version_cmp a b)))

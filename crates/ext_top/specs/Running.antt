@@ -1,23 +1,58 @@
--- How a run ends, by its status: what it took from the source, what it wrote, and which fault it may blame. All of it is
--- said over the step of any command.
-use Rattle.std.specs.Prelude.{◌≡◌, ℕ, ◌+◌, ◌≤◌, ◌⊎◌, Bool, true, false, IsTrue, List, [], length, Some}
+-- How a run ends, by its status: what it took from the source, what it wrote, what the store stands for, at the end and after a
+-- stop at any moment, and which fault it may blame.
+use Rattle.std.specs.Prelude.{◌≡◌, ℕ, ◌+◌, ◌≤◌, ◌⊎◌, Bool, true, false, IsTrue, List, [], ◌∷◌, length, Option, Some, None, IfSome, Result, Ok, Err}
 use Rattle.std.specs.Io.KnownBytes.{Appends}
 use Rattle.ext_text.specs.Causes.{Rose}
 use Rattle.ext_io.specs.SourceState.{SourceState}
 use Rattle.ext_io.specs.SinkState.{SinkState}
 use Rattle.ext_io.specs.Whole.{ReadsAll, Took, AppendsProperPrefix}
-use Rattle.ext_top.specs.Words.{Command, IsUsage, command_words}
-use Rattle.ext_top.specs.Step.{Replies, reads_source, takes_memory}
-use Rattle.ext_top.specs.Outcome.{status_of, reply_of}
-use Rattle.ext_top.specs.declared.outcome.Outcome.{Outcome}
+use Rattle.ext_tree.specs.declared.stamp.Stamp.{Stamp}
+use Rattle.ext_disk.specs.Disk.{DiskState, Places, Told, BothTold, now}
+use Rattle.ext_disk.specs.Since.{Follows}
+use Rattle.ext_depot.specs.Depot.{DepotState, IsKept}
+use Rattle.ext_host.specs.Shelf.{IsFound}
+use Rattle.ext_host.specs.declared.home.Home.{Home}
+use Rattle.ext_store.specs.HeldFiles.{node_told}
+use Rattle.ext_store.specs.Names.{home_path}
+use Rattle.ext_store.specs.Removal.{MoreThan}
+use Rattle.ext_homes.specs.Giving.{lists_kept, trees_before}
+use Rattle.ext_gen.specs.Broken.{IsBroken}
+use Rattle.ext_gen.specs.Opened.{Generation}
+use Rattle.ext_gen.specs.Preparing.{host_before, is_left}
+use Rattle.ext_gen.specs.Store.{State, generation_in, Points, Stands}
+use Rattle.ext_gen.specs.Sound.{IsFirmly, IsMember, IsSound, StandsSince}
+use Rattle.ext_gen.specs.declared.errors.StoreErr.{StoreErr}
+use Rattle.ext_gen.specs.declared.errors.StoreErr.TheVariants as store_errors
+use Rattle.ext_cmd.specs.Words.{IsUsage, IsWellFormed, command_words}
+use Rattle.ext_cmd.specs.declared.command.Command.{Command}
+use Rattle.ext_cmd.specs.declared.refusal.Refusal.{Refusal}
+use Rattle.ext_step.specs.Step.{is_of_store}
+use Rattle.ext_step.specs.declared.intent.Intent.{Intent}
+use Rattle.ext_top.specs.Machine.{Outcome, refusal_of, reply_of}
+use Rattle.ext_top.specs.Exits.{Line, does, Standing, StandsAs, Ends, IsOnTheWay}
+use Rattle.ext_top.specs.Applying.{IsCrowded, IsDamage}
+use Rattle.ext_top.specs.Alone.{ComesAlone, Says, reads_source, status_of_refusal}
+use Rattle.ext_top.specs.declared.bad_store.BadStore.TheVariants as bad
 use Rattle.ext_top.specs.declared.status.Status.{Status}
-use Rattle.ext_top.specs.declared.status.Status.TheVariants.{Done, Refused, Usage, ReadFault, WriteFault, OutOfMemory, TooLong}
+use Rattle.ext_top.specs.declared.status.Status.TheVariants.{Done, Refused, Usage, ReadFault, WriteFault, DiskFault, DepotFault, OutOfMemory, BadStore, Unfinished, TooLong}
+use Rattle.ext_top.specs.declared.stop.Stop.{Stop}
+use Rattle.ext_top.specs.declared.stop.Stop.TheVariants as stops
 
 -- the most bytes of a source
 abbrev pub most_source : ℕ
 most_source = 16777216
 
--- what a run sees of its source and its sink, before or after
+-- what a run sees of its devices, before or after
+pub record Devices : Type 0 where
+  pub source : SourceState
+  pub sink : SinkState
+  pub disk : DiskState
+  pub depot : DepotState
+
+abbrev pub devices : SourceState → SinkState → DiskState → DepotState → Devices
+devices source sink disk depot = record { source = source; sink = sink; disk = disk; depot = depot }
+
+-- those of a command that looks at no store, and those of a store
 pub record Streams : Type 0 where
   pub source : SourceState
   pub sink : SinkState
@@ -25,10 +60,22 @@ pub record Streams : Type 0 where
 abbrev pub streams : SourceState → SinkState → Streams
 streams source sink = record { source = source; sink = sink }
 
+pub record StoreSide : Type 0 where
+  pub sink : SinkState
+  pub disk : DiskState
+  pub depot : DepotState
+
+abbrev pub store_side : SinkState → DiskState → DepotState → StoreSide
+store_side sink disk depot = record { sink = sink; disk = disk; depot = depot }
+
 -- no count of faults fell
-pub record CountsOn (old new : Streams) : Type 0 where
+pub record CountsOn (old new : Devices) : Type 0 where
   pub source : old.source.faults ≤ new.source.faults
   pub sink : old.sink.faults ≤ new.sink.faults
+  pub disk : old.disk.faults ≤ new.disk.faults
+  pub depot : old.depot.faults ≤ new.depot.faults
+
+-- ---- a command that looks at no store
 
 -- the bytes of the source: where it is read, all of them, to its end and within the limit; else none, and it is left alone
 abbrev pub TakesAll : Bool → SourceState → SourceState → List ℕ → Type 0
@@ -45,68 +92,216 @@ pub record TookOnly (command : Command) (old new : Streams) (P : ℕ → Type 0)
   pub source : TakesSome (reads_source command) old.source new.source P
   pub sink : new.sink ≡ old.sink
 
--- the command replies so to the bytes that it took
-pub record Replied (command : Command) (old new : SourceState) (status : Status) (text : List ℕ) : Type 0 where
+-- what the command comes to for the bytes that it took
+pub record CameTo (command : Command) (old new : SourceState) (outcome : Outcome) : Type 0 where
   pub bytes : List ℕ
   pub takes : TakesAll (reads_source command) old new bytes
-  pub reply : Replies command bytes status text
+  pub comes : ComesAlone command bytes outcome
 
 -- the whole reply was written
-pub record Wrote (command : Command) (old new : Streams) (status : Status) : Type 0 where
-  pub text : List ℕ
-  pub replied : Replied command old.source new.source status text
-  pub written : Appends old.sink.written new.sink.written text
+pub record Wrote (command : Command) (old new : Streams) (refusal : Option Refusal) : Type 0 where
+  pub outcome : Outcome
+  pub came : CameTo command old.source new.source outcome
+  pub refused : refusal_of outcome ≡ refusal
+  pub written : Appends old.sink.written new.sink.written (reply_of outcome)
 
 -- a proper prefix of the reply was written
 pub record WrotePart (command : Command) (old new : Streams) : Type 0 where
-  pub status : Status
-  pub text : List ℕ
-  pub replied : Replied command old.source new.source status text
-  pub written : AppendsProperPrefix old.sink new.sink text
+  pub outcome : Outcome
+  pub came : CameTo command old.source new.source outcome
+  pub written : AppendsProperPrefix old.sink new.sink (reply_of outcome)
 
--- the run of a command, by its status
-abbrev pub Ends : Command → Streams → Streams → Status → Type 0
-Ends command old new Done = Wrote command old new Done
-Ends command old new (Refused refusal) = Wrote command old new (Refused refusal)
-Ends command old new (Usage place) = ⊥
-Ends command old new ReadFault =
+-- its run, by its status
+abbrev pub EndsAlone : Command → Streams → Streams → Status → Type 0
+EndsAlone command old new Done = Wrote command old new None
+EndsAlone command old new (Refused refusal) = Wrote command old new (Some refusal)
+EndsAlone command old new (Usage place) = ⊥
+EndsAlone command old new ReadFault =
     IsTrue (reads_source command) × TookOnly command old new (λ n. n ≤ most_source) × Rose old.source.faults new.source.faults
-Ends command old new WriteFault = WrotePart command old new × Rose old.sink.faults new.sink.faults
-Ends command old new OutOfMemory = IsTrue (takes_memory command) × TookOnly command old new (λ n. n ≤ most_source + 1)
-Ends command old new TooLong = IsTrue (reads_source command) × TookOnly command old new (λ n. n ≡ most_source + 1)
-
--- the words are a command, and it ended so
-abbrev pub RunsWords : List (List ℕ) → Streams → Streams → Status → Type 0
-RunsWords words old new status = (command : Command) × (words ≡ command_words command) × Ends command old new status
-
--- the run of these words: they are no command, and nothing was touched; or they are one, and it ended so
-abbrev pub Runs : List (List ℕ) → Streams → Streams → Status → Type 0
-Runs words old new (Usage place) = IsUsage words place × (new ≡ old)
-Runs words old new status = RunsWords words old new status
-
--- the source tells its bytes, and they are within the limit
-abbrev pub TellsWithin : SourceState → Type 0
-TellsWithin source = (bytes : List ℕ) × (source.left ≡ Some bytes) × (length bytes ≤ most_source)
-
--- where no device failed that the command uses, and a source that it reads tells its bytes and is within its limit, the
--- reply was written, or the command takes memory and there was too little
-abbrev pub CompletesCommand : Command → Streams → Streams → Status → Type 0
-CompletesCommand command old new status =
-    (IsTrue (reads_source command) → TellsWithin old.source × (¬ Rose old.source.faults new.source.faults)) →
-    ¬ Rose old.sink.faults new.sink.faults →
-    Wrote command old new status ⊎ (IsTrue (takes_memory command) × (status ≡ OutOfMemory))
-
--- so it is of the command that the words are
-abbrev pub Completes : List (List ℕ) → Streams → Streams → Status → Type 0
-Completes words old new status = (command : Command) → words ≡ command_words command → CompletesCommand command old new status
+EndsAlone command old new WriteFault = WrotePart command old new × Rose old.sink.faults new.sink.faults
+EndsAlone command old new DiskFault = ⊥
+EndsAlone command old new DepotFault = ⊥
+EndsAlone command old new OutOfMemory = TookOnly command old new (λ n. n ≤ most_source + 1)
+EndsAlone command old new (BadStore why) = ⊥
+EndsAlone command old new Unfinished = ⊥
+EndsAlone command old new TooLong = IsTrue (reads_source command) × TookOnly command old new (λ n. n ≡ most_source + 1)
 
 -- a reply was written, and the status is its own; or a proper prefix of it was, and the sink failed
-abbrev pub WritesReply : Status → List ℕ → SinkState → SinkState → Status → Type 0
-WritesReply status text old new result =
+abbrev pub WritesLast : Status → List ℕ → SinkState → SinkState → Status → Type 0
+WritesLast status text old new result =
     ((result ≡ status) × Appends old.written new.written text)
     ⊎ ((result ≡ WriteFault) × AppendsProperPrefix old new text × Rose old.faults new.faults)
 
 -- what was come to was written as a reply; or there was no memory for the reply, and the sink was left alone
 abbrev pub WritesOutcome : Outcome → SinkState → SinkState → Status → Type 0
 WritesOutcome outcome old new result =
-    WritesReply (status_of outcome) (reply_of outcome) old new result ⊎ ((result ≡ OutOfMemory) × (new ≡ old))
+    WritesLast (status_of_refusal (refusal_of outcome)) (reply_of outcome) old new result ⊎ ((result ≡ OutOfMemory) × (new ≡ old))
+
+abbrev pub WritesIntent : Intent → SinkState → SinkState → Status → Type 0
+WritesIntent intent old new result = (outcome : Outcome) × Says intent outcome × WritesOutcome outcome old new result
+
+-- ---- lines over a store
+
+-- the status of lines that ended so: a batch is done where each line is done or refused
+abbrev pub status_of_stop : Stop → Status
+status_of_stop stops.WriteFault = WriteFault
+status_of_stop stops.DiskFault = DiskFault
+status_of_stop stops.DepotFault = DepotFault
+status_of_stop stops.OutOfMemory = OutOfMemory
+status_of_stop (stops.BadStore why) = BadStore why
+status_of_stop stops.Unfinished = Unfinished
+
+abbrev pub status_of : Bool → Result (Option Refusal) Stop → Status
+status_of true (Ok last) = Done
+status_of false (Ok last) = status_of_refusal last
+status_of batch (Err stop) = status_of_stop stop
+
+-- The lines ran from a state for which the store firmly stood, and ended by the table of exits. Each tree that a stop since may
+-- have left stands for a state on the way.
+pub record RunsFrom (batch : Bool) (lines : List Line) (depot : DepotState) (k l : SinkState) (status : Status) (s : State) (d e : Told) : Type 0 where
+  pub result : Result (Option Refusal) Stop
+  pub status_is : status ≡ status_of batch result
+  pub bytes : List ℕ
+  pub written : Appends k.written l.written bytes
+  pub standing : Standing
+  pub stands : StandsAs standing e.places
+  pub ends : Ends None s depot lines result standing bytes
+  pub since : StandsSince (IsOnTheWay s depot lines) e d.clock
+
+abbrev pub RunsTold : Bool → List Line → Option Generation → DepotState → SinkState → SinkState → Status → Told → Told → Type 0
+RunsTold batch lines opened depot k l status d e =
+    (s : State) → generation_in s ≡ opened → IsFirmly s d.places → RunsFrom batch lines depot k l status s d e
+
+-- The store was opened: the lines ran from the state for which it stood, and ended by the table of exits. Each tree that a stop
+-- since may have left stands for a state on the way, or for one for which it might have stood before.
+pub record RunsOpened (batch : Bool) (lines : List Line) (depot : DepotState) (k l : SinkState) (status : Status) (d e : Told) : Type 0 where
+  pub state : State
+  pub stood : Stands (now d.places) state
+  pub result : Result (Option Refusal) Stop
+  pub status_is : status ≡ status_of batch result
+  pub bytes : List ℕ
+  pub written : Appends k.written l.written bytes
+  pub standing : Standing
+  pub stands : StandsAs standing e.places
+  pub ends : Ends None state depot lines result standing bytes
+  pub since : StandsSince (λ x. IsMember d.places x ⊎ IsOnTheWay state depot lines x) e d.clock
+
+-- it was not opened: a fault of the disk, or no memory
+abbrev pub IsClosed : Status → Type 0
+IsClosed status = (status ≡ DiskFault) ⊎ (status ≡ OutOfMemory)
+
+-- nothing was written, and nothing changed but, where the store folder was settled, that it firmly stands for what it stood for
+pub record RunsClosed (k l : SinkState) (status : Status) (d e : Told) : Type 0 where
+  pub closed : IsClosed status
+  pub nothing : l ≡ k
+  pub ends : (e ≡ d) ⊎ ((s : State) × Stands (now d.places) s × IsFirmly s e.places)
+  pub since : StandsSince (IsMember d.places) e d.clock
+
+-- from a sound store
+abbrev pub RunsSound : Bool → List Line → DepotState → SinkState → SinkState → Status → Told → Told → Type 0
+RunsSound batch lines depot k l status d e =
+    IsSound d.places → IsSound e.places × (RunsOpened batch lines depot k l status d e ⊎ RunsClosed k l status d e)
+
+-- a file that the host of the store lists is another than listed
+pub record IsDamagedNow (d : Told) (home : Home) (listed : Stamp) (found : Option Stamp) : Type 0 where
+  pub opened : Option Generation
+  pub points : Points (now d.places) opened
+  pub lists : lists_kept (trees_before (host_before opened)) listed home
+  pub differs : IsFound listed (node_told (d.places (home_path home.generation home.file)).node) found
+
+-- more left-overs stand there than one command removes
+pub record IsCrowdedNow (d : Told) : Type 0 where
+  pub opened : Option Generation
+  pub points : Points (now d.places) opened
+  pub more : MoreThan 1048576 (is_left opened) d.places
+
+-- which fault a status blames, whatever the store is
+abbrev pub StoreCause : StoreSide → StoreSide → Status → Type 0
+StoreCause old new Done = Unit {0}
+StoreCause old new (Refused refusal) = Unit {0}
+StoreCause old new (Usage place) = ⊥
+StoreCause old new ReadFault = ⊥
+StoreCause old new WriteFault = Rose old.sink.faults new.sink.faults
+StoreCause old new DiskFault = Rose old.disk.faults new.disk.faults
+StoreCause old new DepotFault = Rose old.depot.faults new.depot.faults
+StoreCause old new OutOfMemory = Unit {0}
+StoreCause old new (BadStore (bad.Broken line)) = IfSome old.disk.told (λ d. IsBroken (now d.places) line)
+StoreCause old new (BadStore (bad.Damaged home listed found)) = IfSome old.disk.told (λ d. IsDamagedNow d home listed found)
+StoreCause old new Unfinished = IfSome old.disk.told IsCrowdedNow
+StoreCause old new TooLong = ⊥
+
+-- the same of a store that was opened so
+abbrev pub OpenedCause : Option Generation → StoreSide → StoreSide → Status → Type 0
+OpenedCause opened old new Done = Unit {0}
+OpenedCause opened old new (Refused refusal) = Unit {0}
+OpenedCause opened old new (Usage place) = ⊥
+OpenedCause opened old new ReadFault = ⊥
+OpenedCause opened old new WriteFault = Rose old.sink.faults new.sink.faults
+OpenedCause opened old new DiskFault = Rose old.disk.faults new.disk.faults
+OpenedCause opened old new DepotFault = Rose old.depot.faults new.depot.faults
+OpenedCause opened old new OutOfMemory = Unit {0}
+OpenedCause opened old new (BadStore (bad.Broken line)) = ⊥
+OpenedCause opened old new (BadStore (bad.Damaged home listed found)) = IsDamage opened old.disk home listed found
+OpenedCause opened old new Unfinished = IsCrowded opened old.disk
+OpenedCause opened old new TooLong = ⊥
+
+-- an error of opening a store
+abbrev pub IsOfOpening : StoreErr → Type 0
+IsOfOpening store_errors.OutOfMemory = Unit {0}
+IsOfOpening store_errors.DiskFault = Unit {0}
+IsOfOpening store_errors.DepotFault = ⊥
+IsOfOpening (store_errors.Broken line) = Unit {0}
+IsOfOpening (store_errors.Damaged home listed found) = ⊥
+IsOfOpening (store_errors.Mismatch path listed found) = ⊥
+IsOfOpening (store_errors.NotInDepot path) = ⊥
+IsOfOpening store_errors.Unfinished = ⊥
+IsOfOpening (store_errors.Limit which) = ⊥
+
+-- its status
+abbrev pub status_of_closed : StoreErr → Status
+status_of_closed store_errors.OutOfMemory = OutOfMemory
+status_of_closed store_errors.DiskFault = DiskFault
+status_of_closed store_errors.DepotFault = DepotFault
+status_of_closed (store_errors.Broken line) = BadStore (bad.Broken line)
+status_of_closed (store_errors.Damaged home listed found) = BadStore (bad.Damaged home listed found)
+status_of_closed (store_errors.Mismatch path listed found) = OutOfMemory
+status_of_closed (store_errors.NotInDepot path) = OutOfMemory
+status_of_closed store_errors.Unfinished = Unfinished
+status_of_closed (store_errors.Limit which) = OutOfMemory
+
+pub record RunsStore (batch : Bool) (lines : List Line) (old new : StoreSide) (status : Status) : Type 0 where
+  pub follows : Follows old.disk new.disk
+  pub kept : IsKept old.depot new.depot
+  pub cause : StoreCause old new status
+  pub sound : BothTold (RunsSound batch lines old.depot old.sink new.sink status) old.disk.told new.disk.told
+
+-- ---- words
+
+-- disk and depot are left alone
+pub record RunsAlone (command : Command) (old new : Devices) (status : Status) : Type 0 where
+  pub disk : new.disk ≡ old.disk
+  pub depot : new.depot ≡ old.depot
+  pub ends : EndsAlone command (streams old.source old.sink) (streams new.source new.sink) status
+
+-- the source is left alone
+pub record RunsOver (command : Command) (old new : Devices) (status : Status) : Type 0 where
+  pub source : new.source ≡ old.source
+  pub store : RunsStore false (does command ∷ []) (store_side old.sink old.disk old.depot) (store_side new.sink new.disk new.depot) status
+
+abbrev pub RunsKind : Bool → Command → Devices → Devices → Status → Type 0
+RunsKind true command old new status = RunsOver command old new status
+RunsKind false command old new status = RunsAlone command old new status
+
+-- the words are a command, and it ran so
+pub record RunsCommand (words : List (List ℕ)) (old new : Devices) (status : Status) : Type 0 where
+  pub command : Command
+  pub well_formed : IsWellFormed command
+  pub same : words ≡ command_words command
+  pub runs : RunsKind (is_of_store command) command old new status
+
+-- The run of these words: they are no command, and nothing was touched; or there was no memory to read them, and nothing was; or
+-- they are a command, and it ran so.
+abbrev pub Runs : List (List ℕ) → Devices → Devices → Status → Type 0
+Runs words old new (Usage place) = IsUsage words place × (new ≡ old)
+Runs words old new OutOfMemory = (new ≡ old) ⊎ RunsCommand words old new OutOfMemory
+Runs words old new status = RunsCommand words old new status

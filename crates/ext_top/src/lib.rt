@@ -1,20 +1,30 @@
 //! The top call: one run of the program, from the words and the bytes that come in to the bytes that go out.
 //!
-//! [`run`] carries the theorem of the repository: whatever comes in, the status and the bytes written are those that the
-//! definitions say. A command has one file: its words, and its step from these and the bytes of a source to a reply. How
-//! a run ends is said once, over any of them. The program is a thin shell over this crate.
+//! [`run`] carries the theorem of the repository: whatever comes in, the status, the bytes written and what the store stands
+//! for are those that the machine says, at the end and after a stop at any moment. What a command wants is said below; here it
+//! is carried out, once for all commands, and how a run ends is said once, over any of them. The program is a thin shell
+//! over this crate.
 #![tactic(auto)]
 
-mod compare;
-mod keyword;
+mod alone;
+mod applied;
+mod apply_err;
+mod applying;
+mod bad_store;
 pub mod laws;
-mod layer;
-mod outcome;
-mod refusal;
+mod lines;
+mod over_store;
+mod replacing;
+mod replying;
 mod running;
 mod status;
-mod words;
+mod stop;
+#[cfg(test)]
+mod tests;
 
-pub use refusal::{Refusal, number, refusal_text};
+pub use applied::{Applied, Reply};
+pub use apply_err::ApplyErr;
+pub use applying::apply;
+pub use bad_store::BadStore;
 pub use running::run;
 pub use status::Status;

@@ -1,14 +1,15 @@
 ghost use Rattle.std.specs.Prelude.{◌≡◌};
 ghost use Rattle.ext_top.specs.Status.{status_number};
 
-use crate::refusal::Refusal;
+use crate::bad_store::BadStore;
+use ext_cmd::Refusal;
 
 /// How a run ended.
 #[derive(Debug, Drop, PartialEq, Eq)]
 pub enum Status {
     /// The command was done, and its reply was written.
     Done,
-    /// The command was refused, and the refusal's line was written.
+    /// The command was refused, and the refusal's line was written. The store is as it was.
     Refused(Refusal),
     /// The words are no command; nothing was touched.
     Usage {
@@ -16,19 +17,29 @@ pub enum Status {
         /// them, the place after the last.
         place: u64,
     },
-    /// The source failed; nothing was written.
+    /// The source failed; nothing was written, and the store was left alone.
     ReadFault,
-    /// The sink failed; a proper prefix of the reply was written.
+    /// The sink failed; the command was carried out, and a proper prefix of the reply was written.
     WriteFault,
-    /// Out of memory; nothing was written.
+    /// The disk failed. The store stands for what it stood for, or for what the command would make of it.
+    DiskFault,
+    /// The depot failed; the store is as it was, and nothing was written.
+    DepotFault,
+    /// Out of memory; the store is as it was, and nothing was written but, of a file that `cat` showed, its first bytes.
     OutOfMemory,
-    /// The source has more than 16,777,216 bytes, and one byte more was taken; nothing was written.
+    /// What is in the store folder is no store, or a file of it is another than listed.
+    BadStore(BadStore),
+    /// More left-overs stand in the store folder than one command removes; it may be given again.
+    Unfinished,
+    /// The source has more than 16,777,216 bytes, and one byte more was taken; nothing was written, and the store was left
+    /// alone.
     TooLong,
 }
 
 impl Status {
     /// The number that the process ends with: 0 for `Done`, 1 for `Refused`, 2 for `Usage`, 3 for `ReadFault`, 4 for
-    /// `WriteFault`, 7 for `OutOfMemory`, 10 for `TooLong`.
+    /// `WriteFault`, 5 for `DiskFault`, 6 for `DepotFault`, 7 for `OutOfMemory`, 8 for `BadStore`, 9 for `Unfinished`, 10
+    /// for `TooLong`.
     pub fn number(&self) -> u8
         ensures { result ≡ status_number self.now }
     {
@@ -38,7 +49,11 @@ impl Status {
             Status::Usage { .. } => 2,
             Status::ReadFault => 3,
             Status::WriteFault => 4,
+            Status::DiskFault => 5,
+            Status::DepotFault => 6,
             Status::OutOfMemory => 7,
+            Status::BadStore(_) => 8,
+            Status::Unfinished => 9,
             Status::TooLong => 10,
         }
     }

@@ -1,8 +1,11 @@
+use ext_cmd::{Refusal, number, refusal_text};
+use ext_depot::MemoryDepot;
+use ext_disk::MemoryDisk;
 use ext_io::{Calls, MemorySink, MemorySource};
 use ext_lines::append_decimal;
 use ext_text::{OutOfMemory, Path, Text, Which, Words};
-use ext_top::laws::{compare_is_done, one_command, one_reply};
-use ext_top::{Refusal, Status, number, refusal_text, run};
+use ext_top::laws::{compare_is_done, one_reply};
+use ext_top::{Status, run};
 use std::alloc::Global;
 use std::test::Fail;
 
@@ -281,7 +284,7 @@ fn words_of(alloc: Global, texts: &[&str]) -> Result<Words, OutOfMemory> {
 }
 
 // The status of a run of these words, and the bytes that it wrote: over devices that move so many bytes a call, and fail
-// at the read and the write of these numbers.
+// at the read and the write of these numbers, and over a disk and a depot whose first call fails.
 fn run_over(
     alloc: Global,
     words: &[&str],
@@ -293,7 +296,9 @@ fn run_over(
     let text = Text::from_bytes(alloc, source)?;
     let mut source = MemorySource::new(text, piece.max(1), calls(alloc, fails.0)?);
     let mut sink = MemorySink::new(alloc, piece.max(1), calls(alloc, fails.1)?);
-    let status = run(alloc, &words, &mut source, &mut sink);
+    let mut disk = MemoryDisk::new(alloc, Calls::new(alloc), Some(1));
+    let mut depot = MemoryDepot::new(alloc, calls(alloc, 1)?);
+    let status = run(alloc, &words, &mut source, &mut sink, &mut disk, &mut depot);
     Ok((status, Text::from_bytes(alloc, sink.written())?))
 }
 
@@ -395,7 +400,6 @@ fn words_and_sources_have_one_reply(rt: HostRuntime) -> Result<(), Fail> {
 
 #[test]
 fn the_laws_are_called() {
-    one_command();
     one_reply();
     compare_is_done();
 }

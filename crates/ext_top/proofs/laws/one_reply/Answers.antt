@@ -1,4 +1,4 @@
-use Rattle.ext_top.proofs.ReplyLemmas.{one_reply}
+use Rattle.ext_top.proofs.AloneLemmas.{one_reply}
 use Rattle.ext_top.proofs.laws.one_reply.Goals as goal
 
 pub returns : goal.returns

@@ -1,4 +1,4 @@
-use Rattle.ext_top.proofs.RunningLemmas.{run_completes}
+use Rattle.ext_top.proofs.CompletingLemmas.{run_completes}
 use Rattle.ext_top.proofs.running.run.Goals as goal
 
 pub returns-clause-complete : goal.returns-clause-complete

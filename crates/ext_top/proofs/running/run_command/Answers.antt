@@ -1,12 +1,16 @@
-use Rattle.std.proofs.Common.{refl}
-use Rattle.ext_top.specs.Words.{Compare}
-use Rattle.ext_top.specs.Compare.{compare_line}
-use Rattle.ext_top.specs.declared.outcome.Outcome.TheVariants.{Gives}
-use Rattle.ext_top.proofs.RunningLemmas.{line_ends}
+use Rattle.std.proofs.Common.{[], refl}
+use Rattle.ext_cmd.specs.declared.command.Command.TheVariants.{Compare}
+use Rattle.ext_step.specs.Compare.{compare_intent}
+use Rattle.ext_top.proofs.RunsLemmas.{intent_ends}
 use Rattle.ext_top.proofs.running.run_command.Goals as goal
 
-pub returns-in-Compare-clause-ends : goal.returns-in-Compare-clause-ends
-returns-in-Compare-clause-ends g c =
-    let a = c.in-Compare.a.now in
-    let b = c.in-Compare.b.now in
-    rw c.in-Compare.is (line_ends (Compare a b) _ _ _ (Gives (compare_line a b)) _ refl refl c.run_compare.ensures.writes)
+pub returns-in-Compare-clause-runs : goal.returns-in-Compare-clause-runs
+returns-in-Compare-clause-runs g c =
+    let a = c.in-Compare.a in
+    let b = c.in-Compare.b in
+    let source = g.S.Source.state c.args.source.now in
+    rw c.in-Compare.is (record {
+      disk = refl;
+      depot = refl;
+      ends = intent_ends (Compare a b) [] source source (g.K.Sink.state c.args.sink.now) (g.K.Sink.state c.run_compare.new.sink) (compare_intent a b) c.run_compare.result (refl, refl) refl c.run_compare.ensures.writes;
+    })

@@ -1,0 +1,139 @@
+-- Commands that only read the store: nothing is done, or its files are checked, or one of them is shown.
+use Rattle.std.proofs.Common.{◌≡◌, ◌≢◌, ℕ, Bool, true, List, inl, Option, Some, None, IfSome, Result, Ok, Err, refl, sym, ap, ◌∙◌, subst}
+use Rattle.ext_tree.specs.declared.stamp.Stamp.{Stamp}
+use Rattle.ext_depot.specs.Depot.{DepotState}
+use Rattle.ext_disk.specs.Disk.{Places, Told, DiskState, BothTold, IsDisk, now}
+use Rattle.ext_disk.specs.Since.{Rests}
+use Rattle.ext_host.specs.Drawn.{IsFileOf, trees_of}
+use Rattle.ext_host.specs.Held.{HeldFile}
+use Rattle.ext_host.specs.Shelf.{IsFound, ShelfCause}
+use Rattle.ext_host.specs.declared.home.Home.{Home}
+use Rattle.ext_host.specs.declared.host.Host.{Host}
+use Rattle.ext_host.specs.declared.shelf.ShelfErr.{ShelfErr}
+use Rattle.ext_host.specs.declared.shelf.ShelfErr.TheVariants as shelf_errors
+use Rattle.ext_store.specs.HeldFiles.{body_told, is_served}
+use Rattle.ext_homes.specs.Giving.{lists_kept, trees_before}
+use Rattle.ext_gen.specs.Checking as gen
+use Rattle.ext_gen.specs.Checking.{AreChecked, files_of_host, sizes_of}
+use Rattle.ext_gen.specs.Opened.{Generation, IsOpened}
+use Rattle.ext_gen.specs.Preparing.{host_before}
+use Rattle.ext_gen.specs.Store.{State, none, at, Stands, generation_in}
+use Rattle.ext_gen.specs.Sound.{IsFirmly}
+use Rattle.ext_gen.proofs.ForCallers.{opened_is_served, opened_is_well_formed}
+use Rattle.ext_cmd.specs.Replies.{answer_text}
+use Rattle.ext_cmd.specs.declared.answer.Answer.{Answer}
+use Rattle.ext_cmd.specs.declared.answer.Answer.TheVariants.{Checked}
+use Rattle.ext_cmd.specs.declared.refusal.Refusal.{Refusal}
+use Rattle.ext_step.specs.DepotText.{PlanCause}
+use Rattle.ext_step.specs.declared.plan_err.PlanErr.{PlanErr}
+use Rattle.ext_step.specs.declared.plan_err.PlanErr.TheVariants as plan_errors
+use Rattle.ext_step.specs.Check.{host_bytes, host_files}
+use Rattle.ext_step.specs.Intents.{trees_seen}
+use Rattle.ext_step.specs.declared.intent.Intent.TheVariants.{Answers, Refuses}
+use Rattle.ext_top.specs.Applying.{AppliesEnds, AppliesTold, ApplyCause, IsApplied, IsDamage, IsShownReply, RestCause, of_plan, of_shelf}
+use Rattle.ext_top.specs.Machine.{Comes, Counts, Outcome, bytes_at, checked_text, gives, refuses, shows, state_after, trees_in}
+use Rattle.ext_top.specs.declared.applied.Applied.{Applied}
+use Rattle.ext_top.specs.declared.applied.Reply.TheVariants.{Text, File, Refused}
+use Rattle.ext_top.specs.declared.apply_err.ApplyErr.{ApplyErr}
+use Rattle.ext_top.specs.declared.apply_err.ApplyErr.TheVariants.{DiskFault, DepotFault, Damaged, Unfinished, OutOfMemory}
+use Rattle.ext_top.proofs.ApplyingLemmas.{rested_told, trees_alike}
+use Rattle.ext_top.proofs.CheckLemmas.{file_of_host, kept_is_listed, number_of_host, size_of_host}
+use Rattle.ext_top.proofs.StoredLemmas.{none_damaged, of_no_tree}
+
+-- ---- an outcome that leaves the state
+
+pub answered : (P : State → Outcome → Type 0) (from : Option Generation) (old new : DiskState) (applied : Applied) (outcome : State → Outcome) → new.told ≡ old.told → IfSome old.told IsDisk
+    → ((s : State) → generation_in s ≡ from → P s (outcome s) × IsApplied s (outcome s) applied × (state_after s (outcome s) ≡ s)) → BothTold (AppliesTold P from (Ok applied)) old.told new.told
+answered P from old new applied outcome same disk says = rested_told P from (Ok applied) old.told new.told same disk (λ d told s is firmly.
+    let of = says s is in
+    (outcome s, of.0, of.1, subst (λ t. IsFirmly t d.places) (sym of.2) firmly))
+
+-- an answer
+pub answers_applied : (answer : Answer) (text : List ℕ) (from : Option Generation) (depot : DepotState) (old new : DiskState) → text ≡ answer_text answer → new.told ≡ old.told → IfSome old.told IsDisk
+    → BothTold (AppliesTold (λ s. Comes s depot (Answers answer)) from (Ok (record { opened = from; reply = Text text }))) old.told new.told
+answers_applied answer text from depot old new is same disk = answered (λ s. Comes s depot (Answers answer)) from old new (record { opened = from; reply = Text text }) (λ s. gives s text) same disk
+    (λ s here. (ap (gives s) is, record { opened = sym here; reply = (s, refl) }, refl))
+
+-- a refusal
+pub refusal_applied : (refusal : Refusal) (from : Option Generation) (depot : DepotState) (old new : DiskState) → new.told ≡ old.told → IfSome old.told IsDisk
+    → BothTold (AppliesTold (λ s. Comes s depot (Refuses refusal)) from (Ok (record { opened = from; reply = Refused refusal }))) old.told new.told
+refusal_applied refusal from depot old new same disk = answered (λ s. Comes s depot (Refuses refusal)) from old new (record { opened = from; reply = Refused refusal }) (λ s. refuses refusal) same disk
+    (λ s here. (refl, record { opened = sym here; reply = refl }, refl))
+
+-- ---- an error that leaves the state
+
+-- no store that stands for a state is damaged
+pub no_damage : (s : State) (from : Option Generation) (d : Told) (disk : DiskState) (home : Home) (listed : Stamp) (found : Option Stamp) → generation_in s ≡ from → disk.told ≡ Some d → Stands (now d.places) s
+    → ¬ IsDamage from disk home listed found
+no_damage s from d disk home listed found is told stands damage =
+    none_damaged s d disk told stands listed home found (subst (λ o. lists_kept (trees_before (host_before o)) listed home) (sym is) damage.lists) damage.differs
+
+unread_ends : (P : Outcome → Type 0) (from : Option Generation) (old new : DiskState) (error : ApplyErr) (s : State) (d : Told) → generation_in s ≡ from → old.told ≡ Some d → IsFirmly s d.places → RestCause from old new error
+    → AppliesEnds P s (Err error) d.places
+unread_ends P from old new DiskFault s d is told firmly cause = inl firmly
+unread_ends P from old new DepotFault s d is told firmly cause = absurd cause
+unread_ends P from old new (Damaged home listed found) s d is told firmly cause = absurd (no_damage s from d old home listed found is told firmly.stands cause)
+unread_ends P from old new Unfinished s d is told firmly cause = absurd cause
+unread_ends P from old new OutOfMemory s d is told firmly cause = firmly
+
+pub unread_applies : (P : State → Outcome → Type 0) (from : Option Generation) (old new : DiskState) (error : ApplyErr) → new.told ≡ old.told → IfSome old.told IsDisk → RestCause from old new error
+    → BothTold (AppliesTold P from (Err error)) old.told new.told
+unread_applies P from old new error same disk cause = rested_told P from (Err error) old.told new.told same disk (λ d told s is firmly. unread_ends (P s) from old new error s d is told firmly cause)
+
+-- the same of a command that may do more
+pub rest_cause : (from : Option Generation) (old new : DiskState) (before after : DepotState) (error : ApplyErr) → RestCause from old new error → ApplyCause from old new before after error
+rest_cause from old new before after DiskFault cause = cause
+rest_cause from old new before after DepotFault cause = absurd cause
+rest_cause from old new before after (Damaged home listed found) cause = cause
+rest_cause from old new before after Unfinished cause = absurd cause
+rest_cause from old new before after OutOfMemory cause = tt
+
+-- ---- a file that was not read
+
+-- it is a file of the host that the store has
+pub file_cause : (from : Option Generation) (old new : DiskState) (held : HeldFile) (error : ShelfErr) → IsFileOf (trees_before (host_before from)) held → ShelfCause old.faults new.faults (body_told old held.body) held error
+    → RestCause from old new (of_shelf error)
+file_cause from old new held shelf_errors.OutOfMemory file cause = tt
+file_cause from old new held shelf_errors.Fault file cause = cause
+file_cause from old new held (shelf_errors.Damaged home listed found) file cause = record {
+  lists = kept_is_listed (trees_before (host_before from)) held home listed cause.0 file;
+  differs = subst (λ t. IsFound listed t found) (ap (body_told old) cause.0.body) cause.1;
+}
+
+-- the first of the host's files that was not
+pub check_cause : (g : Generation) (old new : DiskState) (error : ShelfErr) → IsOpened g → gen.StopsAt old new (files_of_host g.host) error → RestCause (Some g) old new (of_shelf error)
+check_cause g old new error opened stops =
+    file_cause (Some g) old new stops.held error (file_of_host g.host stops.before stops.after stops.held (opened_is_well_formed g opened) stops.is) stops.cause
+
+-- ---- files that were checked
+
+checked_is : (disk : DiskState) (host : Host) (counts : ℕ × ℕ) (text : List ℕ) → AreChecked disk (files_of_host host) counts → text ≡ answer_text (Checked counts.0 counts.1) → text ≡ checked_text host
+checked_is disk host counts text checked is =
+    is ∙ (ap (λ n. answer_text (Checked n counts.1)) (checked.number ∙ number_of_host host) ∙ ap (λ n. answer_text (Checked (host_files host) n)) (checked.bytes ∙ size_of_host host))
+
+counts_of : (g : Generation) (text : List ℕ) (s : State) → text ≡ checked_text g.host → generation_in s ≡ Some g → Counts s (gives s text)
+counts_of g text none is same = cc
+counts_of g text (at h contents) is same = let one : h ≡ g = cc in ap (gives (at h contents)) (is ∙ ap (λ (x : Generation). checked_text x.host) (sym one))
+
+pub checked_applied : (g : Generation) (counts : ℕ × ℕ) (text : List ℕ) (old new : DiskState) → AreChecked old (files_of_host g.host) counts → text ≡ answer_text (Checked counts.0 counts.1) → new.told ≡ old.told → IfSome old.told IsDisk
+    → BothTold (AppliesTold (λ s. Counts s) (Some g) (Ok (record { opened = Some g; reply = Text text }))) old.told new.told
+checked_applied g counts text old new checked is same disk = answered (λ s. Counts s) (Some g) old new (record { opened = Some g; reply = Text text }) (λ s. gives s text) same disk
+    (λ s here. (counts_of g text s (checked_is old g.host counts text checked is) here, record { opened = sym here; reply = (s, refl) }, refl))
+
+-- ---- a file that is shown
+
+pub seen_is_before : (from : Option Generation) (held : HeldFile) → IsFileOf (trees_seen (host_before from)) held → IsFileOf (trees_before (host_before from)) held
+seen_is_before from held file = subst (λ trees. IsFileOf trees held) (trees_alike from) file
+
+before_is_served : (from : Option Generation) (held : HeldFile) → IfSome from IsOpened → IsFileOf (trees_before (host_before from)) held → is_served held.body ≡ true
+before_is_served None held opened file = absurd (of_no_tree held file)
+before_is_served (Some g) held opened file = opened_is_served g opened held file
+
+pub seen_is_served : (from : Option Generation) (held : HeldFile) → IfSome from IsOpened → IsFileOf (trees_seen (host_before from)) held → is_served held.body ≡ true
+seen_is_served from held opened file = before_is_served from held opened (seen_is_before from held file)
+
+pub shown_applied : (held : HeldFile) (from : Option Generation) (old new : DiskState) → IsFileOf (trees_before (host_before from)) held → new.told ≡ old.told → IfSome old.told IsDisk
+    → BothTold (AppliesTold (λ s outcome. outcome ≡ shows (bytes_at s held.body)) from (Ok (record { opened = from; reply = File held }))) old.told new.told
+shown_applied held from old new file same disk =
+    answered (λ s outcome. outcome ≡ shows (bytes_at s held.body)) from old new (record { opened = from; reply = File held }) (λ s. shows (bytes_at s held.body)) same disk
+    (λ s here. (refl, record { opened = sym here; reply = (refl, subst (λ o. IsFileOf (trees_before (host_before o)) held) (sym here) file) }, refl))

@@ -1,0 +1,238 @@
+-- A run over a store: it is opened, and then its line runs.
+use Rattle.std.proofs.Common.{◌≡◌, ◌≢◌, ℕ, zero, suc, ◌+◌, ◌<◌, ◌≤◌, Bool, true, false, List, [], ◌∷◌, ◌++◌, length, ◌⊎◌, inl, inr, Option, Some, None, is_some, IfSome, Result, Ok, Err, refl, sym, ap, ◌∙◌, subst, arith, append-nil}
+use Rattle.std.specs.Io.KnownBytes.{Appends}
+use Rattle.ext_text.specs.Causes.{Rose}
+use Rattle.ext_io.specs.SinkState.{SinkState}
+use Rattle.ext_tree.specs.declared.stamp.Stamp.{Stamp}
+use Rattle.ext_depot.specs.Depot.{DepotState, IsKept}
+use Rattle.ext_disk.specs.Disk.{Places, Told, DiskState, BothTold, now}
+use Rattle.ext_disk.specs.Since.{IsLater}
+use Rattle.ext_host.specs.Shelf.{IsFound}
+use Rattle.ext_host.specs.declared.home.Home.{Home}
+use Rattle.ext_store.specs.HeldFiles.{node_told, told_at}
+use Rattle.ext_store.specs.Names.{home_path}
+use Rattle.ext_store.specs.Removal.{AllStand, MoreThan, Stand}
+use Rattle.ext_store.specs.Writing.{WorksTold, nowhere}
+use Rattle.ext_homes.specs.Giving.{lists_kept, trees_before}
+use Rattle.ext_gen.specs.Broken.{IsBroken}
+use Rattle.ext_gen.specs.Opened.{Generation}
+use Rattle.ext_gen.specs.Opening.{KeepsNow, OpenCause, OpenEnds, OpenSays, OpensSound, OpensTold}
+use Rattle.ext_gen.specs.Preparing.{host_before, is_left}
+use Rattle.ext_gen.specs.Store.{State, Points, Stands, generation_in}
+use Rattle.ext_gen.specs.Sound.{IsEither, IsFirmly, IsMember, IsSound, StandsSince}
+use Rattle.ext_gen.specs.declared.errors.StoreErr.{StoreErr}
+use Rattle.ext_gen.specs.declared.errors.StoreErr.TheVariants as store_errors
+use Rattle.ext_gen.proofs.ForCallers.{either_is_sound, firmly_is_sound, sound_is_not_broken, stands_since_then, stands_since_wider}
+use Rattle.ext_cmd.specs.declared.command.Command.{Command}
+use Rattle.ext_cmd.specs.declared.refusal.Refusal.{Refusal}
+use Rattle.ext_top.specs.Alone.{status_of_refusal}
+use Rattle.ext_top.specs.Applying.{IsCrowded, IsDamage, PointsAs}
+use Rattle.ext_top.specs.Exits.{Ends, IsOnTheWay, Line, Standing, StandsAs, between, does, firm}
+use Rattle.ext_top.specs.Lines.{LineCause, LineDone, LineEnds, LineRuns, LineStops, LineTold}
+use Rattle.ext_top.specs.Machine.{Outcome, refusal_of, reply_of, state_after}
+use Rattle.ext_top.specs.Running.{IsClosed, IsCrowdedNow, IsDamagedNow, IsOfOpening, OpenedCause, RunsClosed, RunsFrom, RunsOpened, RunsSound, RunsStore, RunsTold, StoreCause, StoreSide, status_of, status_of_closed, status_of_stop, store_side}
+use Rattle.ext_top.specs.declared.bad_store.BadStore.TheVariants as bad
+use Rattle.ext_top.specs.declared.lines.Written.{Written}
+use Rattle.ext_top.specs.declared.status.Status.{Status}
+use Rattle.ext_top.specs.declared.status.Status.TheVariants.{Done, Refused, Usage, ReadFault, WriteFault, DiskFault, DepotFault, OutOfMemory, BadStore, Unfinished, TooLong}
+use Rattle.ext_top.specs.declared.stop.Stop.{Stop}
+use Rattle.ext_top.specs.declared.stop.Stop.TheVariants as stops
+
+-- ---- one line
+
+-- the result of lines, of which the last one is done or stopped so
+abbrev pub last_of : Result Written Stop → Result (Option Refusal) Stop
+last_of (Ok written) = Ok written.refusal
+last_of (Err stop) = Err stop
+
+line_runs : (line : Line) (depot : DepotState) (k l : SinkState) (result : Result Written Stop) (s : State) (d e : Told) → LineRuns line s depot k l result d e → RunsFrom false (line ∷ []) depot k l (status_of false (last_of result)) s d e
+line_runs line depot k l (Ok written) s d e runs =
+    let done = runs.ends in
+    record {
+      result = Ok written.refusal;
+      status_is = refl;
+      bytes = reply_of done.outcome;
+      written = done.appends;
+      standing = firm (state_after s done.outcome);
+      stands = done.firmly;
+      ends = inr (done.outcome, [], done.comes, sym (append-nil (reply_of done.outcome)), (ap Ok done.refusal, refl, refl));
+      since = runs.since;
+    }
+line_runs line depot k l (Err stop) s d e runs =
+    let stops = runs.ends in
+    record {
+      result = Err stop;
+      status_is = refl;
+      bytes = stops.part;
+      written = stops.appends;
+      standing = stops.standing;
+      stands = stops.stands;
+      ends = inl (stop, refl, stops.stops);
+      since = runs.since;
+    }
+
+pub line_is_run : (line : Line) (opened : Option Generation) (depot : DepotState) (k l : SinkState) (result : Result Written Stop) (x y : Option Told) → BothTold (LineTold line opened depot k l result) x y
+    → BothTold (RunsTold false (line ∷ []) opened depot k l (status_of false (last_of result))) x y
+line_is_run line opened depot k l result None None runs = tt
+line_is_run line opened depot k l result None (Some e) runs = absurd runs
+line_is_run line opened depot k l result (Some d) None runs = absurd runs
+line_is_run line opened depot k l result (Some d) (Some e) runs = λ s is firmly. line_runs line depot k l result s d e (runs s is firmly)
+
+-- a line that was done or refused blames nothing
+pub no_cause : (opened : Option Generation) (old new : StoreSide) (refusal : Option Refusal) → OpenedCause opened old new (status_of_refusal refusal)
+no_cause opened old new None = tt
+no_cause opened old new (Some refusal) = tt
+
+pub stop_cause : (opened : Option Generation) (old new : StoreSide) (stop : Stop) → LineCause opened old.sink new.sink old.disk new.disk old.depot new.depot stop → OpenedCause opened old new (status_of_stop stop)
+stop_cause opened old new stops.WriteFault cause = cause
+stop_cause opened old new stops.DiskFault cause = cause
+stop_cause opened old new stops.DepotFault cause = cause
+stop_cause opened old new stops.OutOfMemory cause = tt
+stop_cause opened old new (stops.BadStore (bad.Broken line)) cause = absurd cause
+stop_cause opened old new (stops.BadStore (bad.Damaged home listed found)) cause = cause
+stop_cause opened old new stops.Unfinished cause = cause
+
+-- ---- the same stands after opening
+
+same_now : (d e : Told) → KeepsNow d e → now e.places ≡ now d.places
+same_now d e keeps = λ i p. keeps.now p refl i
+
+points_now : (opened : Option Generation) (x y : Option Told) → BothTold KeepsNow x y → IfSome x (λ d. Points (now d.places) opened) → IfSome y (λ e. Points (now e.places) opened)
+points_now opened None None keeps points = tt
+points_now opened None (Some e) keeps points = absurd keeps
+points_now opened (Some d) None keeps points = absurd keeps
+points_now opened (Some d) (Some e) keeps points = subst (λ t. Points t opened) (sym (same_now d e keeps)) points
+
+pub opened_points : (opened : Option Generation) (old new : DiskState) → BothTold KeepsNow old.told new.told → IfSome old.told (λ d. OpenSays (Ok opened) (now d.places)) → PointsAs new opened
+opened_points opened old new keeps says = points_now opened old.told new.told keeps says
+
+-- ---- opened
+
+standing_is_sound : (standing : Standing) (d : Places) → StandsAs standing d → IsSound d
+standing_is_sound (firm s) d firmly = firmly_is_sound s d firmly
+standing_is_sound (between s u) d either = either_is_sound s u d either
+
+runs_opened : (lines : List Line) (depot : DepotState) (k l : SinkState) (status : Status) (opened : Option Generation) (d e f : Told) → IsLater e f → OpensTold (Ok opened) d e → RunsTold false lines opened depot k l status e f
+    → RunsSound false lines depot k l status d f
+runs_opened lines depot k l status opened d e f later opens runs = λ sound.
+    let (s, is, stood, firmly) = (opens sound).ends in
+    let from = runs s is firmly in
+    let P : State → Type 0 = λ x. IsMember d.places x ⊎ IsOnTheWay s depot lines x in (
+      standing_is_sound from.standing f.places from.stands,
+      inl (record {
+        state = s;
+        stood = stood;
+        result = from.result;
+        status_is = from.status_is;
+        bytes = from.bytes;
+        written = from.written;
+        standing = from.standing;
+        stands = from.stands;
+        ends = from.ends;
+        since = stands_since_then P e f d.clock later
+            (stands_since_wider (IsMember d.places) P e d.clock (λ x member. inl member) (opens sound).since)
+            (stands_since_wider (IsOnTheWay s depot lines) P f e.clock (λ x on. inr on) from.since);
+      }),
+    )
+
+pub opened_runs : (lines : List Line) (depot : DepotState) (k l : SinkState) (status : Status) (opened : Option Generation) (x y z : Option Told) → BothTold IsLater y z → BothTold (OpensTold (Ok opened)) x y → BothTold (RunsTold false lines opened depot k l status) y z
+    → BothTold (RunsSound false lines depot k l status) x z
+opened_runs lines depot k l status opened None None None later opens runs = tt
+opened_runs lines depot k l status opened None None (Some f) later opens runs = absurd later
+opened_runs lines depot k l status opened None (Some e) z later opens runs = absurd opens
+opened_runs lines depot k l status opened (Some d) None z later opens runs = absurd opens
+opened_runs lines depot k l status opened (Some d) (Some e) None later opens runs = absurd later
+opened_runs lines depot k l status opened (Some d) (Some e) (Some f) later opens runs = runs_opened lines depot k l status opened d e f later opens runs
+
+-- ---- causes, from before opening
+
+rose_from : (a b c : ℕ) → a ≤ b → Rose b c → Rose a c
+rose_from a b c le (inl more) = inl (omega arith)
+rose_from a b c le (inr most) = inr most
+
+damaged_before : (opened : Option Generation) (home : Home) (listed : Stamp) (found : Option Stamp) (old mid : DiskState) (x y : Option Told) → mid.told ≡ y → BothTold KeepsNow x y → IfSome x (λ d. Points (now d.places) opened) → IsDamage opened mid home listed found
+    → IfSome x (λ d. IsDamagedNow d home listed found)
+damaged_before opened home listed found old mid None y told keeps points damage = tt
+damaged_before opened home listed found old mid (Some d) None told keeps points damage = absurd keeps
+damaged_before opened home listed found old mid (Some d) (Some e) told keeps points damage = record {
+  opened = opened;
+  points = points;
+  lists = damage.lists;
+  differs = subst (λ t. IsFound listed t found) (ap (λ o. told_at o (home_path home.generation home.file)) told ∙ ap node_told (keeps.now (home_path home.generation home.file) refl)) damage.differs;
+}
+
+all_stand_before : (left : List (List ℕ) → Bool) (d e : Told) (ps : List (List (List ℕ))) → KeepsNow d e → AllStand left e.places ps → AllStand left d.places ps
+all_stand_before left d e [] keeps all = tt
+all_stand_before left d e (p ∷ ps) keeps (reached, stands, rest) = (reached, ap is_some (sym (keeps.now p refl)) ∙ stands, all_stand_before left d e ps keeps rest)
+
+stand_before : (left : List (List ℕ) → Bool) (d e : Told) → KeepsNow d e → MoreThan 1048576 left e.places → MoreThan 1048576 left d.places
+stand_before left d e keeps (ps, stand, long) = (ps, record { distinct = stand.distinct; all = all_stand_before left d e ps keeps stand.all }, long)
+
+crowded_before : (opened : Option Generation) (x y : Option Told) → BothTold KeepsNow x y → IfSome x (λ d. Points (now d.places) opened) → IfSome y (λ e. MoreThan 1048576 (is_left opened) e.places) → IfSome x IsCrowdedNow
+crowded_before opened None y keeps points more = tt
+crowded_before opened (Some d) None keeps points more = absurd keeps
+crowded_before opened (Some d) (Some e) keeps points more = record { opened = opened; points = points; more = stand_before (is_left opened) d e keeps more }
+
+pub opened_cause : (opened : Option Generation) (k l : SinkState) (old mid new : DiskState) (before after : DepotState) (status : Status) → old.faults ≤ mid.faults → BothTold KeepsNow old.told mid.told → IfSome old.told (λ d. OpenSays (Ok opened) (now d.places))
+    → OpenedCause opened (store_side k mid before) (store_side l new after) status → StoreCause (store_side k old before) (store_side l new after) status
+opened_cause opened k l old mid new before after Done le keeps says cause = tt
+opened_cause opened k l old mid new before after (Refused refusal) le keeps says cause = tt
+opened_cause opened k l old mid new before after (Usage place) le keeps says cause = absurd cause
+opened_cause opened k l old mid new before after ReadFault le keeps says cause = absurd cause
+opened_cause opened k l old mid new before after WriteFault le keeps says cause = cause
+opened_cause opened k l old mid new before after DiskFault le keeps says cause = rose_from old.faults mid.faults new.faults le cause
+opened_cause opened k l old mid new before after DepotFault le keeps says cause = cause
+opened_cause opened k l old mid new before after OutOfMemory le keeps says cause = tt
+opened_cause opened k l old mid new before after (BadStore (bad.Broken line)) le keeps says cause = absurd cause
+opened_cause opened k l old mid new before after (BadStore (bad.Damaged home listed found)) le keeps says cause = damaged_before opened home listed found old mid old.told mid.told refl keeps says cause
+opened_cause opened k l old mid new before after Unfinished le keeps says cause = crowded_before opened old.told mid.told keeps says cause
+opened_cause opened k l old mid new before after TooLong le keeps says cause = absurd cause
+
+-- ---- not opened
+
+pub is_of_opening : (old new : ℕ) (error : StoreErr) → OpenCause old new error → IsOfOpening error
+is_of_opening old new store_errors.OutOfMemory cause = tt
+is_of_opening old new store_errors.DiskFault cause = tt
+is_of_opening old new store_errors.DepotFault cause = cause
+is_of_opening old new (store_errors.Broken line) cause = tt
+is_of_opening old new (store_errors.Damaged home listed found) cause = cause
+is_of_opening old new (store_errors.Mismatch path listed found) cause = cause
+is_of_opening old new (store_errors.NotInDepot path) cause = cause
+is_of_opening old new store_errors.Unfinished cause = cause
+is_of_opening old new (store_errors.Limit which) cause = cause
+
+pub closed_cause : (k l : SinkState) (old new : DiskState) (before after : DepotState) (error : StoreErr) → IfSome old.told (λ d. OpenSays (Err error) (now d.places)) → OpenCause old.faults new.faults error
+    → StoreCause (store_side k old before) (store_side l new after) (status_of_closed error)
+closed_cause k l old new before after store_errors.OutOfMemory says cause = tt
+closed_cause k l old new before after store_errors.DiskFault says cause = cause
+closed_cause k l old new before after store_errors.DepotFault says cause = absurd cause
+closed_cause k l old new before after (store_errors.Broken line) says cause = says
+closed_cause k l old new before after (store_errors.Damaged home listed found) says cause = absurd cause
+closed_cause k l old new before after (store_errors.Mismatch path listed found) says cause = tt
+closed_cause k l old new before after (store_errors.NotInDepot path) says cause = tt
+closed_cause k l old new before after store_errors.Unfinished says cause = absurd cause
+closed_cause k l old new before after (store_errors.Limit which) says cause = tt
+
+closed_status : (d : Told) (old new : ℕ) (error : StoreErr) → IsSound d.places → OpenSays (Err error) (now d.places) → OpenCause old new error → IsClosed (status_of_closed error)
+closed_status d old new store_errors.OutOfMemory sound says cause = inr refl
+closed_status d old new store_errors.DiskFault sound says cause = inl refl
+closed_status d old new store_errors.DepotFault sound says cause = absurd cause
+closed_status d old new (store_errors.Broken line) sound says cause = absurd (sound_is_not_broken d.places line sound says)
+closed_status d old new (store_errors.Damaged home listed found) sound says cause = absurd cause
+closed_status d old new (store_errors.Mismatch path listed found) sound says cause = absurd cause
+closed_status d old new (store_errors.NotInDepot path) sound says cause = absurd cause
+closed_status d old new store_errors.Unfinished sound says cause = absurd cause
+closed_status d old new (store_errors.Limit which) sound says cause = absurd cause
+
+closed_is_sound : (d e : Told) → IsSound d.places → ((e ≡ d) ⊎ ((s : State) × Stands (now d.places) s × IsFirmly s e.places)) → IsSound e.places
+closed_is_sound d e sound (inl same) = subst (λ (t : Told). IsSound t.places) (sym same) sound
+closed_is_sound d e sound (inr (s, stood, firmly)) = firmly_is_sound s e.places firmly
+
+pub closed_runs : (lines : List Line) (depot : DepotState) (k : SinkState) (old new : ℕ) (error : StoreErr) (x y : Option Told) → IfSome x (λ d. OpenSays (Err error) (now d.places)) → OpenCause old new error → BothTold (OpensTold (Err error)) x y
+    → BothTold (RunsSound false lines depot k k (status_of_closed error)) x y
+closed_runs lines depot k old new error None None says cause opens = tt
+closed_runs lines depot k old new error None (Some e) says cause opens = absurd opens
+closed_runs lines depot k old new error (Some d) None says cause opens = absurd opens
+closed_runs lines depot k old new error (Some d) (Some e) says cause opens = λ sound.
+    let of = opens sound in
+    (closed_is_sound d e sound of.ends, inr (record { closed = closed_status d old new error sound says cause; nothing = refl; ends = of.ends; since = of.since }))

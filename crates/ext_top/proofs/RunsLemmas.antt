@@ -1,0 +1,96 @@
+-- How a run ends: a command that looks at no store writes what it says; and the words are a command, which ran so.
+use Rattle.std.proofs.Common.{◌≡◌, ◌≤◌, ◌+◌, ℕ, Bool, true, false, List, [], length, inl, inr, Option, Some, None, refl, sym, ap, ◌∙◌, subst, arith}
+use Rattle.std.specs.Prelude.{reverse}
+use Rattle.std.specs.Io.KnownBytes.{Appends}
+use Rattle.ext_io.specs.SourceState.{SourceState}
+use Rattle.ext_io.specs.SinkState.{SinkState}
+use Rattle.ext_tree.specs.Tree.{Entries}
+use Rattle.ext_tree.specs.declared.stamp.Stamp.{Stamp}
+use Rattle.ext_cmd.specs.Refusals.{refusal_line}
+use Rattle.ext_cmd.specs.Replies.{answer_text}
+use Rattle.ext_cmd.specs.Words.{IsWellFormed, command_words}
+use Rattle.ext_cmd.specs.declared.answer.Answer.{Answer}
+use Rattle.ext_cmd.specs.declared.command.Command.{Command}
+use Rattle.ext_cmd.specs.declared.refusal.Refusal.{Refusal}
+use Rattle.ext_step.specs.Layer.{LayersWant, LayerWants}
+use Rattle.ext_step.specs.Step.{is_of_store}
+use Rattle.ext_step.specs.declared.intent.Intent.{Intent}
+use Rattle.ext_step.specs.declared.intent.Intent.TheVariants.{Answers, Refuses}
+use Rattle.ext_gen.specs.Store.{none}
+use Rattle.ext_top.specs.Alone.{AloneWants, ComesAlone, IsAlone, reads_source, status_of_refusal}
+use Rattle.ext_top.specs.Machine.{Outcome, gives, refuses, refusal_of, reply_of}
+use Rattle.ext_top.specs.Running.{CameTo, Devices, EndsAlone, Runs, RunsCommand, RunsKind, TakesAll, TakesSome, WritesIntent, WritesLast, WritesOutcome, most_source, streams}
+use Rattle.ext_top.specs.declared.status.Status.{Status}
+use Rattle.ext_top.specs.declared.status.Status.TheVariants.{Done, Refused, Usage, ReadFault, WriteFault, DiskFault, DepotFault, OutOfMemory, BadStore, Unfinished, TooLong}
+
+-- ---- what was come to is written
+
+pub answer_written : (answer : Answer) (text : List ℕ) (k l : SinkState) (status : Status) → text ≡ answer_text answer → WritesLast Done text k l status → WritesIntent (Answers answer) k l status
+answer_written answer text k l status is writes = (gives none (answer_text answer), refl, inl (subst (λ t. WritesLast Done t k l status) is writes))
+
+pub answer_starved : (answer : Answer) (k : SinkState) → WritesIntent (Answers answer) k k OutOfMemory
+answer_starved answer k = (gives none (answer_text answer), refl, inr (refl, refl))
+
+pub refusal_written : (refusal : Refusal) (text : List ℕ) (k l : SinkState) (status : Status) → text ≡ refusal_line refusal → WritesLast (Refused refusal) text k l status → WritesIntent (Refuses refusal) k l status
+refusal_written refusal text k l status is writes = (refuses refusal, refl, inl (subst (λ t. WritesLast (Refused refusal) t k l status) is writes))
+
+pub refusal_starved : (refusal : Refusal) (k : SinkState) → WritesIntent (Refuses refusal) k k OutOfMemory
+refusal_starved refusal k = (refuses refusal, refl, inr (refl, refl))
+
+-- what `layer` wants is an answer or a refusal
+layers_are_alone : (layers : List (Entries Stamp)) (intent : Intent) → LayersWant layers intent → IsAlone intent
+layers_are_alone layers intent (layered, of, inl (few, is)) = subst IsAlone (sym is) tt
+layers_are_alone layers intent (layered, of, inr (many, is)) = subst IsAlone (sym is) tt
+
+pub layer_is_alone : (bytes : List ℕ) (intent : Intent) → LayerWants bytes intent → IsAlone intent
+layer_is_alone bytes intent (inl (trees, is, wants)) = layers_are_alone (reverse trees) intent wants
+layer_is_alone bytes intent (inr (line, fault, is)) = subst IsAlone (sym is) tt
+
+-- ---- the end of a command that looks at no store
+
+whole_ends : (command : Command) (s s' : SourceState) (k k' : SinkState) (outcome : Outcome) (refusal : Option Refusal) → refusal_of outcome ≡ refusal → CameTo command s s' outcome → Appends k.written k'.written (reply_of outcome)
+    → EndsAlone command (streams s k) (streams s' k') (status_of_refusal refusal)
+whole_ends command s s' k k' outcome None is came written = record { outcome = outcome; came = came; refused = is; written = written }
+whole_ends command s s' k k' outcome (Some refusal) is came written = record { outcome = outcome; came = came; refused = is; written = written }
+
+last_ends : (command : Command) (s s' : SourceState) (k k' : SinkState) (outcome : Outcome) (status : Status) → CameTo command s s' outcome → WritesLast (status_of_refusal (refusal_of outcome)) (reply_of outcome) k k' status
+    → EndsAlone command (streams s k) (streams s' k') status
+last_ends command s s' k k' outcome status came (inl whole) =
+    subst (EndsAlone command (streams s k) (streams s' k')) (sym whole.0) (whole_ends command s s' k k' outcome (refusal_of outcome) refl came whole.1)
+last_ends command s s' k k' outcome status came (inr part) =
+    subst (EndsAlone command (streams s k) (streams s' k')) (sym part.0) (record { outcome = outcome; came = came; written = part.1 }, part.2)
+
+-- a source that was read to its end was not read for more than its limit and one byte
+pub some_of_all : (reads : Bool) (old new : SourceState) (bytes : List ℕ) → TakesAll reads old new bytes → TakesSome reads old new (λ n. n ≤ most_source + 1)
+some_of_all true old new bytes takes = (bytes, takes.taken, omega (arith, takes.within))
+some_of_all false old new bytes takes = takes.0
+
+outcome_ends : (command : Command) (s s' : SourceState) (k k' : SinkState) (outcome : Outcome) (status : Status) → CameTo command s s' outcome → WritesOutcome outcome k k' status → EndsAlone command (streams s k) (streams s' k') status
+outcome_ends command s s' k k' outcome status came (inl writes) = last_ends command s s' k k' outcome status came writes
+outcome_ends command s s' k k' outcome status came (inr starved) =
+    subst (EndsAlone command (streams s k) (streams s' k')) (sym starved.0) (record { source = some_of_all (reads_source command) s s' came.bytes came.takes; sink = starved.1 })
+
+-- what the command wants for the bytes that it took, written, is its end
+pub intent_ends : (command : Command) (bytes : List ℕ) (s s' : SourceState) (k k' : SinkState) (intent : Intent) (status : Status) → TakesAll (reads_source command) s s' bytes → AloneWants command bytes intent → WritesIntent intent k k' status
+    → EndsAlone command (streams s k) (streams s' k') status
+intent_ends command bytes s s' k k' intent status takes wants (outcome, says, writes) =
+    outcome_ends command s s' k k' outcome status (record { bytes = bytes; takes = takes; comes = record { intent = intent; wants = wants; says = says } }) writes
+
+-- ---- the words
+
+no_usage : (of_store : Bool) (command : Command) (old new : Devices) (place : ℕ) → ¬ RunsKind of_store command old new (Usage place)
+no_usage true command old new place runs = runs.store.cause
+no_usage false command old new place runs = runs.ends
+
+pub command_runs : (words : List (List ℕ)) (command : Command) (old new : Devices) (status : Status) → IsWellFormed command → words ≡ command_words command → RunsKind (is_of_store command) command old new status → Runs words old new status
+command_runs words command old new Done formed same runs = record { command = command; well_formed = formed; same = same; runs = runs }
+command_runs words command old new (Refused refusal) formed same runs = record { command = command; well_formed = formed; same = same; runs = runs }
+command_runs words command old new (Usage place) formed same runs = absurd (no_usage (is_of_store command) command old new place runs)
+command_runs words command old new ReadFault formed same runs = record { command = command; well_formed = formed; same = same; runs = runs }
+command_runs words command old new WriteFault formed same runs = record { command = command; well_formed = formed; same = same; runs = runs }
+command_runs words command old new DiskFault formed same runs = record { command = command; well_formed = formed; same = same; runs = runs }
+command_runs words command old new DepotFault formed same runs = record { command = command; well_formed = formed; same = same; runs = runs }
+command_runs words command old new OutOfMemory formed same runs = inr (record { command = command; well_formed = formed; same = same; runs = runs })
+command_runs words command old new (BadStore why) formed same runs = record { command = command; well_formed = formed; same = same; runs = runs }
+command_runs words command old new Unfinished formed same runs = record { command = command; well_formed = formed; same = same; runs = runs }
+command_runs words command old new TooLong formed same runs = record { command = command; well_formed = formed; same = same; runs = runs }

@@ -1,0 +1,42 @@
+use Rattle.std.proofs.Common.{refl}
+use Rattle.std.proofs.lemmas.Result.{err_from_is_err_and}
+use Rattle.ext_disk.proofs.ForCallers.{follows_itself, rests_follow}
+use Rattle.ext_top.specs.Machine.{Comes}
+use Rattle.ext_top.proofs.ReadingLemmas.{answers_applied, refusal_applied, unread_applies}
+use Rattle.ext_top.proofs.applying.carry_out.Goals as goal
+
+pub returns-in-Changes-clause-applies : goal.returns-in-Changes-clause-applies
+returns-in-Changes-clause-applies g c = rw c.in-Changes.is c.replace.ensures.applies
+
+pub returns-in_err-answer_text-in-Answers-clause-follows : goal.returns-in_err-answer_text-in-Answers-clause-follows
+returns-in_err-answer_text-in-Answers-clause-follows g c = follows_itself (g.D.Disk.state c.args.disk.now)
+
+pub returns-in_err-answer_text-in-Answers-clause-applies : goal.returns-in_err-answer_text-in-Answers-clause-applies
+returns-in_err-answer_text-in-Answers-clause-applies g c =
+    let p = err_from_is_err_and c.from_residual.result c.from_residual.ensures.1 in
+    let disk = g.D.Disk.state c.args.disk.now in
+    rw (p.1, p.2) (unread_applies (λ s. Comes s (g.P.Depot.state c.args.depot.now) c.args.intent) c.args.opened disk disk _ refl (g.met.D.Disk.holds_a_tree c.args.disk.now) tt)
+
+pub returns-in_ok-answer_text-in-Answers-clause-applies : goal.returns-in_ok-answer_text-in-Answers-clause-applies
+returns-in_ok-answer_text-in-Answers-clause-applies g c =
+    let disk = g.D.Disk.state c.args.disk.now in
+    rw c.in-Answers.is
+    (answers_applied c.in-Answers.answer _ c.args.opened (g.P.Depot.state c.args.depot.now) disk disk c.in_ok-answer_text-in-Answers.ensures refl (g.met.D.Disk.holds_a_tree c.args.disk.now))
+
+pub returns-in-Checks-clause-follows : goal.returns-in-Checks-clause-follows
+returns-in-Checks-clause-follows g c = rests_follow (g.D.Disk.state c.args.disk.now) (g.D.Disk.state c.check_files.new.disk) c.check_files.ensures.rests
+
+pub returns-in-Checks-clause-applies : goal.returns-in-Checks-clause-applies
+returns-in-Checks-clause-applies g c = rw c.in-Checks.is c.check_files.ensures.checks
+
+pub returns-in-Shows-clause-follows : goal.returns-in-Shows-clause-follows
+returns-in-Shows-clause-follows g c = rests_follow (g.D.Disk.state c.args.disk.now) (g.D.Disk.state c.show.new.disk) c.show.ensures.rests
+
+pub returns-in-Shows-clause-applies : goal.returns-in-Shows-clause-applies
+returns-in-Shows-clause-applies g c = rw c.in-Shows.is c.show.ensures.shows
+
+pub returns-in-Refuses-clause-applies : goal.returns-in-Refuses-clause-applies
+returns-in-Refuses-clause-applies g c =
+    let disk = g.D.Disk.state c.args.disk.now in
+    rw c.in-Refuses.is
+    (refusal_applied c.in-Refuses.refusal c.args.opened (g.P.Depot.state c.args.depot.now) disk disk refl (g.met.D.Disk.holds_a_tree c.args.disk.now))

@@ -1,0 +1,17 @@
+use Rattle.std.proofs.Common.{refl}
+use Rattle.std.proofs.lemmas.Result.{err_from_is_err_and}
+use Rattle.ext_cmd.specs.Replies.{answer_text}
+use Rattle.ext_disk.proofs.ForCallers.{follows_itself}
+use Rattle.ext_top.specs.Machine.{Replaces}
+use Rattle.ext_top.proofs.ReadingLemmas.{unread_applies}
+use Rattle.ext_top.proofs.replacing.replace.Goals as goal
+
+pub returns-in_err-reply-clause-follows : goal.returns-in_err-reply-clause-follows
+returns-in_err-reply-clause-follows g c = follows_itself (g.D.Disk.state c.args.disk.now)
+
+pub returns-in_err-reply-clause-applies : goal.returns-in_err-reply-clause-applies
+returns-in_err-reply-clause-applies g c =
+    let p = err_from_is_err_and c.from_residual.result c.from_residual.ensures.1 in
+    let disk = g.D.Disk.state c.args.disk.now in
+    rw (p.1, p.2)
+    (unread_applies (λ s. Replaces s (g.P.Depot.state c.args.depot.now) c.args.next (answer_text c.args.answer)) c.args.opened disk disk _ refl (g.met.D.Disk.holds_a_tree c.args.disk.now) tt)

@@ -1,0 +1,186 @@
+-- What carrying out a command leaves: of a store that firmly stands for a state, the one that the machine gives.
+use Rattle.std.specs.Prelude.{◌≡◌, ℕ, ◌==◌, true, ◌⊎◌, List, Option, Some, None, IfSome, Result, Ok, Err}
+use Rattle.std.specs.List.{AllByRecursion}
+use Rattle.ext_text.specs.Causes.{Rose}
+use Rattle.ext_tree.specs.declared.stamp.Stamp.{Stamp}
+use Rattle.ext_disk.specs.Disk.{Places, Told, DiskState, now}
+use Rattle.ext_disk.specs.Since.{Rests}
+use Rattle.ext_host.specs.Drawn.{IsFileOf}
+use Rattle.ext_host.specs.Shelf.{IsFound}
+use Rattle.ext_host.specs.declared.home.Home.{Home}
+use Rattle.ext_host.specs.declared.shelf.ShelfErr.{ShelfErr}
+use Rattle.ext_host.specs.declared.shelf.ShelfErr.TheVariants as shelf_errors
+use Rattle.ext_homes.specs.Giving.{home_told, lists_kept, trees_before}
+use Rattle.ext_gen.specs.Preparing.{host_before, is_left}
+use Rattle.ext_depot.specs.Depot.{DepotState}
+use Rattle.ext_store.specs.HeldFiles.{IsListed, body_told, is_served}
+use Rattle.ext_store.specs.Removal.{MoreThan}
+use Rattle.ext_gen.specs.Checking.{IsAsListed, files_of_host}
+use Rattle.ext_gen.specs.Opened.{Generation}
+use Rattle.ext_gen.specs.Store.{State, generation_in, Points}
+use Rattle.ext_gen.specs.Sound.{IsEither, IsFirmly, StandsSince}
+use Rattle.ext_gen.specs.declared.errors.StoreErr.{StoreErr}
+use Rattle.ext_gen.specs.declared.errors.StoreErr.TheVariants as store_errors
+use Rattle.ext_cmd.specs.declared.command.Command.{Command}
+use Rattle.ext_cmd.specs.declared.refusal.Refusal.{Refusal}
+use Rattle.ext_cmd.specs.declared.refusal.Refusal.TheVariants as refusals
+use Rattle.ext_step.specs.Intents.{Seen}
+use Rattle.ext_step.specs.Step.{Wants}
+use Rattle.ext_step.specs.declared.intent.Intent.{Intent}
+use Rattle.ext_step.specs.declared.intent.Intent.TheVariants.{Changes, Answers, Checks, Shows, Refuses}
+use Rattle.ext_step.specs.declared.plan_err.PlanErr.{PlanErr}
+use Rattle.ext_step.specs.declared.plan_err.PlanErr.TheVariants as plan_errors
+use Rattle.ext_top.specs.Machine.{Outcome, gives, shows, refuses, bytes_at, state_after, trees_in}
+use Rattle.ext_top.specs.declared.applied.Applied.{Applied}
+use Rattle.ext_top.specs.declared.applied.Reply.{Reply}
+use Rattle.ext_top.specs.declared.applied.Reply.TheVariants.{Text, File, Refused}
+use Rattle.ext_top.specs.declared.apply_err.ApplyErr.{ApplyErr}
+use Rattle.ext_top.specs.declared.apply_err.ApplyErr.TheVariants.{DiskFault, DepotFault, Damaged, Unfinished, OutOfMemory}
+
+-- ---- errors of the crates below
+
+abbrev pub of_shelf : ShelfErr → ApplyErr
+of_shelf shelf_errors.OutOfMemory = OutOfMemory
+of_shelf shelf_errors.Fault = DiskFault
+of_shelf (shelf_errors.Damaged home listed found) = Damaged home listed found
+
+abbrev pub of_plan : PlanErr → ApplyErr
+of_plan plan_errors.DepotFault = DepotFault
+of_plan (plan_errors.Shelf e) = of_shelf e
+of_plan plan_errors.OutOfMemory = OutOfMemory
+
+-- ---- what a command sees
+
+-- the host that was opened, with what the disk tells of the host's files
+abbrev pub seen_on : Option Generation → DiskState → Option Seen
+seen_on None disk = None
+seen_on (Some g) disk = Some (record { host = g.host; newest = g.text == 2; told = λ held. body_told disk held.body })
+
+-- ---- the condition: the disk points to what was opened, where it is told
+
+abbrev pub PointsAs : DiskState → Option Generation → Type 0
+PointsAs disk opened = IfSome disk.told (λ d. Points (now d.places) opened)
+
+-- ---- what is handed back
+
+-- the reply is that of the outcome
+abbrev pub IsReply : State → Reply → Outcome → Type 0
+IsReply s (Text text) outcome = (u : State) × (outcome ≡ gives u text)
+IsReply s (File held) outcome = (outcome ≡ shows (bytes_at s held.body)) × IsFileOf (trees_in s) held
+IsReply s (Refused refusal) outcome = outcome ≡ refuses refusal
+
+pub record IsApplied (s : State) (outcome : Outcome) (applied : Applied) : Type 0 where
+  pub opened : applied.opened ≡ generation_in (state_after s outcome)
+  pub reply : IsReply s applied.reply outcome
+
+-- ---- from a state for which the store firmly stands
+
+-- Done or refused: firmly the state after an outcome of these. A fault of the disk: firmly the state before, or there is such
+-- an outcome and the store stands for the state before it or the one after it. Any other error: firmly the state before; no
+-- file of such a store is damaged.
+abbrev pub AppliesEnds : (Outcome → Type 0) → State → Result Applied ApplyErr → Places → Type 0
+AppliesEnds P s (Ok applied) e = (outcome : Outcome) × P outcome × IsApplied s outcome applied × IsFirmly (state_after s outcome) e
+AppliesEnds P s (Err DiskFault) e = IsFirmly s e ⊎ ((outcome : Outcome) × P outcome × IsEither s (state_after s outcome) e)
+AppliesEnds P s (Err DepotFault) e = IsFirmly s e
+AppliesEnds P s (Err (Damaged home listed found)) e = ⊥
+AppliesEnds P s (Err Unfinished) e = IsFirmly s e
+AppliesEnds P s (Err OutOfMemory) e = IsFirmly s e
+
+-- the state before, or the one after an outcome of these
+abbrev pub IsPassed : (Outcome → Type 0) → State → State → Type 0
+IsPassed P s x = (x ≡ s) ⊎ ((outcome : Outcome) × P outcome × (x ≡ state_after s outcome))
+
+-- and each tree that a stop since may have left stands for one of them
+pub record Applies (P : Outcome → Type 0) (s : State) (result : Result Applied ApplyErr) (d e : Told) : Type 0 where
+  pub ends : AppliesEnds P s result e.places
+  pub since : StandsSince (IsPassed P s) e d.clock
+
+abbrev pub AppliesTold : (State → Outcome → Type 0) → Option Generation → Result Applied ApplyErr → Told → Told → Type 0
+AppliesTold P opened result d e = (s : State) → generation_in s ≡ opened → IsFirmly s d.places → Applies (P s) s result d e
+
+-- ---- whatever the store is
+
+-- the host lists the file, and another one stands at its home, where that is told
+pub record IsDamage (opened : Option Generation) (disk : DiskState) (home : Home) (listed : Stamp) (found : Option Stamp) : Type 0 where
+  pub lists : lists_kept (trees_before (host_before opened)) listed home
+  pub differs : IsFound listed (home_told disk home) found
+
+-- more left-overs stand there than one command removes
+abbrev pub IsCrowded : Option Generation → DiskState → Type 0
+IsCrowded opened disk = IfSome disk.told (λ d. MoreThan 1048576 (is_left opened) d.places)
+
+-- why a command was not carried out
+abbrev pub ApplyCause : Option Generation → DiskState → DiskState → DepotState → DepotState → ApplyErr → Type 0
+ApplyCause opened old new before after DiskFault = Rose old.faults new.faults
+ApplyCause opened old new before after DepotFault = Rose before.faults after.faults
+ApplyCause opened old new before after (Damaged home listed found) = IsDamage opened old home listed found
+ApplyCause opened old new before after Unfinished = IsCrowded opened old
+ApplyCause opened old new before after OutOfMemory = Unit {0}
+
+-- the same of one that only reads the store
+abbrev pub RestCause : Option Generation → DiskState → DiskState → ApplyErr → Type 0
+RestCause opened old new DiskFault = Rose old.faults new.faults
+RestCause opened old new DepotFault = ⊥
+RestCause opened old new (Damaged home listed found) = IsDamage opened old home listed found
+RestCause opened old new Unfinished = ⊥
+RestCause opened old new OutOfMemory = Unit {0}
+
+-- the same of one of which it was not found what it wants: only the host's files and the depot were read
+abbrev pub SeeCause : Option Generation → DiskState → DiskState → DepotState → DepotState → ApplyErr → Type 0
+SeeCause opened old new before after DiskFault = Rose old.faults new.faults
+SeeCause opened old new before after DepotFault = Rose before.faults after.faults
+SeeCause opened old new before after (Damaged home listed found) = IsDamage opened old home listed found
+SeeCause opened old new before after Unfinished = ⊥
+SeeCause opened old new before after OutOfMemory = Unit {0}
+
+-- a file that is to be written is here, or kept under the number of one
+abbrev pub IsServedReply : Reply → Type 0
+IsServedReply (Text text) = Unit {0}
+IsServedReply (File held) = is_served held.body ≡ true
+IsServedReply (Refused refusal) = Unit {0}
+
+-- and it is one of the host's, with its stamp where its bytes are told; nothing was done to the disk
+abbrev pub IsShownReply : Option Generation → DiskState → DiskState → Reply → Type 0
+IsShownReply opened old new (Text text) = Unit {0}
+IsShownReply opened old new (File held) =
+    (is_served held.body ≡ true) × IsFileOf (trees_before (host_before opened)) held × Rests old new × IsListed (body_told old held.body) held.stamp
+IsShownReply opened old new (Refused refusal) = Unit {0}
+
+-- where the files are checked, each has its stamp, where its bytes are told
+abbrev pub IsChecked : Intent → Option Generation → DiskState → Type 0
+IsChecked (Changes host answer) opened disk = Unit {0}
+IsChecked (Answers answer) opened disk = Unit {0}
+IsChecked Checks None disk = Unit {0}
+IsChecked Checks (Some g) disk = AllByRecursion (IsAsListed disk) (files_of_host g.host)
+IsChecked (Shows held) opened disk = Unit {0}
+IsChecked (Refuses refusal) opened disk = Unit {0}
+
+-- so it is of what the command wants
+abbrev pub HasChecked : Command → Option Generation → DiskState → DepotState → Type 0
+HasChecked command opened disk depot = (intent : Intent) × Wants (seen_on opened disk) depot command intent × IsChecked intent opened disk
+
+-- ---- what a preparation refuses
+
+-- an error of a preparation: it never finds a store broken
+abbrev pub IsOfPreparing : StoreErr → Type 0
+IsOfPreparing store_errors.OutOfMemory = Unit {0}
+IsOfPreparing store_errors.DiskFault = Unit {0}
+IsOfPreparing store_errors.DepotFault = Unit {0}
+IsOfPreparing (store_errors.Broken line) = ⊥
+IsOfPreparing (store_errors.Damaged home listed found) = Unit {0}
+IsOfPreparing (store_errors.Mismatch path listed found) = Unit {0}
+IsOfPreparing (store_errors.NotInDepot path) = Unit {0}
+IsOfPreparing store_errors.Unfinished = Unit {0}
+IsOfPreparing (store_errors.Limit which) = Unit {0}
+
+-- some of them are refusals of the command
+abbrev pub refusal_from : StoreErr → Result Refusal ApplyErr
+refusal_from store_errors.OutOfMemory = Err OutOfMemory
+refusal_from store_errors.DiskFault = Err DiskFault
+refusal_from store_errors.DepotFault = Err DepotFault
+refusal_from (store_errors.Broken line) = Err OutOfMemory
+refusal_from (store_errors.Damaged home listed found) = Err (Damaged home listed found)
+refusal_from (store_errors.Mismatch path listed found) = Ok (refusals.Mismatch path listed found)
+refusal_from (store_errors.NotInDepot path) = Ok (refusals.NotInDepot path)
+refusal_from store_errors.Unfinished = Err Unfinished
+refusal_from (store_errors.Limit which) = Ok (refusals.Limit which)

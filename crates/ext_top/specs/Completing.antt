@@ -1,0 +1,50 @@
+-- Completeness: where nothing fails, and the store is sound, a command is done or refused, or there was too little memory.
+use Rattle.std.specs.Prelude.{◌≡◌, ℕ, ◌≤◌, Bool, true, false, List, length, Option, Some}
+use Rattle.ext_text.specs.Causes.{Rose}
+use Rattle.ext_io.specs.SourceState.{SourceState}
+use Rattle.ext_disk.specs.Disk.{DiskState, Told}
+use Rattle.ext_gen.specs.Sound.{IsSound}
+use Rattle.ext_cmd.specs.Words.{IsWellFormed, command_words}
+use Rattle.ext_cmd.specs.declared.command.Command.{Command}
+use Rattle.ext_step.specs.Step.{is_of_store}
+use Rattle.ext_top.specs.Alone.{reads_source}
+use Rattle.ext_top.specs.Running.{Devices, IsCrowdedNow, most_source}
+use Rattle.ext_top.specs.declared.status.Status.{Status}
+use Rattle.ext_top.specs.declared.status.Status.TheVariants.{Done, Refused, Usage, ReadFault, WriteFault, DiskFault, DepotFault, OutOfMemory, BadStore, Unfinished, TooLong}
+
+-- the source tells its bytes, and they are within the limit, where it is read
+abbrev pub TellsWithin : Bool → SourceState → Type 0
+TellsWithin true source = (bytes : List ℕ) × (source.left ≡ Some bytes) × (length bytes ≤ most_source)
+TellsWithin false source = Unit {0}
+
+-- the disk tells a sound store, in whose folder no more left-overs stand than one command removes, where it is looked at
+abbrev pub TellsSound : Bool → DiskState → Type 0
+TellsSound true disk = (d : Told) × (disk.told ≡ Some d) × IsSound d.places × ¬ IsCrowdedNow d
+TellsSound false disk = Unit {0}
+
+-- no count of faults rose
+pub record NoneRose (old new : Devices) : Type 0 where
+  pub source : ¬ Rose old.source.faults new.source.faults
+  pub sink : ¬ Rose old.sink.faults new.sink.faults
+  pub disk : ¬ Rose old.disk.faults new.disk.faults
+  pub depot : ¬ Rose old.depot.faults new.depot.faults
+
+-- done or refused, or no memory
+abbrev pub IsAnswered : Status → Type 0
+IsAnswered Done = Unit {0}
+IsAnswered (Refused refusal) = Unit {0}
+IsAnswered (Usage place) = ⊥
+IsAnswered ReadFault = ⊥
+IsAnswered WriteFault = ⊥
+IsAnswered DiskFault = ⊥
+IsAnswered DepotFault = ⊥
+IsAnswered OutOfMemory = Unit {0}
+IsAnswered (BadStore why) = ⊥
+IsAnswered Unfinished = ⊥
+IsAnswered TooLong = ⊥
+
+-- what is said of each status then holds of one of these three
+abbrev pub Completes : List (List ℕ) → Devices → Devices → Status → Type 0
+Completes words old new status =
+    (command : Command) → IsWellFormed command → words ≡ command_words command → TellsWithin (reads_source command) old.source → TellsSound (is_of_store command) old.disk
+    → NoneRose old new → IsAnswered status

@@ -1,0 +1,95 @@
+-- How a run over a store ends, by the machine: a run of a list of lines, of which one command is a list of one. It goes on
+-- from line to line while each is done or refused; where a line stops it, the table below says, for each reason, for which
+-- state the store stands then and which part of the line's reply was written. No command is named here.
+use Rattle.std.specs.Prelude.{◌≡◌, ℕ, ◌<◌, ◌⊎◌, List, [], ◌∷◌, ◌++◌, length, codes, decimal, Option, Some, None, Result, Ok, Err}
+use Rattle.ext_disk.specs.Disk.{Places}
+use Rattle.ext_depot.specs.Depot.{DepotState}
+use Rattle.ext_gen.specs.Store.{State}
+use Rattle.ext_gen.specs.Sound.{IsEither, IsFirmly}
+use Rattle.ext_cmd.specs.Replies.{lined}
+use Rattle.ext_cmd.specs.declared.command.Command.{Command}
+use Rattle.ext_cmd.specs.declared.refusal.Refusal.{Refusal}
+use Rattle.ext_top.specs.Machine.{Outcome, gives, shows, refuses, Step, refusal_of, reply_of, state_after}
+use Rattle.ext_top.specs.declared.stop.Stop.{Stop}
+use Rattle.ext_top.specs.declared.stop.Stop.TheVariants.{WriteFault, DiskFault, DepotFault, OutOfMemory, BadStore, Unfinished}
+
+-- ---- lines
+
+-- a command, or words that are none, with the place of their first fault
+pub data Line : Type 0 where
+  does : Command → Line
+  wrong : ℕ → Line
+
+-- what words outside the grammar are told
+abbrev pub usage_line : ℕ → List ℕ
+usage_line place = lined (codes "usage " ++ decimal place)
+
+-- what a line comes to: the step of its command, or nothing but that reply
+abbrev pub LineComes : State → DepotState → Line → Outcome → Type 0
+LineComes s depot (does command) outcome = Step s depot command outcome
+LineComes s depot (wrong place) outcome = outcome ≡ gives s (usage_line place)
+
+-- ---- where a line stops a run
+
+-- for which state a disk stands: firmly for one, or for one of two
+pub data Standing : Type 0 where
+  firm : State → Standing
+  between : State → State → Standing
+
+abbrev pub StandsAs : Standing → Places → Type 0
+StandsAs (firm s) d = IsFirmly s d
+StandsAs (between s u) d = IsEither s u d
+
+-- nothing came of the line
+abbrev pub Rests : State → Standing → List ℕ → Type 0
+Rests s standing part = (standing ≡ firm s) × (part ≡ [])
+
+-- the line was done, and some of its reply, not all, was written
+pub record Cuts (s : State) (depot : DepotState) (line : Line) (standing : Standing) (part : List ℕ) : Type 0 where
+  pub outcome : Outcome
+  pub comes : LineComes s depot line outcome
+  pub stands : standing ≡ firm (state_after s outcome)
+  pub rest : List ℕ
+  pub reply : reply_of outcome ≡ part ++ rest
+  pub not_all : 0 < length rest
+
+-- the line was being done: the store stands for the state before it or the one after it, and nothing was written
+pub record Wavers (s : State) (depot : DepotState) (line : Line) (standing : Standing) (part : List ℕ) : Type 0 where
+  pub outcome : Outcome
+  pub comes : LineComes s depot line outcome
+  pub stands : standing ≡ between s (state_after s outcome)
+  pub nothing : part ≡ []
+
+-- a file was being shown: a prefix of its bytes was written, which may be all of them
+pub record Tears (s : State) (depot : DepotState) (line : Line) (standing : Standing) (part : List ℕ) : Type 0 where
+  pub bytes : List ℕ
+  pub comes : LineComes s depot line (shows bytes)
+  pub stands : standing ≡ firm s
+  pub rest : List ℕ
+  pub reply : bytes ≡ part ++ rest
+
+-- The table of exits. From a store that firmly stands for a state no line stops for a bad store.
+abbrev pub StopsAt : Stop → State → DepotState → Line → Standing → List ℕ → Type 0
+StopsAt WriteFault s depot line standing part = Cuts s depot line standing part
+StopsAt DiskFault s depot line standing part = Rests s standing part ⊎ (Wavers s depot line standing part ⊎ Tears s depot line standing part)
+StopsAt DepotFault s depot line standing part = Rests s standing part
+StopsAt OutOfMemory s depot line standing part = Rests s standing part ⊎ Tears s depot line standing part
+StopsAt (BadStore why) s depot line standing part = ⊥
+StopsAt Unfinished s depot line standing part = Rests s standing part
+
+-- ---- the run of lines
+
+-- how the lines end from a state on: the result, for which state the store stands then, and the bytes that were written. A
+-- result that is no stop is the refusal of the last line, if it was refused.
+abbrev pub Ends : Option Refusal → State → DepotState → List Line → Result (Option Refusal) Stop → Standing → List ℕ → Type 0
+Ends last s depot [] result standing bytes = (result ≡ Ok last) × (standing ≡ firm s) × (bytes ≡ [])
+Ends last s depot (line ∷ lines) result standing bytes =
+    ((stop : Stop) × (result ≡ Err stop) × StopsAt stop s depot line standing bytes)
+    ⊎ ((outcome : Outcome) × (more : List ℕ) × LineComes s depot line outcome × (bytes ≡ reply_of outcome ++ more)
+    × Ends (refusal_of outcome) (state_after s outcome) depot lines result standing more)
+
+-- the states on the way: the one at the beginning, and the one after each of the first lines
+abbrev pub IsOnTheWay : State → DepotState → List Line → State → Type 0
+IsOnTheWay s depot [] x = x ≡ s
+IsOnTheWay s depot (line ∷ lines) x =
+    (x ≡ s) ⊎ ((outcome : Outcome) × LineComes s depot line outcome × IsOnTheWay (state_after s outcome) depot lines x)

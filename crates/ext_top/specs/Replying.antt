@@ -1,0 +1,130 @@
+-- Writing a reply: what the sink has then, and which fault may be blamed.
+use Rattle.std.specs.Prelude.{◌≡◌, ℕ, ◌+◌, List, ◌++◌, length, drop, Option, Some, None, IfOk, Result, Ok, Err}
+use Rattle.std.specs.Io.KnownBytes.{Appends}
+use Rattle.ext_lines.specs.Prefix.{IsPrefix}
+use Rattle.ext_text.specs.Causes.{Rose}
+use Rattle.ext_io.specs.SinkState.{SinkState}
+use Rattle.ext_io.specs.Whole.{AppendsProperPrefix}
+use Rattle.ext_tree.specs.declared.stamp.Stamp.{Stamp}
+use Rattle.ext_disk.specs.Disk.{DiskState}
+use Rattle.ext_host.specs.Held.{HeldFile}
+use Rattle.ext_host.specs.Shelf as shelf
+use Rattle.ext_host.specs.Shelf.{stored, IsFound, IsKeptAs}
+use Rattle.ext_host.specs.declared.home.Home.{Home}
+use Rattle.ext_host.specs.declared.shelf.ShelfErr.{ShelfErr}
+use Rattle.ext_host.specs.declared.shelf.ShelfErr.TheVariants as shelf_errors
+use Rattle.ext_store.specs.HeldFiles.{body_told}
+use Rattle.ext_cmd.specs.Refusals.{refusal_line}
+use Rattle.ext_cmd.specs.declared.refusal.Refusal.{Refusal}
+use Rattle.ext_top.specs.declared.applied.Reply.{Reply}
+use Rattle.ext_top.specs.declared.applied.Reply.TheVariants.{Text, File, Refused}
+use Rattle.ext_top.specs.declared.bad_store.BadStore.TheVariants.{Broken, Damaged}
+use Rattle.ext_top.specs.declared.stop.Stop.{Stop}
+use Rattle.ext_top.specs.declared.stop.Stop.TheVariants.{WriteFault, DiskFault, DepotFault, OutOfMemory, BadStore, Unfinished}
+
+-- why a file is not written
+abbrev pub stop_of_shelf : ShelfErr → Stop
+stop_of_shelf shelf_errors.OutOfMemory = OutOfMemory
+stop_of_shelf shelf_errors.Fault = DiskFault
+stop_of_shelf (shelf_errors.Damaged home listed found) = BadStore (Damaged home listed found)
+
+-- ---- bytes that are here
+
+-- all of them were written, or a proper prefix was, and the sink failed
+abbrev pub WritesBytes : {T : Type 0} → List ℕ → SinkState → SinkState → Result T Stop → Type 0
+WritesBytes bytes k l (Ok done) = Appends k.written l.written bytes
+WritesBytes bytes k l (Err WriteFault) = AppendsProperPrefix k l bytes × Rose k.faults l.faults
+WritesBytes bytes k l (Err DiskFault) = ⊥
+WritesBytes bytes k l (Err DepotFault) = ⊥
+WritesBytes bytes k l (Err OutOfMemory) = ⊥
+WritesBytes bytes k l (Err (BadStore why)) = ⊥
+WritesBytes bytes k l (Err Unfinished) = ⊥
+
+-- ---- bytes of a file, which are read while they are written
+
+-- a prefix was written, which may be all of them
+abbrev pub AppendsPrefix : SinkState → SinkState → List ℕ → Type 0
+AppendsPrefix k l bytes = (prefix : List ℕ) × IsPrefix prefix bytes × Appends k.written l.written prefix
+
+-- all of them were written; a proper prefix, where the sink failed; or a prefix, where the disk did, or there was no memory
+abbrev pub WritesPartly : {T : Type 0} → List ℕ → SinkState → SinkState → Result T Stop → Type 0
+WritesPartly bytes k l (Ok done) = Appends k.written l.written bytes
+WritesPartly bytes k l (Err WriteFault) = AppendsProperPrefix k l bytes
+WritesPartly bytes k l (Err DiskFault) = AppendsPrefix k l bytes
+WritesPartly bytes k l (Err DepotFault) = ⊥
+WritesPartly bytes k l (Err OutOfMemory) = AppendsPrefix k l bytes
+WritesPartly bytes k l (Err (BadStore why)) = ⊥
+WritesPartly bytes k l (Err Unfinished) = ⊥
+
+-- so it is where a file of the listed size stands there
+abbrev pub WritesFile : {T : Type 0} → shelf.Told → ℕ → SinkState → SinkState → Result T Stop → Type 0
+WritesFile told size k l result = (bytes : List ℕ) → told ≡ stored bytes → length bytes ≡ size → WritesPartly bytes k l result
+
+-- the next so many bytes were written; or a proper prefix of what is left, where the sink failed; or nothing
+abbrev pub WritesNext : List ℕ → ℕ → SinkState → SinkState → Result ℕ Stop → Type 0
+WritesNext bytes at k l (Ok count) =
+    (piece : List ℕ) × (drop at bytes ≡ piece ++ drop (at + count) bytes) × (length piece ≡ count) × Appends k.written l.written piece
+WritesNext bytes at k l (Err WriteFault) = AppendsProperPrefix k l (drop at bytes)
+WritesNext bytes at k l (Err DiskFault) = l ≡ k
+WritesNext bytes at k l (Err DepotFault) = ⊥
+WritesNext bytes at k l (Err OutOfMemory) = l ≡ k
+WritesNext bytes at k l (Err (BadStore why)) = ⊥
+WritesNext bytes at k l (Err Unfinished) = ⊥
+
+abbrev pub WritesPiece : shelf.Told → ℕ → ℕ → SinkState → SinkState → Result ℕ Stop → Type 0
+WritesPiece told size at k l result = (bytes : List ℕ) → told ≡ stored bytes → length bytes ≡ size → WritesNext bytes at k l result
+
+-- ---- a reply
+
+-- a text, which is no refusal's line
+abbrev pub WritesText : List ℕ → SinkState → SinkState → Result (Option Refusal) Stop → Type 0
+WritesText text k l (Ok last) = (last ≡ None) × Appends k.written l.written text
+WritesText text k l (Err WriteFault) = AppendsProperPrefix k l text
+WritesText text k l (Err DiskFault) = ⊥
+WritesText text k l (Err DepotFault) = ⊥
+WritesText text k l (Err OutOfMemory) = ⊥
+WritesText text k l (Err (BadStore why)) = ⊥
+WritesText text k l (Err Unfinished) = ⊥
+
+-- the line of a refusal; where there was no memory for it, nothing was written
+abbrev pub WritesRefusal : Refusal → SinkState → SinkState → Result (Option Refusal) Stop → Type 0
+WritesRefusal refusal k l (Ok last) = (last ≡ Some refusal) × Appends k.written l.written (refusal_line refusal)
+WritesRefusal refusal k l (Err WriteFault) = AppendsProperPrefix k l (refusal_line refusal)
+WritesRefusal refusal k l (Err DiskFault) = ⊥
+WritesRefusal refusal k l (Err DepotFault) = ⊥
+WritesRefusal refusal k l (Err OutOfMemory) = l ≡ k
+WritesRefusal refusal k l (Err (BadStore why)) = ⊥
+WritesRefusal refusal k l (Err Unfinished) = ⊥
+
+abbrev pub WritesReply : Reply → DiskState → SinkState → SinkState → Result (Option Refusal) Stop → Type 0
+WritesReply (Text text) disk k l result = WritesText text k l result
+WritesReply (File held) disk k l result = WritesFile (body_told disk held.body) held.stamp.size k l result × IfOk result (λ last. last ≡ None)
+WritesReply (Refused refusal) disk k l result = WritesRefusal refusal k l result
+
+-- ---- causes, whatever the store is
+
+-- the file is kept at the home, and what stands there is too short
+abbrev pub IsHeldDamage : DiskState → HeldFile → Home → Stamp → Option Stamp → Type 0
+IsHeldDamage disk held home listed found = IsKeptAs held home listed × IsFound listed (body_told disk held.body) found
+
+abbrev pub FileCause : HeldFile → SinkState → SinkState → DiskState → DiskState → Stop → Type 0
+FileCause held k l d e WriteFault = Rose k.faults l.faults
+FileCause held k l d e DiskFault = Rose d.faults e.faults
+FileCause held k l d e DepotFault = ⊥
+FileCause held k l d e OutOfMemory = Unit {0}
+FileCause held k l d e (BadStore (Broken line)) = ⊥
+FileCause held k l d e (BadStore (Damaged home listed found)) = IsHeldDamage d held home listed found
+FileCause held k l d e Unfinished = ⊥
+
+abbrev pub TextCause : SinkState → SinkState → Stop → Type 0
+TextCause k l WriteFault = Rose k.faults l.faults
+TextCause k l DiskFault = ⊥
+TextCause k l DepotFault = ⊥
+TextCause k l OutOfMemory = Unit {0}
+TextCause k l (BadStore why) = ⊥
+TextCause k l Unfinished = ⊥
+
+abbrev pub ReplyCause : Reply → SinkState → SinkState → DiskState → DiskState → Stop → Type 0
+ReplyCause (Text text) k l d e stop = TextCause k l stop
+ReplyCause (File held) k l d e stop = FileCause held k l d e stop
+ReplyCause (Refused refusal) k l d e stop = TextCause k l stop

@@ -1,0 +1,200 @@
+// A command is carried out: what it wants is asked once, and done once for all commands.
+ghost use Rattle.std.specs.Prelude.{◌≡◌, IsSome, IsTrue, IfErr, IfOk, IfSome, OnOk, Some};
+ghost use Rattle.ext_depot.specs.Depot.{IsKept};
+ghost use Rattle.ext_disk.specs.Disk.{BothTold};
+ghost use Rattle.ext_disk.specs.Since.{Follows, Rests};
+ghost use Rattle.ext_host.specs.Drawn.{IsFileOf};
+ghost use Rattle.ext_gen.specs.Opened.{IsOpened};
+ghost use Rattle.ext_gen.specs.Preparing.{host_before};
+ghost use Rattle.ext_cmd.specs.Words.{IsWellFormed};
+ghost use Rattle.ext_step.specs.Intents.{IsFit, trees_seen};
+ghost use Rattle.ext_step.specs.Causes.{StepCause};
+ghost use Rattle.ext_step.specs.Step.{Wants, WantsOf, is_of_store};
+ghost use Rattle.ext_host.specs.Valid.{IsValidHost};
+ghost use Rattle.ext_store.specs.HeldFiles.{body_told, is_served};
+ghost use Rattle.ext_view.specs.Survey.{ServesHost};
+ghost use Rattle.ext_step.specs.declared.intent.Intent.TheVariants.{Checks};
+ghost use Rattle.ext_top.specs.Machine.{Comes, Counts, Step, bytes_at, shows};
+ghost use Rattle.ext_top.specs.Applying.{AppliesTold, ApplyCause, HasChecked, IsChecked, IsShownReply, PointsAs, RestCause, SeeCause, seen_on};
+
+use crate::applied::{Applied, Reply};
+use crate::apply_err::ApplyErr;
+use crate::replacing::replace;
+use ext_cmd::{Answer, Command, answer_text};
+use ext_depot::Depot;
+use ext_disk::Disk;
+use ext_gen::{GenShelf, Opened, check, verify};
+use ext_host::{Held, Host};
+use ext_step::{Intent, PlanErr, first_step, step};
+use std::alloc::Global;
+
+/// Carries one command out on a store that was opened so, or on none. Where the disk tells its contents, it points to what was
+/// opened.
+///
+/// What comes back is what the machine's step gives: another generation, where the command changes the host, and its reply; or
+/// the same, and a reply, or the first refusal in the command's order. The reply is made before the store changes, and is to be
+/// written after.
+///
+/// # Errors
+/// From a store that firmly stands for a state: a fault of the disk leaves it standing for that state or for the step's, and so
+/// may a stop at any moment; every other error leaves that state, firmly. `DiskFault` and `DepotFault` come only where that
+/// count rose; `Damaged` exactly where a file of the host that was read is another than listed, which no such store has;
+/// `Unfinished` exactly where a plan within the limits met more left-overs than one command removes.
+pub fn apply<D: Disk, P: Depot>(
+    alloc: Global,
+    command: &Command,
+    opened: Option<Opened>,
+    disk: &mut D,
+    depot: &mut P,
+) -> Result<Applied, ApplyErr>
+    requires store { IsTrue (is_of_store command.now) }
+    requires formed { IsWellFormed command.now }
+    requires points { PointsAs (D.state disk.old) opened }
+    ensures follows { Follows (D.state disk.old) (D.state disk.new) }
+    ensures kept { IsKept (P.state depot.old) (P.state depot.new) }
+    ensures applies { BothTold (AppliesTold (λ s. Step s (P.state depot.old) command.now) opened result) (D.state disk.old).told (D.state disk.new).told }
+    ensures shown { IfOk result (λ applied. IsShownReply opened (D.state disk.old) (D.state disk.new) applied.reply) }
+    ensures checked { OnOk result (HasChecked command.now opened (D.state disk.old) (P.state depot.old)) }
+    ensures cause { IfErr result (ApplyCause opened (D.state disk.old) (D.state disk.new) (P.state depot.old) (P.state depot.new)) }
+{
+    let intent = intended(alloc, command, &opened, disk, depot)?;
+    carry_out(alloc, intent, opened, disk, depot)
+}
+
+// What a command wants of a store, which is read alone.
+fn intended<D: Disk, P: Depot>(
+    alloc: Global,
+    command: &Command,
+    opened: &Option<Opened>,
+    disk: &mut D,
+    depot: &mut P,
+) -> Result<Intent, ApplyErr>
+    requires store { IsTrue (is_of_store command.now) }
+    requires formed { IsWellFormed command.now }
+    ensures rests { Rests (D.state disk.old) (D.state disk.new) }
+    ensures kept { IsKept (P.state depot.old) (P.state depot.new) }
+    ensures wants { IfOk result (Wants (seen_on opened.now (D.state disk.old)) (P.state depot.old) command.now) }
+    ensures fit { IfOk result (IsFit (host_before opened.now)) }
+    ensures opened { IfSome opened.now IsOpened }
+    ensures cause { IfErr result (SeeCause opened.now (D.state disk.old) (D.state disk.new) (P.state depot.old) (P.state depot.new)) }
+{
+    match opened {
+        None => Ok(first_step(alloc, command)?),
+        Some(opened) => seen_step(alloc, command, opened, disk, depot),
+    }
+}
+
+// What it wants of a store that is there.
+fn seen_step<D: Disk, P: Depot>(
+    alloc: Global,
+    command: &Command,
+    opened: &Opened,
+    disk: &mut D,
+    depot: &mut P,
+) -> Result<Intent, ApplyErr>
+    requires store { IsTrue (is_of_store command.now) }
+    requires formed { IsWellFormed command.now }
+    ensures rests { Rests (D.state disk.old) (D.state disk.new) }
+    ensures kept { IsKept (P.state depot.old) (P.state depot.new) }
+    ensures wants { IfOk result (Wants (seen_on (Some opened.now) (D.state disk.old)) (P.state depot.old) command.now) }
+    ensures fit { IfOk result (IsFit (Some opened.now.host)) }
+    ensures opened { IsOpened opened.now }
+    ensures cause { IfErr result (SeeCause (Some opened.now) (D.state disk.old) (D.state disk.new) (P.state depot.old) (P.state depot.new)) }
+{
+    let newest = opened.text() == 2;
+    Ok(step_over(alloc, command, opened.host(), newest, disk, depot)?)
+}
+
+// What it wants of a host whose files the disk has.
+fn step_over<D: Disk, P: Depot>(
+    alloc: Global,
+    command: &Command,
+    host: &Host,
+    newest: bool,
+    disk: &mut D,
+    depot: &mut P,
+) -> Result<Intent, PlanErr>
+    requires store { IsTrue (is_of_store command.now) }
+    requires valid { IsValidHost host.now }
+    requires serves { ServesHost (λ held. is_served held.body) host.now }
+    ensures rests { Rests (D.state disk.old) (D.state disk.new) }
+    ensures kept { IsKept (P.state depot.old) (P.state depot.new) }
+    ensures wants { IfOk result (WantsOf (record { host = host.now; newest = newest; told = λ held. body_told (D.state disk.old) held.body }) (P.state depot.old) command.now) }
+    ensures cause { IfErr result (StepCause host.now (λ held. body_told (D.state disk.old) held.body) (D.state disk.old).faults (D.state disk.new).faults (P.state depot.old).faults (P.state depot.new).faults) }
+{
+    let mut shelf = GenShelf { disk };
+    step(alloc, command, host, newest, depot, &mut shelf)
+}
+
+// Does what a command wants.
+fn carry_out<D: Disk, P: Depot>(
+    alloc: Global,
+    intent: Intent,
+    opened: Option<Opened>,
+    disk: &mut D,
+    depot: &mut P,
+) -> Result<Applied, ApplyErr>
+    requires fit { IsFit (host_before opened) intent }
+    requires opened { IfSome opened IsOpened }
+    requires points { PointsAs (D.state disk.old) opened }
+    ensures follows { Follows (D.state disk.old) (D.state disk.new) }
+    ensures kept { IsKept (P.state depot.old) (P.state depot.new) }
+    ensures applies { BothTold (AppliesTold (λ s. Comes s (P.state depot.old) intent) opened result) (D.state disk.old).told (D.state disk.new).told }
+    ensures shown { IfOk result (λ applied. IsShownReply opened (D.state disk.old) (D.state disk.new) applied.reply) }
+    ensures checked { OnOk result (IsChecked intent opened (D.state disk.old)) }
+    ensures cause { IfErr result (ApplyCause opened (D.state disk.old) (D.state disk.new) (P.state depot.old) (P.state depot.new)) }
+{
+    match intent {
+        Intent::Changes(next, answer) => replace(alloc, next, answer, opened, disk, depot),
+        Intent::Answers(answer) => {
+            let reply = Reply::Text(answer_text(alloc, answer)?);
+            Ok(Applied { opened, reply })
+        }
+        Intent::Checks => check_files(alloc, opened, disk),
+        Intent::Shows(held) => show(alloc, held, opened, disk),
+        Intent::Refuses(refusal) => {
+            let reply = Reply::Refused(refusal);
+            Ok(Applied { opened, reply })
+        }
+    }
+}
+
+// Reads each file of the host, and answers how many there are.
+fn check_files<D: Disk>(
+    alloc: Global,
+    opened: Option<Opened>,
+    disk: &mut D,
+) -> Result<Applied, ApplyErr>
+    requires some { IsSome opened }
+    requires opened { IfSome opened IsOpened }
+    ensures rests { Rests (D.state disk.old) (D.state disk.new) }
+    ensures listed { OnOk result (IsChecked Checks opened (D.state disk.old)) }
+    ensures checks { BothTold (AppliesTold (λ s. Counts s) opened result) (D.state disk.old).told (D.state disk.new).told }
+    ensures shown { IfOk result (λ applied. IsShownReply opened (D.state disk.old) (D.state disk.new) applied.reply) }
+    ensures cause { IfErr result (RestCause opened (D.state disk.old) (D.state disk.new)) }
+{
+    let Some(opened) = opened else { unreachable!() };
+    let (files, bytes) = check(alloc, disk, opened.host())?;
+    let reply = Reply::Text(answer_text(alloc, Answer::Checked { files, bytes })?);
+    let opened = Some(opened);
+    Ok(Applied { opened, reply })
+}
+
+// Compares a file with its stamp, so that it can be written.
+fn show<D: Disk>(
+    alloc: Global,
+    held: Held,
+    opened: Option<Opened>,
+    disk: &mut D,
+) -> Result<Applied, ApplyErr>
+    requires file { IsFileOf (trees_seen (host_before opened)) held }
+    requires opened { IfSome opened IsOpened }
+    ensures rests { Rests (D.state disk.old) (D.state disk.new) }
+    ensures shows { BothTold (AppliesTold (λ s outcome. outcome ≡ shows (bytes_at s held.body)) opened result) (D.state disk.old).told (D.state disk.new).told }
+    ensures shown { IfOk result (λ applied. IsShownReply opened (D.state disk.old) (D.state disk.new) applied.reply) }
+    ensures cause { IfErr result (RestCause opened (D.state disk.old) (D.state disk.new)) }
+{
+    verify(alloc, disk, &held)?;
+    let reply = Reply::File(held);
+    Ok(Applied { opened, reply })
+}

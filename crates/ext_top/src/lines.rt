@@ -1,0 +1,58 @@
+// A line of a run: a command is carried out, and then its reply is written.
+ghost use Rattle.std.specs.Prelude.{◌≤◌, IsTrue, IfErr, IfSome};
+ghost use Rattle.ext_depot.specs.Depot.{IsKept};
+ghost use Rattle.ext_disk.specs.Disk.{BothTold};
+ghost use Rattle.ext_disk.specs.Since.{Follows};
+ghost use Rattle.ext_gen.specs.Opened.{IsOpened};
+ghost use Rattle.ext_cmd.specs.Words.{IsWellFormed};
+ghost use Rattle.ext_step.specs.Step.{is_of_store};
+ghost use Rattle.ext_top.specs.Applying.{PointsAs};
+ghost use Rattle.ext_top.specs.Exits.{does};
+ghost use Rattle.ext_top.specs.Lines.{LineTold, LineCause};
+
+use crate::applied::Applied;
+use crate::applying::apply;
+use crate::replying::write_reply;
+use crate::stop::Stop;
+use ext_cmd::{Command, Refusal};
+use ext_depot::Depot;
+use ext_disk::Disk;
+use ext_gen::Opened;
+use ext_io::Sink;
+use std::alloc::Global;
+
+/// What a line that was done or refused leaves.
+#[derive(Debug, Drop)]
+pub(crate) struct Written {
+    /// The generation that the store has; none where there is no store.
+    pub opened: Option<Opened>,
+    /// Why it was refused, if it was.
+    pub refusal: Option<Refusal>,
+}
+
+/// Does one line: its command, and then its reply is written.
+///
+/// # Errors
+/// Why the run stops at this line.
+pub(crate) fn do_line<K: Sink, D: Disk, P: Depot>(
+    alloc: Global,
+    command: &Command,
+    opened: Option<Opened>,
+    sink: &mut K,
+    disk: &mut D,
+    depot: &mut P,
+) -> Result<Written, Stop>
+    requires store { IsTrue (is_of_store command.now) }
+    requires formed { IsWellFormed command.now }
+    requires points { PointsAs (D.state disk.old) opened }
+    ensures follows { Follows (D.state disk.old) (D.state disk.new) }
+    ensures kept { IsKept (P.state depot.old) (P.state depot.new) }
+    ensures count { (K.state sink.old).faults ≤ (K.state sink.new).faults }
+    ensures runs { BothTold (LineTold (does command.now) opened (P.state depot.old) (K.state sink.old) (K.state sink.new) result) (D.state disk.old).told (D.state disk.new).told }
+    ensures cause { IfErr result (LineCause opened (K.state sink.old) (K.state sink.new) (D.state disk.old) (D.state disk.new) (P.state depot.old) (P.state depot.new)) }
+{
+    let applied = apply(alloc, command, opened, disk, depot)?;
+    let Applied { opened, reply } = applied;
+    let refusal = write_reply(alloc, reply, sink, disk)?;
+    Ok(Written { opened, refusal })
+}

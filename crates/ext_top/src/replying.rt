@@ -1,0 +1,134 @@
+// The reply of a command is written.
+ghost use Rattle.std.specs.Prelude.{◌≡◌, ◌+◌, ◌<◌, ◌≤◌, true, length, IfErr, IfOk};
+ghost use Rattle.ext_disk.specs.Since.{Rests};
+ghost use Rattle.ext_store.specs.HeldFiles.{body_told, is_served};
+ghost use Rattle.ext_top.specs.Applying.{IsServedReply};
+ghost use Rattle.ext_top.specs.Replying.{FileCause, ReplyCause, WritesBytes, WritesFile, WritesPiece, WritesReply};
+
+use crate::applied::Reply;
+use crate::stop::Stop;
+use ext_cmd::{Refusal, refusal_text};
+use ext_disk::Disk;
+use ext_gen::piece;
+use ext_host::Held;
+use ext_io::{Sink, write_all};
+use ext_text::OutOfMemory;
+use std::alloc::Global;
+
+/// The most bytes of a file that are read and written at once.
+const PIECE: usize = 65_536;
+
+/// Writes a reply, and gives the refusal that it is the line of, if it is one.
+///
+/// # Errors
+/// The sink failed, and a proper prefix of the reply was written; or, of a file, a fault of the disk, or no memory, and a
+/// prefix was; or the file ends before its listed size.
+pub(crate) fn write_reply<K: Sink, D: Disk>(
+    alloc: Global,
+    reply: Reply,
+    sink: &mut K,
+    disk: &mut D,
+) -> Result<Option<Refusal>, Stop>
+    requires { IsServedReply reply }
+    ensures rests { Rests (D.state disk.old) (D.state disk.new) }
+    ensures writes { WritesReply reply (D.state disk.old) (K.state sink.old) (K.state sink.new) result }
+    ensures count { (K.state sink.old).faults ≤ (K.state sink.new).faults }
+    ensures cause { IfErr result (ReplyCause reply (K.state sink.old) (K.state sink.new) (D.state disk.old) (D.state disk.new)) }
+{
+    match reply {
+        Reply::Text(text) => {
+            write_bytes(sink, text.bytes())?;
+            Ok(None)
+        }
+        Reply::File(held) => {
+            write_file(alloc, &held, sink, disk)?;
+            Ok(None)
+        }
+        Reply::Refused(refusal) => {
+            let line = refusal_text(alloc, &refusal)?;
+            write_bytes(sink, line.bytes())?;
+            Ok(Some(refusal))
+        }
+    }
+}
+
+// Writes bytes that are here.
+fn write_bytes<K: Sink>(sink: &mut K, bytes: &[u8]) -> Result<(), Stop>
+    ensures writes { WritesBytes bytes.now (K.state sink.old) (K.state sink.new) result }
+    ensures count { (K.state sink.old).faults ≤ (K.state sink.new).faults }
+{
+    match write_all(sink, bytes) {
+        Ok(()) => Ok(()),
+        Err(_) => Err(Stop::WriteFault),
+    }
+}
+
+// Writes the bytes of a file, in pieces.
+fn write_file<K: Sink, D: Disk>(
+    alloc: Global,
+    held: &Held,
+    sink: &mut K,
+    disk: &mut D,
+) -> Result<(), Stop>
+    requires { is_served held.now.body ≡ true }
+    ensures rests { Rests (D.state disk.old) (D.state disk.new) }
+    ensures writes { WritesFile (body_told (D.state disk.old) held.now.body) held.now.stamp.size (K.state sink.old) (K.state sink.new) result }
+    ensures count { (K.state sink.old).faults ≤ (K.state sink.new).faults }
+    ensures cause { IfErr result (FileCause held.now (K.state sink.old) (K.state sink.new) (D.state disk.old) (D.state disk.new)) }
+{
+    let mut buffer = zeros(alloc)?;
+    write_pieces(alloc, held, sink, disk, &mut buffer)
+}
+
+// A buffer for a piece.
+fn zeros(alloc: Global) -> Result<Vec<u8>, OutOfMemory>
+    ensures { IfOk result (λ buffer. 0 < length buffer.items) }
+{
+    Ok(vec![in alloc; 0u8; PIECE]?)
+}
+
+// Writes the bytes of a file, each time as many as the buffer has room for.
+fn write_pieces<K: Sink, D: Disk>(
+    alloc: Global,
+    held: &Held,
+    sink: &mut K,
+    disk: &mut D,
+    buffer: &mut [u8],
+) -> Result<(), Stop>
+    requires served { is_served held.now.body ≡ true }
+    requires room { 0 < length buffer.old }
+    ensures rests { Rests (D.state disk.old) (D.state disk.new) }
+    ensures writes { WritesFile (body_told (D.state disk.old) held.now.body) held.now.stamp.size (K.state sink.old) (K.state sink.new) result }
+    ensures count { (K.state sink.old).faults ≤ (K.state sink.new).faults }
+    ensures cause { IfErr result (FileCause held.now (K.state sink.old) (K.state sink.new) (D.state disk.old) (D.state disk.new)) }
+{
+    let size = held.stamp().size;
+    let mut at = 0;
+    'pieces: while at < size {
+        at += write_piece(alloc, held, at, sink, disk, buffer)?;
+    }
+    Ok(())
+}
+
+// Writes bytes of a file from the byte `at` on, and gives how many.
+fn write_piece<K: Sink, D: Disk>(
+    alloc: Global,
+    held: &Held,
+    at: u64,
+    sink: &mut K,
+    disk: &mut D,
+    buffer: &mut [u8],
+) -> Result<u64, Stop>
+    requires served { is_served held.now.body ≡ true }
+    requires room { 0 < length buffer.old }
+    requires place { at < held.now.stamp.size }
+    ensures within { IfOk result (λ n. (0 < n) × (at + n ≤ held.now.stamp.size)) }
+    ensures rests { Rests (D.state disk.old) (D.state disk.new) }
+    ensures writes { WritesPiece (body_told (D.state disk.old) held.now.body) held.now.stamp.size at (K.state sink.old) (K.state sink.new) result }
+    ensures count { (K.state sink.old).faults ≤ (K.state sink.new).faults }
+    ensures cause { IfErr result (FileCause held.now (K.state sink.old) (K.state sink.new) (D.state disk.old) (D.state disk.new)) }
+{
+    let count = piece(alloc, disk, held, at, buffer)?;
+    write_bytes(sink, &buffer[..count])?;
+    Ok(count as u64)
+}
