@@ -36,8 +36,8 @@ Wanted layered intent =
 
 one_of_tree : (x y : Entries Stamp) (a b : Intent) → x ≡ y → Wanted x a → Wanted y b → a ≡ b
 one_of_tree x y a b same (inl (few, is)) (inl (also, other)) = is ∙ ap (λ t. Answers (Tree (tree_text t))) same ∙ sym other
-one_of_tree x y a b same (inl (few, is)) (inr (many, other)) = let long : length x ≡ length y = ap length same in omega arith
-one_of_tree x y a b same (inr (many, is)) (inl (few, other)) = let long : length x ≡ length y = ap length same in omega arith
+one_of_tree x y a b same (inl (few, is)) (inr (many, other)) = absurd (let long : length x ≡ length y = ap length same in omega arith)
+one_of_tree x y a b same (inr (many, is)) (inl (few, other)) = absurd (let long : length x ≡ length y = ap length same in omega arith)
 one_of_tree x y a b same (inr (many, is)) (inr (also, other)) = is ∙ sym other
 
 one_of_layers : (below : Below) (layers : List (Entries Stamp)) (a b : Intent) → LayersWant layers a → LayersWant layers b → a ≡ b
