@@ -1,3 +1,5 @@
+ghost use Rattle.std.specs.Prelude.{◌<◌};
+
 use super::faults::{BODIES, Fault, TEXTS};
 use crate::{IndexErr, index_size, read_index, write_index};
 use ext_host::Body;
@@ -61,7 +63,9 @@ fn written_again(alloc: Global, text: &[u8], generation: u32) -> Result<(Text, u
 }
 
 // An index of generation 20 with past trees of the generations from 1 on, so many of them.
-fn with_past(alloc: Global, count: u8) -> Result<Result<u32, IndexErr>, Fail> {
+fn with_past(alloc: Global, count: u8) -> Result<Result<u32, IndexErr>, Fail>
+    requires { count < 255 }
+{
     let mut text = Text::from_bytes(alloc, HEAD)?;
     text.append(NOTHING)?;
     text.append(format!(in alloc; "past {count}\n")?.as_bytes())?;
