@@ -79,7 +79,7 @@ fn calls_of(disk: &MemoryDisk, op: DiskOp) -> (u64, u64) {
         if let Some(call) = disk.call(index)
             && call.op == op
         {
-            count += 1;
+            count = count.saturating_add(1);
             most = most.max(call.bytes);
         }
     }
