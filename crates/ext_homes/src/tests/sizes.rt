@@ -73,7 +73,7 @@ fn each_256_files_have_a_folder(rt: HostRuntime) -> Result<(), Fail> {
 
 // The calls of one kind that were made, and the most bytes of one of them.
 fn calls_of(disk: &MemoryDisk, op: DiskOp) -> (u64, u64) {
-    let mut count = 0;
+    let mut count: u64 = 0;
     let mut most = 0;
     for index in 0..disk.calls() {
         if let Some(call) = disk.call(index)
