@@ -1,8 +1,8 @@
 -- Checks of files one after another: what they say together.
-use Rattle.std.proofs.Common.{◌≡◌, ℕ, suc, ◌+◌, ◌*◌, ◌^◌, ◌<◌, ◌≤◌, List, [], ◌∷◌, ◌++◌, length, take, drop, get_or, Option, Some, None, IfErr, IfOk, refl, sym, ap, ◌∙◌, subst, inl, inr, arith, append_assoc, append-nil, length-append, drop-cons, take-suc, add-one}
+use Rattle.std.proofs.Common.{◌≡◌, ℕ, suc, ◌+◌, ◌*◌, ◌^◌, ◌<◌, ◌≤◌, List, [], ◌∷◌, ◌++◌, length, take, drop, get_or, Some, refl, sym, ap, ◌∙◌, subst, arith, append_assoc, append-nil, length-append, drop-cons, take-suc, add-one}
 use Rattle.std.specs.Prelude.{Contains, IsTrue, slice_get}
 use Rattle.std.specs.FinMap.{find, is_sorted}
-use Rattle.std.specs.List.{AllByRecursion, flat_map, sum_by}
+use Rattle.std.specs.List.{AllByRecursion, flat_map}
 use Rattle.std.proofs.lemmas.List.{take-append-drop}
 use Rattle.std.proofs.lemmas.List.Concat.{flat_map-append}
 use Rattle.std.proofs.lemmas.List.Elements.{Contains-append_left, Contains-append_right}
@@ -10,13 +10,13 @@ use Rattle.std.proofs.lemmas.List.Sums.{sum_by-append, sum_by-cons}
 use Rattle.ext_text.specs.Path.{path_cmp}
 use Rattle.ext_text.specs.Order.{paths_total}
 use Rattle.ext_text.proofs.ForCallers.{all_append, all_back, all_prefix}
-use Rattle.ext_disk.specs.Disk.{DiskState, Told}
+use Rattle.ext_disk.specs.Disk.{DiskState}
 use Rattle.ext_disk.specs.Since.{Rests}
 use Rattle.ext_tree.specs.Tree.{Entries, IsTreeWithin}
 use Rattle.ext_tree.specs.declared.entry.Entry.{Entry}
 use Rattle.ext_tree.specs.declared.entry.Entry.TheVariants.{Dir, Opaque, File, Link, Hide}
 use Rattle.ext_tree.proofs.ForCallers.{find_there}
-use Rattle.ext_host.specs.Drawn.{HasFile, IsFileOf, trees_of}
+use Rattle.ext_host.specs.Drawn.{HasFile, trees_of}
 use Rattle.ext_host.specs.Held.{HeldFile}
 use Rattle.ext_host.specs.Shelf.{ShelfCause}
 use Rattle.ext_host.specs.Host.{Hierarchies, HostTree, hierarchies_in, past_tree, present}
@@ -30,7 +30,7 @@ use Rattle.ext_host.specs.declared.shelf.ShelfErr.TheVariants.{OutOfMemory, Faul
 use Rattle.ext_store.specs.HeldFiles.{body_told, told_at, IsListed}
 use Rattle.ext_store.specs.Names.{home_path}
 use Rattle.ext_store.proofs.ForCallers.{rose_since}
-use Rattle.ext_gen.specs.Checking.{AreChecked, AreCounted, AreServed, IsAsListed, IsServed, MayCheckPast, StopsAt, files_in, files_of, files_of_both, files_of_host, files_of_past, sizes_of}
+use Rattle.ext_gen.specs.Checking.{AreChecked, AreCounted, AreServed, IsAsListed, IsServed, MayCheckPast, StopsAt, files_in, files_of, files_of_both, files_of_past, sizes_of}
 
 -- ---- a disk that rests
 

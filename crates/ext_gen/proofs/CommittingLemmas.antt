@@ -1,12 +1,12 @@
 -- The switch: what a rename of `next` to `current` leaves of a store that was ready.
-use Rattle.std.proofs.Common.{◌≡◌, ◌≢◌, ◌⊎◌, ℕ, ◌+◌, ◌<◌, ◌≤◌, Bool, true, false, cond, ◌&&◌, ◌||◌, not, List, [], ◌∷◌, ◌++◌, Option, Some, None, IfSome, Result, Ok, Err, refl, sym, ap, ◌∙◌, subst, inl, inr, arith}
-use Rattle.std.proofs.lemmas.Bool.{false≢true, and_parts, and_from, cond-false, or_parts, not-true}
+use Rattle.std.proofs.Common.{◌≡◌, ◌⊎◌, ℕ, Bool, true, false, cond, ◌&&◌, List, [], Option, Some, None, IfSome, Result, Ok, Err, refl, sym, ap, ◌∙◌, subst, inl, inr, arith}
+use Rattle.std.proofs.lemmas.Bool.{false≢true, and_from, cond-false, or_parts}
 use Rattle.std.specs.Option.{is_some}
 use Rattle.std.specs.Result.{is_ok}
 use Rattle.std.specs.Ordering.{eq_by_cmp}
 use Rattle.ext_text.specs.Path.{path_cmp}
 use Rattle.ext_io.specs.declared.failed.Failed.{Failed}
-use Rattle.ext_disk.specs.Disk.{Node, Tree, Place, Places, Told, DiskState, BothTold, Swing, IsDisk, is_file, is_firm, now, root_place}
+use Rattle.ext_disk.specs.Disk.{Node, Place, Places, Told, DiskState, BothTold, Swing, IsDisk, is_file, is_firm, now, root_place}
 use Rattle.ext_disk.specs.Calls.{Allows, IsWithin, MayCall, Does, DoesTold, reached_place, rename, renamed, settled_in, sync_dir}
 use Rattle.ext_store.specs.Names.{current_name, current_path, index_path, next_name, next_path}
 use Rattle.ext_store.specs.Writing.{is_at}

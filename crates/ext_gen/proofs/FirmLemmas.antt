@@ -1,5 +1,5 @@
 -- A store that is firm: what it rests on is fixed, and calls that spare that keep it firm.
-use Rattle.std.proofs.Common.{◌≡◌, ◌⊎◌, ℕ, ◌<◌, ◌≤◌, Bool, false, List, Option, Some, None, IfSome, refl, sym, ap, ◌∙◌, subst, inl, inr, arith}
+use Rattle.std.proofs.Common.{◌≡◌, ◌⊎◌, ℕ, Bool, false, List, Option, Some, None, IfSome, refl, inl, inr, arith}
 use Rattle.ext_disk.specs.Disk.{Tree, Told, DiskState, BothTold, IsDisk, now}
 use Rattle.ext_disk.specs.Fixed.{IsFixed, IsSpared, Spares}
 use Rattle.ext_disk.specs.Since.{Since, IsLater}

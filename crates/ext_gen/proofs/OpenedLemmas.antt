@@ -1,15 +1,13 @@
 -- What an opened store says of its host.
-use Rattle.std.proofs.Common.{◌≡◌, ℕ, ◌<◌, ◌≤◌, refl, sym, subst, arith}
+use Rattle.std.proofs.Common.{ℕ, arith}
 use Rattle.std.specs.Prelude.{IsTrue}
 use Rattle.std.proofs.lemmas.Bool.{lt-ltb}
 use Rattle.ext_disk.specs.Disk.{Tree}
-use Rattle.ext_host.specs.Drawn.{IsFileOf, trees_of}
-use Rattle.ext_host.specs.Held.{HeldFile}
+use Rattle.ext_host.specs.Drawn.{trees_of}
 use Rattle.ext_host.specs.Valid.{IsValidHost}
 use Rattle.ext_host.specs.declared.body.Body.{Body}
 use Rattle.ext_host.specs.declared.body.Body.TheVariants.{Here, Kept, Depot}
-use Rattle.ext_host.specs.declared.home.Home.{Home}
-use Rattle.ext_index.specs.ValidIndex.{IsIndexOf, IsKeptUpTo, IsValidFor, IsWellFormed}
+use Rattle.ext_index.specs.ValidIndex.{IsKeptUpTo, IsValidFor, IsWellFormed}
 use Rattle.ext_store.specs.HeldFiles.{is_served}
 use Rattle.ext_gen.specs.Opened.{Generation, IsOpened}
 use Rattle.ext_gen.specs.Store.{IsCurrent}

@@ -1,17 +1,16 @@
 -- Opening a store: what was read says what it points to, and the barrier before it makes it firm.
-use Rattle.std.proofs.Common.{◌≡◌, ◌≢◌, ◌⊎◌, ℕ, ◌+◌, ◌^◌, ◌<◌, ◌≤◌, Bool, true, false, cond, List, [], ◌∷◌, ◌++◌, length, Option, Some, None, IfSome, Result, Ok, Err, refl, sym, ap, ◌∙◌, subst, inl, inr, arith, length-append}
+use Rattle.std.proofs.Common.{◌≡◌, ◌≢◌, ◌⊎◌, ℕ, ◌<◌, ◌≤◌, Bool, true, false, cond, List, [], ◌∷◌, length, Option, Some, None, IfSome, Result, Ok, Err, refl, sym, ap, ◌∙◌, subst, inl, inr, arith, length-append}
 use Rattle.std.specs.Prelude.{nat_le}
-use Rattle.std.proofs.lemmas.Bool.{leb-false, leb-true, cases_Bool, cond-true, cond-false}
+use Rattle.std.proofs.lemmas.Bool.{leb-false}
 use Rattle.std.proofs.lemmas.Fmt.{length-decimal-le}
 use Rattle.std.specs.Fmt.{decimal}
 use Rattle.ext_disk.specs.Disk.{Node, Tree, Places, Told, DiskState, BothTold, IsDisk, MayLeave, folder, file, now, root_place}
 use Rattle.ext_disk.specs.Calls.{Does, DoesTold, IsWithin, settled_in, sync_dir}
 use Rattle.ext_disk.specs.Since.{Rests}
-use Rattle.ext_index.specs.ValidIndex.{GivesIndex}
 use Rattle.ext_store.specs.Names.{IsGeneration, current_path, current_text, index_path}
 use Rattle.ext_store.specs.Reading.{IsFoundAt, found_of}
 use Rattle.ext_store.specs.declared.reading.Found.{Found}
-use Rattle.ext_store.specs.declared.reading.Found.TheVariants.{Absent, Folder, TooLong, File}
+use Rattle.ext_store.specs.declared.reading.Found.TheVariants.{TooLong, File}
 use Rattle.ext_gen.specs.Opened.{Generation}
 use Rattle.ext_gen.specs.Store.{State, generation_in, Points, Stands}
 use Rattle.ext_gen.specs.Sound.{IsFirmly, IsMember, IsSound, StandsSince}

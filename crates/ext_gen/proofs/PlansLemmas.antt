@@ -1,14 +1,13 @@
 -- Hosts of what is seen alone, with small files, are valid; and changes of them make plans. For tests.
-use Rattle.std.proofs.Common.{◌≡◌, ◌≢◌, ◌⊎◌, ℕ, suc, zero, ◌+◌, ◌*◌, ◌<◌, ◌≤◌, Bool, true, false, cond, List, [], ◌∷◌, ◌++◌, length, get_or, Option, Some, None, is_some, refl, sym, ap, ◌∙◌, subst, inl, inr, arith}
+use Rattle.std.proofs.Common.{◌≡◌, ℕ, suc, zero, ◌*◌, ◌≤◌, true, false, cond, List, [], ◌∷◌, ◌++◌, length, get_or, Option, Some, None, is_some, refl, sym, ap, ◌∙◌, subst, arith}
 use Rattle.std.specs.Prelude.{Contains, IsTrue, codes, eqb}
-use Rattle.std.specs.List.{AllByRecursion, flat_map, sum_by}
+use Rattle.std.specs.List.{AllByRecursion, flat_map}
 use Rattle.std.specs.Ordering.{eq_by_cmp}
 use Rattle.std.proofs.lemmas.Bool.{false≢true}
 use Rattle.std.proofs.lemmas.List.Sums.{sum_by-cons}
 use Rattle.ext_text.specs.Path.{path_cmp}
 use Rattle.ext_text.specs.declared.arch.Arch.{Arch}
 use Rattle.ext_text.specs.declared.class.Class.TheVariants.{Sysext, Confext}
-use Rattle.ext_text.specs.declared.scope.Scope.{Scope}
 use Rattle.ext_text.specs.declared.scope.Scope.TheVariants.{System, Portable}
 use Rattle.ext_tree.specs.Tree.{Entries, lookup}
 use Rattle.ext_tree.specs.declared.entry.Entry.{Entry}
@@ -16,10 +15,10 @@ use Rattle.ext_tree.specs.declared.entry.Entry.TheVariants.{Dir, Opaque, File, L
 use Rattle.ext_tree.specs.Graft.{IsGraft}
 use Rattle.ext_tree.specs.declared.stamp.Stamp.{Stamp}
 use Rattle.ext_host.specs.DepotBodies.{from_depot, in_depot}
-use Rattle.ext_host.specs.Drawn.{AreDrawnFrom, HasFile, IsFileOf, trees_of}
+use Rattle.ext_host.specs.Drawn.{AreDrawnFrom, HasFile, IsFileOf}
 use Rattle.ext_host.specs.Held.{HeldFile}
-use Rattle.ext_host.specs.Host.{Hierarchies, default_hierarchies, hierarchies_in, present}
-use Rattle.ext_host.specs.Valid.{AreInRange, AreOfClasses, IsValidHost, IsValidTree, all_bytes, bytes_of}
+use Rattle.ext_host.specs.Host.{Hierarchies, default_hierarchies, present}
+use Rattle.ext_host.specs.Valid.{AreInRange, AreOfClasses, IsValidTree, all_bytes, bytes_of}
 use Rattle.ext_host.specs.declared.attachment.Attachment.{Attachment}
 use Rattle.ext_host.specs.declared.body.Body.{Body}
 use Rattle.ext_host.specs.declared.body.Body.TheVariants.{Kept, Depot}

@@ -1,10 +1,9 @@
 -- What the answers of a preparation say.
-use Rattle.std.proofs.Common.{◌≡◌, ℕ, Bool, List, ◌++◌, Option, Some, None, IfSome, Result, Ok, Err, refl, sym, ap, ◌∙◌, subst}
+use Rattle.std.proofs.Common.{◌≡◌, ℕ, Bool, List, ◌++◌, Option, Some, None, Result, Ok, Err, refl, sym, ap, ◌∙◌, subst}
 use Rattle.std.specs.Prelude.{IfErr, IfOk}
 use Rattle.ext_text.specs.declared.which.Which.{Which}
 use Rattle.ext_depot.specs.Depot.{DepotState}
-use Rattle.ext_disk.specs.Disk.{Places, Told, DiskState}
-use Rattle.ext_disk.specs.Since.{Rests}
+use Rattle.ext_disk.specs.Disk.{DiskState}
 use Rattle.ext_disk.proofs.ForCallers.{rests_itself}
 use Rattle.ext_tree.specs.Tree.{Entries}
 use Rattle.ext_host.specs.Held.{HeldFile}
@@ -12,7 +11,6 @@ use Rattle.ext_host.specs.declared.host.Host.{Host}
 use Rattle.ext_homes.specs.Giving.{stored_by}
 use Rattle.ext_homes.specs.Placed.{Stored}
 use Rattle.ext_homes.specs.Refused.{HomesCause}
-use Rattle.ext_homes.specs.declared.errors.HomesErr.{HomesErr}
 use Rattle.ext_homes.specs.declared.errors.HomesErr.TheVariants as homes_errors
 use Rattle.ext_gen.specs.Opened.{Generation}
 use Rattle.ext_gen.specs.Preparing.{LimitSays, PrepareCause, coming_number, host_before}

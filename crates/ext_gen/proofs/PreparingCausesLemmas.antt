@@ -1,6 +1,5 @@
 -- The causes of parts of a change, as those of the whole.
-use Rattle.std.proofs.Common.{ℕ, ◌≤◌, List}
-use Rattle.ext_text.specs.Causes.{Rose}
+use Rattle.std.proofs.Common.{ℕ, ◌≤◌}
 use Rattle.ext_depot.specs.Depot.{DepotState}
 use Rattle.ext_disk.specs.Disk.{DiskState}
 use Rattle.ext_tree.specs.Tree.{Entries}
@@ -10,7 +9,7 @@ use Rattle.ext_homes.specs.Placed.{Stored}
 use Rattle.ext_homes.specs.Refused.{HomesCause}
 use Rattle.ext_homes.specs.declared.errors.HomesErr.{HomesErr}
 use Rattle.ext_homes.specs.declared.errors.HomesErr.TheVariants as homes_errors
-use Rattle.ext_gen.specs.PreparingCauses.{ChangeCause, ClearCause, FillCause, WriteCause, store_err_of_homes}
+use Rattle.ext_gen.specs.PreparingCauses.{FillCause, WriteCause, store_err_of_homes}
 use Rattle.ext_gen.specs.declared.errors.StoreErr.{StoreErr}
 use Rattle.ext_gen.specs.declared.errors.StoreErr.TheVariants.{OutOfMemory, DiskFault, DepotFault, Broken, Damaged, Mismatch, NotInDepot, Unfinished, Limit}
 

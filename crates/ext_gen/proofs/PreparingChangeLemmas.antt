@@ -1,11 +1,10 @@
 -- The parts of a change together.
-use Rattle.std.proofs.Common.{◌≡◌, ◌⊎◌, ℕ, ◌+◌, ◌<◌, ◌≤◌, Bool, true, false, List, [], ◌∷◌, ◌++◌, length, get_or, Option, Some, None, IfSome, Result, Ok, Err, refl, sym, ap, ◌∙◌, subst, inl, inr, arith}
+use Rattle.std.proofs.Common.{◌≡◌, ◌⊎◌, ℕ, ◌+◌, ◌≤◌, Bool, true, false, List, [], ◌∷◌, length, get_or, Option, Some, None, IfSome, refl, sym, ap, ◌∙◌, inl, inr, arith}
 use Rattle.std.specs.List.{sum_by}
 use Rattle.std.specs.Option.{is_some}
 use Rattle.std.proofs.lemmas.Bool.{false≢true}
-use Rattle.ext_text.specs.Causes.{Rose}
 use Rattle.ext_depot.specs.Depot.{DepotState}
-use Rattle.ext_disk.specs.Disk.{Node, Places, Told, DiskState, BothTold}
+use Rattle.ext_disk.specs.Disk.{Places, Told, DiskState, BothTold}
 use Rattle.ext_disk.specs.Fixed.{IsSpared, Spares}
 use Rattle.ext_tree.specs.Tree.{Entries}
 use Rattle.ext_tree.specs.declared.stamp.Stamp.{Stamp}
@@ -14,23 +13,20 @@ use Rattle.ext_host.specs.Held.{HeldFile}
 use Rattle.ext_host.specs.declared.body.Body.TheVariants.{Kept}
 use Rattle.ext_host.specs.declared.home.Home.{Home}
 use Rattle.ext_host.specs.declared.host.Host.{Host}
-use Rattle.ext_store.specs.HeldFiles.{node_told, path_told, told_at}
+use Rattle.ext_store.specs.HeldFiles.{node_told, told_at}
 use Rattle.ext_store.specs.LeftOvers.{is_left_over, is_left_path}
 use Rattle.ext_store.specs.Names.{IsGeneration, current_text, generation_name, generation_of, generation_path, home_path, next_name, next_path}
-use Rattle.ext_store.specs.Removal.{AtMost}
 use Rattle.ext_store.specs.Writing.{Holds, IsMade}
 use Rattle.ext_store.proofs.ForCallers.{holds_map, left_is, named_generation, rose_since, told_then}
 use Rattle.ext_homes.specs.Giving.{home_told, lists_kept, stored_by, trees_before}
 use Rattle.ext_homes.specs.Placed.{IsHostPlaced, Stored}
-use Rattle.ext_homes.specs.Refused.{HomesCause}
 use Rattle.ext_homes.specs.declared.errors.HomesErr.TheVariants as homes_errors
-use Rattle.ext_homes.specs.declared.giving.Placed.{Placed}
 use Rattle.ext_gen.specs.Opened.{Generation, IsOpened}
-use Rattle.ext_gen.specs.Preparing.{coming_number, host_before, is_needed}
+use Rattle.ext_gen.specs.Preparing.{host_before, is_needed}
 use Rattle.ext_gen.specs.PreparingCauses.{ChangeCause, ClearCause, FillCause, WriteCause}
 use Rattle.ext_gen.specs.PreparingIndex.{coming_index}
-use Rattle.ext_gen.specs.PreparingPaths.{IsComing, MakesTold, Makes, ChangesTold, Changes, CleansSays}
-use Rattle.ext_gen.specs.PreparingStages.{Completes, Fills, FillsTold, IsAbsent, IsComplete, IsFilled, IsOpen}
+use Rattle.ext_gen.specs.PreparingPaths.{IsComing, MakesTold, Makes, ChangesTold, Changes}
+use Rattle.ext_gen.specs.PreparingStages.{Completes, FillsTold, IsAbsent, IsFilled, IsOpen}
 use Rattle.ext_gen.specs.PreparingWork.{ChangedTold}
 use Rattle.ext_gen.specs.declared.errors.StoreErr.{StoreErr}
 use Rattle.ext_gen.specs.declared.errors.StoreErr.TheVariants.{OutOfMemory, DiskFault, DepotFault, Broken, Damaged, Mismatch, NotInDepot, Unfinished, Limit}

@@ -1,5 +1,5 @@
 -- The files of a host and the generations in which they are kept.
-use Rattle.std.proofs.Common.{◌≡◌, ◌≢◌, ◌⊎◌, ℕ, zero, suc, ◌+◌, ◌<◌, ◌≤◌, Bool, true, false, cond, ◌||◌, List, [], ◌∷◌, ◌++◌, length, Option, Some, None, IfSome, refl, sym, ap, ◌∙◌, subst, inl, inr, arith}
+use Rattle.std.proofs.Common.{◌≡◌, ◌⊎◌, ℕ, zero, suc, ◌+◌, ◌<◌, Bool, true, false, cond, ◌||◌, List, [], ◌∷◌, length, Option, Some, None, IfSome, refl, ap, ◌∙◌, subst, inl, inr, arith}
 use Rattle.std.specs.Prelude.{slice_get, slice_index_or, ◌==◌}
 use Rattle.std.specs.List.{AllByRecursion, Contains, list_any}
 use Rattle.std.specs.Option.{is_some}
@@ -11,9 +11,8 @@ use Rattle.ext_text.specs.Path.{path_cmp}
 use Rattle.ext_tree.specs.Tree.{Entries, IsTree, lookup}
 use Rattle.ext_tree.specs.declared.entry.Entry.{Entry}
 use Rattle.ext_tree.specs.declared.entry.Entry.TheVariants.{Dir, Opaque, File, Link, Hide}
-use Rattle.ext_tree.specs.declared.stamp.Stamp.{Stamp}
 use Rattle.ext_tree.proofs.ForCallers.{find_there}
-use Rattle.ext_host.specs.Drawn.{HasFile, IsFileOf, trees_of}
+use Rattle.ext_host.specs.Drawn.{IsFileOf, trees_of}
 use Rattle.ext_host.specs.Held.{HeldFile}
 use Rattle.ext_host.specs.Host.{past_tree}
 use Rattle.ext_host.specs.declared.body.Body.{Body}
@@ -22,8 +21,7 @@ use Rattle.ext_host.specs.declared.home.Home.{Home}
 use Rattle.ext_host.specs.declared.host.Host.{Host}
 use Rattle.ext_host.specs.declared.past.Past.{Past}
 use Rattle.ext_index.specs.ValidIndex.{IsHomeUpTo, IsKeptUpTo, IsWellFormed, IsWellFormedTree}
-use Rattle.ext_store.specs.Names.{IsFileNumber}
-use Rattle.ext_homes.specs.Giving.{AreHomesBefore, lists_kept, trees_before}
+use Rattle.ext_homes.specs.Giving.{AreHomesBefore, trees_before}
 use Rattle.ext_gen.specs.Opened.{Generation, IsOpened}
 use Rattle.ext_gen.specs.Preparing.{coming_number, has_file_in, host_before, is_file_in, is_kept_in, is_needed, trees_of_pasts}
 use Rattle.ext_gen.proofs.OpenedLemmas.{opened_is_valid_for, opened_is_well_formed}

@@ -1,5 +1,5 @@
 -- How long an index is: it is no longer where files have homes in earlier generations.
-use Rattle.std.proofs.Common.{◌≡◌, ◌⊎◌, ℕ, ◌+◌, ◌*◌, ◌/◌, ◌%◌, ◌^◌, ◌<◌, ◌≤◌, min, Bool, true, false, List, [], ◌∷◌, ◌++◌, length, get_or, Option, Some, None, refl, sym, ap, ◌∙◌, subst, inl, inr, arith, length-append, codes}
+use Rattle.std.proofs.Common.{◌≡◌, ◌⊎◌, ℕ, ◌+◌, ◌/◌, ◌%◌, ◌^◌, ◌<◌, ◌≤◌, min, false, List, [], ◌∷◌, ◌++◌, length, get_or, Option, Some, None, refl, sym, ap, ◌∙◌, subst, inl, inr, arith, length-append, codes}
 use Rattle.std.specs.Prelude.{map, decimal, nat_lt}
 use Rattle.std.specs.Fmt.{digits}
 use Rattle.std.specs.List.{flat_map}
@@ -7,7 +7,6 @@ use Rattle.std.proofs.lemmas.Bool.{cases_lt, cond-true, cond-false, lt-ltb, ltb-
 use Rattle.ext_lines.specs.Numbers.{octal}
 use Rattle.ext_text.specs.declared.which.Which.TheVariants as whichs
 use Rattle.std.proofs.lemmas.Fmt.{decimal_by_steps, decimal_digit, decimal_step}
-use Rattle.std.proofs.lemmas.List.{length-map}
 use Rattle.ext_lines.specs.Lines.{lines_text}
 use Rattle.ext_lines.proofs.ForCallers.{lines_text-append}
 use Rattle.ext_text.specs.Path.{path_text}
@@ -20,14 +19,12 @@ use Rattle.ext_host.specs.Held.{HeldFile}
 use Rattle.ext_host.specs.Host.{HostTree, past_tree, present}
 use Rattle.ext_host.specs.declared.body.Body.{Body}
 use Rattle.ext_host.specs.declared.body.Body.TheVariants.{Here, Kept, Depot}
-use Rattle.ext_host.specs.declared.home.Home.{Home}
 use Rattle.ext_host.specs.declared.host.Host.{Host}
 use Rattle.ext_host.specs.declared.past.Past.{Past}
-use Rattle.ext_record.specs.Homed.{file_digits, homed_line}
-use Rattle.ext_record.specs.Homes.{home_of, line_of_entry, listed_entry, listed_file}
-use Rattle.ext_record.specs.declared.homed.Homed.{Homed}
+use Rattle.ext_record.specs.Homed.{file_digits}
+use Rattle.ext_record.specs.Homes.{home_of, line_of_entry}
 use Rattle.ext_record.specs.Lines.{number_line}
-use Rattle.ext_index.specs.Index.{index_lines, index_text, machine_lines, merged_lines, past_lines, record_lines, section_lines, tree_lines}
+use Rattle.ext_index.specs.Index.{machine_lines, merged_lines, past_lines, record_lines, section_lines, tree_lines}
 use Rattle.ext_index.specs.ValidIndex.{most_index_bytes}
 use Rattle.ext_gen.specs.Opened.{Generation}
 use Rattle.ext_gen.specs.Preparing.{coming_number, limit_of}

@@ -10,7 +10,7 @@ use Rattle.ext_depot.specs.Depot.{DepotState}
 use Rattle.ext_disk.specs.Disk.{Places, Told, DiskState, BothTold}
 use Rattle.ext_tree.specs.Tree.{Entries}
 use Rattle.ext_host.specs.Held.{HeldFile}
-use Rattle.ext_store.specs.Removal.{is_in, AllStand, AreDistinct, AreGone, AtMost, Loses, Removes}
+use Rattle.ext_store.specs.Removal.{is_in, AllStand, AreDistinct, AtMost, Loses, Removes}
 use Rattle.ext_store.specs.declared.errors.CleanErr.{CleanErr}
 use Rattle.ext_store.specs.declared.errors.CleanErr.TheVariants as clean_errors
 use Rattle.ext_store.proofs.ForCallers.{told_itself, told_map, told_then}

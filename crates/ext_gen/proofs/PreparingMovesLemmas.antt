@@ -1,10 +1,9 @@
 -- The moves of a change: the conditions of each, and what it settles.
-use Rattle.std.proofs.Common.{◌≡◌, ◌⊎◌, ℕ, ◌+◌, ◌/◌, ◌%◌, ◌<◌, ◌≤◌, Bool, true, false, List, [], ◌∷◌, ◌++◌, take, drop, Option, Some, None, IfSome, Result, Ok, Err, refl, sym, ap, ◌∙◌, subst, inl, inr, arith}
+use Rattle.std.proofs.Common.{◌≡◌, ◌⊎◌, ℕ, ◌+◌, ◌/◌, ◌%◌, ◌<◌, ◌≤◌, Bool, true, false, List, [], ◌∷◌, ◌++◌, drop, Option, Some, None, IfSome, Result, Ok, Err, refl, sym, ap, ◌∙◌, subst, inl, inr, arith}
 use Rattle.std.specs.Prelude.{OnOk}
-use Rattle.std.specs.Ordering.{eq_by_cmp}
 use Rattle.std.proofs.lemmas.Bool.{false≢true, cases_lt}
 use Rattle.ext_lines.specs.Hexadecimal.{five_digits, hex_digit}
-use Rattle.ext_text.specs.Path.{path_cmp, is_prefix}
+use Rattle.ext_text.specs.Path.{is_prefix}
 use Rattle.ext_disk.specs.Disk.{Node, folder, file, Place, Places, Told, DiskState, BothTold, IsDisk, is_folder, is_settled}
 use Rattle.ext_disk.specs.Calls.{IsFree}
 use Rattle.ext_disk.specs.Fixed.{Spares, IsSpared, Stays}

@@ -1,6 +1,6 @@
 -- The generations in which files of a host are kept, collected one by one.
 use Rattle.std.proofs.Common.{◌≡◌, ℕ, ◌+◌, ◌<◌, Bool, true, false, ◌||◌, List, [], ◌∷◌, ◌++◌, length, take, get_or, refl, sym, ap, ◌∙◌}
-use Rattle.std.specs.List.{flat_map, list_any}
+use Rattle.std.specs.List.{list_any}
 use Rattle.ext_host.specs.declared.past.Past.{Past}
 use Rattle.ext_gen.specs.Preparing.{has_file_in, trees_of_pasts}
 use Rattle.ext_gen.proofs.PreparingListLemmas.{one_more}

@@ -1,12 +1,12 @@
 -- The coming generation is one of a store: its host is valid, and there is an index of it.
-use Rattle.std.proofs.Common.{◌≡◌, ◌⊎◌, ℕ, zero, suc, ◌+◌, ◌^◌, ◌<◌, ◌≤◌, Bool, true, false, List, [], ◌∷◌, ◌++◌, length, Option, Some, None, IfSome, refl, sym, ap, ◌∙◌, subst, inl, inr, arith}
+use Rattle.std.proofs.Common.{◌≡◌, ◌⊎◌, ℕ, zero, suc, ◌+◌, ◌^◌, ◌<◌, ◌≤◌, true, false, List, [], ◌∷◌, length, Option, Some, None, IfSome, refl, sym, ap, ◌∙◌, subst, inl, inr, arith}
 use Rattle.std.specs.Prelude.{slice_get}
 use Rattle.std.specs.List.{Contains}
 use Rattle.std.specs.Option.{is_some}
 use Rattle.std.proofs.lemmas.Bool.{false≢true}
 use Rattle.ext_depot.specs.Depot.{DepotState}
 use Rattle.ext_disk.specs.Disk.{DiskState}
-use Rattle.ext_tree.specs.Tree.{Entries, lookup, most_entries}
+use Rattle.ext_tree.specs.Tree.{Entries, lookup}
 use Rattle.ext_tree.specs.declared.entry.Entry.TheVariants.{File}
 use Rattle.ext_tree.specs.declared.stamp.Stamp.{Stamp}
 use Rattle.ext_host.specs.Drawn.{AreDrawnFrom, HasFile, IsFileOf, trees_of}
@@ -18,7 +18,7 @@ use Rattle.ext_host.specs.declared.home.Home.{Home}
 use Rattle.ext_host.specs.declared.host.Host.{Host}
 use Rattle.ext_host.proofs.ForCallers.{one_stamp}
 use Rattle.ext_index.specs.Index.{index_text}
-use Rattle.ext_index.specs.ValidIndex.{IsHomeUpTo, IsIndexOf, IsKeptUpTo, IsValidFor, IsWellFormed, most_index_bytes}
+use Rattle.ext_index.specs.ValidIndex.{IsHomeUpTo, IsKeptUpTo, IsWellFormed, most_index_bytes}
 use Rattle.ext_store.specs.Names.{IsGeneration}
 use Rattle.ext_homes.specs.Brought.{is_brought}
 use Rattle.ext_homes.specs.Giving.{lists_kept, stored_by, trees_before}
@@ -27,7 +27,7 @@ use Rattle.ext_gen.specs.Opened.{Generation, IsOpened}
 use Rattle.ext_gen.specs.Preparing.{AreBefore, BringNone, coming_number, host_before, trees_of_pasts}
 use Rattle.ext_gen.specs.PreparingIndex.{coming_index}
 use Rattle.ext_gen.proofs.OpenedLemmas.{opened_is_valid_for}
-use Rattle.ext_gen.proofs.PreparingFilesLemmas.{homes_before, no_file_of_none, opened_home}
+use Rattle.ext_gen.proofs.PreparingFilesLemmas.{no_file_of_none, opened_home}
 use Rattle.ext_gen.proofs.PreparingIndexLemmas.{AreNoLonger, index_within}
 use Rattle.ext_gen.proofs.PreparingOriginLemmas.{IsOrigin, stayed, listed, new, origin_first, origin_rest, placed_digits, tree_origin}
 use Rattle.ext_gen.proofs.PreparingPlacedLemmas.{host_count}

@@ -10,14 +10,13 @@ use Rattle.ext_tree.specs.Tree.{Entries, lookup}
 use Rattle.ext_tree.specs.declared.entry.Entry.{Entry}
 use Rattle.ext_tree.specs.declared.entry.Entry.TheVariants.{Dir, Opaque, File, Link, Hide}
 use Rattle.ext_tree.specs.declared.stamp.Stamp.{Stamp}
-use Rattle.ext_host.specs.Drawn.{HasFile}
 use Rattle.ext_host.specs.Held.{HeldFile, IsStampOf}
 use Rattle.ext_host.specs.Shelf as shelf
 use Rattle.ext_host.specs.declared.body.Body.{Body}
 use Rattle.ext_host.specs.declared.body.Body.TheVariants.{Here, Kept, Depot}
 use Rattle.ext_host.specs.declared.home.Home.{Home}
 use Rattle.ext_record.specs.Homes.{home_of}
-use Rattle.ext_homes.specs.Placed.{Stored, TakesHome, IsBroughtTo, IsBodyPlaced, IsEntryPlaced, ArePlaced, brought_told}
+use Rattle.ext_homes.specs.Placed.{Stored, TakesHome, IsBodyPlaced, IsEntryPlaced, ArePlaced}
 use Rattle.ext_gen.proofs.PreparingIndexLemmas.{IsNoLonger, EntryNoLonger, AreNoLonger, fewer_digits}
 
 -- ---- one file

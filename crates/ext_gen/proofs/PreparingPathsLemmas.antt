@@ -1,18 +1,16 @@
 -- The paths of a coming generation, and how parts of a change compose.
-use Rattle.std.proofs.Common.{◌≡◌, ◌≢◌, ◌⊎◌, ℕ, ◌+◌, ◌≤◌, ◌<◌, Bool, true, false, cond, ◌||◌, List, [], ◌∷◌, ◌++◌, take, drop, length, get_or, Option, Some, None, IfSome, Result, Ok, Err, refl, sym, ap, ◌∙◌, subst, inl, inr, arith}
-use Rattle.std.specs.Prelude.{OnOk}
-use Rattle.std.specs.Option.{is_some}
+use Rattle.std.proofs.Common.{◌≡◌, ◌⊎◌, ℕ, ◌+◌, ◌≤◌, Bool, true, false, List, [], ◌∷◌, take, drop, length, get_or, Option, Some, None, Result, Ok, Err, refl, sym, ap, ◌∙◌, subst, inl, inr, arith}
 use Rattle.std.specs.Ordering.{eq_by_cmp}
 use Rattle.std.proofs.lemmas.Bool.{false≢true, and_parts, or_cases, or_left, or_right, cases_Bool, cond-true, cond-false}
 use Rattle.ext_lines.specs.Hexadecimal.{five_digits}
 use Rattle.ext_text.specs.Name.{bytes_cmp}
-use Rattle.ext_text.specs.Path.{path_cmp, is_prefix, is_proper_prefix}
-use Rattle.ext_text.proofs.ForCallers.{same_name, same_path, prefix_self, prefix_trans}
+use Rattle.ext_text.specs.Path.{path_cmp, is_prefix}
+use Rattle.ext_text.proofs.ForCallers.{same_name, same_path, prefix_trans}
 use Rattle.ext_disk.specs.Disk.{Places, Told, DiskState, BothTold}
 use Rattle.ext_disk.specs.Fixed.{Spares}
 use Rattle.ext_disk.proofs.ForCallers.{spares_itself, spares_then, spares_wider}
-use Rattle.ext_store.specs.LeftOvers.{is_left_over, is_left_path}
-use Rattle.ext_store.specs.Names.{IsGeneration, generation_name, generation_path, home_folder, home_path, index_name, index_path, next_name, next_path}
+use Rattle.ext_store.specs.LeftOvers.{is_left_path}
+use Rattle.ext_store.specs.Names.{IsGeneration, generation_name, generation_path, index_name, index_path, next_name, next_path}
 use Rattle.ext_store.specs.Removal.{AppendsNothing, AllStand, AreGone, Loses, Removes, is_in}
 use Rattle.ext_store.specs.Writing.{is_at, nowhere, Works, WorksTold}
 use Rattle.ext_store.specs.declared.errors.CleanErr.{CleanErr}

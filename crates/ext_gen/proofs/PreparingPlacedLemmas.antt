@@ -1,5 +1,5 @@
 -- A host whose files have their homes: how many are written, and that what is told at the homes before decides alone.
-use Rattle.std.proofs.Common.{◌≡◌, ◌⊎◌, ℕ, ◌+◌, ◌≤◌, true, false, List, [], ◌∷◌, ◌++◌, length, refl, sym, ap, ◌∙◌, subst, inl, inr, arith, length-append}
+use Rattle.std.proofs.Common.{◌≡◌, ℕ, ◌+◌, ◌≤◌, true, false, List, [], ◌∷◌, length, refl, sym, ap, subst, inl, inr, arith, length-append}
 use Rattle.ext_depot.specs.Depot.{DepotState}
 use Rattle.ext_disk.specs.Disk.{DiskState}
 use Rattle.ext_tree.specs.Tree.{Entries}
@@ -19,7 +19,7 @@ use Rattle.ext_store.proofs.ForCallers.{rose_since}
 use Rattle.ext_homes.specs.Refused.{HomesCause, IsFirstIntact, StopsAt}
 use Rattle.ext_homes.specs.declared.errors.HomesErr.{HomesErr}
 use Rattle.ext_homes.specs.declared.errors.HomesErr.TheVariants as homes_errors
-use Rattle.ext_homes.specs.Placed.{Stored, DifferBefore, TakesHome, IsBroughtTo, IsBodyPlaced, IsEntryPlaced, ArePlaced, AreBothPlaced, IsHostPlaced, brought_told}
+use Rattle.ext_homes.specs.Placed.{Stored, DifferBefore, TakesHome, IsBroughtTo, IsBodyPlaced, IsEntryPlaced, ArePlaced, IsHostPlaced, brought_told}
 
 -- ---- how many files are written
 

@@ -1,14 +1,13 @@
 -- What a complete generation is to a store: all is there for it beside the state for which the store firmly stands.
 use Rattle.std.proofs.Common.{◌≡◌, ◌⊎◌, ℕ, ◌+◌, ◌<◌, ◌≤◌, zero, suc, Bool, true, false, cond, not, List, [], ◌∷◌, ◌++◌, length, Option, Some, None, IfSome, Result, Ok, Err, IfOk, refl, sym, ap, ◌∙◌, subst, inl, inr, arith}
 use Rattle.std.specs.Prelude.{slice_get, unwrap_or, ◌==◌}
-use Rattle.std.specs.List.{sum_by}
 use Rattle.std.specs.Option.{is_some}
 use Rattle.std.specs.Ordering.{eq_by_cmp}
 use Rattle.std.proofs.lemmas.Bool.{false≢true, cases_Bool, cond-true, cond-false, eq-eqb, eqb-true}
 use Rattle.ext_text.specs.Path.{path_cmp}
 use Rattle.ext_text.proofs.ForCallers.{tied_path}
 use Rattle.ext_depot.specs.Depot.{DepotState}
-use Rattle.ext_disk.specs.Disk.{Node, folder, file, Places, Told, DiskState, BothTold, IsDisk, Tree, is_firm, is_no_folder, now}
+use Rattle.ext_disk.specs.Disk.{file, Places, Told, DiskState, BothTold, IsDisk, Tree, is_firm, is_no_folder, now}
 use Rattle.ext_disk.specs.Fixed.{IsSpared, Spares}
 use Rattle.ext_host.specs.Drawn.{AreDrawnFrom, IsFileOf, trees_of}
 use Rattle.ext_host.specs.Held.{HeldFile, IsStampOf}
@@ -16,26 +15,24 @@ use Rattle.ext_host.specs.declared.body.Body.TheVariants.{Kept}
 use Rattle.ext_host.specs.declared.home.Home.{Home}
 use Rattle.ext_host.specs.declared.host.Host.{Host}
 use Rattle.ext_index.specs.ValidIndex.{GivesIndex, text_number}
-use Rattle.ext_store.specs.LeftOvers.{is_left_over, is_left_path}
-use Rattle.ext_store.specs.Names.{IsGeneration, current_path, current_text, generation_name, generation_path, home_path, index_path, next_name, next_path}
+use Rattle.ext_store.specs.LeftOvers.{is_left_over}
+use Rattle.ext_store.specs.Names.{IsGeneration, current_path, generation_name, generation_path, home_path, index_path, next_name, next_path}
 use Rattle.ext_store.specs.Writing.{IsWritten}
 use Rattle.ext_store.proofs.ForCallers.{is_left as name_is_left}
 use Rattle.ext_homes.specs.Giving.{lists_kept, stored_by, trees_before}
-use Rattle.ext_homes.specs.Placed.{IsHostPlaced}
 use Rattle.ext_homes.specs.Written.{AreWritten}
 use Rattle.ext_gen.specs.Opened.{Generation, IsOpened}
 use Rattle.ext_gen.specs.declared.errors.StoreErr.{StoreErr}
-use Rattle.ext_gen.specs.Store.{State, none, at, generation_in, HasFiles, IsCurrent, IsKeptFile, Points, Stands}
-use Rattle.ext_gen.specs.Sound.{IsBase, base_folder, base_index, base_home, IsBaseFirm, IsFirmly, IsReady, KeepsFirmly, with_current}
-use Rattle.ext_gen.specs.Committing.{IsPrepared}
+use Rattle.ext_gen.specs.Store.{State, none, at, generation_in, IsCurrent, IsKeptFile, Points}
+use Rattle.ext_gen.specs.Sound.{IsBase, base_folder, base_index, base_home, IsFirmly, IsReady, KeepsFirmly, with_current}
 use Rattle.ext_gen.specs.Preparing.{BringNone, PointsBefore, Prepares, PreparesTold, coming_number, contents_after, contents_of, host_before, is_left, is_needed, trees_of_pasts}
 use Rattle.ext_gen.specs.PreparingIndex.{coming_index}
 use Rattle.ext_gen.specs.PreparingStages.{IsComplete}
-use Rattle.ext_gen.specs.PreparingWork.{Changed, ChangedTold, Completed}
+use Rattle.ext_gen.specs.PreparingWork.{ChangedTold, Completed}
 use Rattle.ext_gen.proofs.FirmLemmas.{firmly_kept}
 use Rattle.ext_gen.proofs.OpenedLemmas.{current_is_opened}
 use Rattle.ext_gen.proofs.PointsLemmas.{one_generation}
-use Rattle.ext_gen.proofs.StatesLemmas.{stands_points, with_apart}
+use Rattle.ext_gen.proofs.StatesLemmas.{stands_points}
 use Rattle.ext_gen.proofs.PreparingChangeLemmas.{needed_not_left, not_next, one_number}
 use Rattle.ext_gen.proofs.PreparingFilesLemmas.{before_needed, file_needed, no_file_of_none, opened_home}
 use Rattle.ext_gen.proofs.PreparingOpenedLemmas.{IsFrom, before, coming, before_home, coming_is, host_from}

@@ -1,29 +1,27 @@
 -- What each part of a change leaves for the next one, and that at the end all is firm.
 use Rattle.std.proofs.Common.{◌≡◌, ◌⊎◌, ℕ, ◌+◌, ◌≤◌, ◌<◌, Bool, true, false, cond, not, ◌&&◌, ◌||◌, List, [], ◌∷◌, ◌++◌, take, drop, length, Option, Some, None, IfSome, Result, Ok, Err, refl, sym, ap, ◌∙◌, subst, inl, inr, arith}
-use Rattle.std.specs.Prelude.{OnOk}
 use Rattle.std.specs.List.{sum_by}
 use Rattle.std.specs.Option.{is_some}
 use Rattle.std.specs.Ordering.{eq_by_cmp}
 use Rattle.std.proofs.lemmas.Bool.{false≢true, and_parts, and_from, cases_Bool, not_from_false}
 use Rattle.ext_lines.specs.Hexadecimal.{five_digits}
-use Rattle.ext_text.specs.Path.{is_prefix, is_proper_prefix}
+use Rattle.ext_text.specs.Path.{is_prefix}
 use Rattle.ext_text.proofs.ForCallers.{prefix_self, same_name}
-use Rattle.ext_disk.specs.Disk.{Node, folder, file, Place, Places, Told, DiskState, BothTold, IsDisk, IsTree, root_place, is_firm, is_folder, is_settled}
-use Rattle.ext_disk.specs.Fixed.{Spares, IsSpared, Stays}
-use Rattle.ext_store.specs.LeftOvers.{is_left_over, is_left_path}
+use Rattle.ext_disk.specs.Disk.{Node, Places, Told, DiskState, BothTold, IsDisk, IsTree, is_firm, is_folder, is_settled}
+use Rattle.ext_disk.specs.Fixed.{IsSpared, Stays}
+use Rattle.ext_store.specs.LeftOvers.{is_left_path}
 use Rattle.ext_store.specs.Names.{IsGeneration, current_text, generation_name, generation_path, home_folder, home_path, index_name, index_path, next_name, next_path}
 use Rattle.ext_store.specs.Removal.{IsClear, Removes}
-use Rattle.ext_store.specs.Writing.{is_at, nowhere, Holds, IsMade, IsWritten, Works, WorksTold}
+use Rattle.ext_store.specs.Writing.{is_at, nowhere, Holds, IsMade, Works, WorksTold}
 use Rattle.ext_store.proofs.ForCallers.{holds_map, holds_both, holds_then, told_map, told_then, is_left}
 use Rattle.ext_store.specs.declared.errors.CleanErr.{CleanErr}
-use Rattle.ext_store.specs.declared.errors.CleanErr.TheVariants as clean_errors
 use Rattle.ext_depot.specs.Depot.{DepotState}
 use Rattle.ext_host.specs.declared.host.Host.{Host}
 use Rattle.ext_homes.specs.Giving.{Gives}
 use Rattle.ext_homes.specs.declared.giving.Placed.{Placed}
-use Rattle.ext_homes.specs.Written.{AreWritten, HasHomes, HasOnlyHomes, Writes, is_below}
+use Rattle.ext_homes.specs.Written.{AreWritten, HasOnlyHomes, Writes, is_below}
 use Rattle.ext_gen.specs.PreparingPaths.{is_coming, IsComing, MakesTold, Makes}
-use Rattle.ext_gen.specs.PreparingStages.{AreSettled, AreSettledIn, Completes, Fills, FillsTold, HasFolder, HasHomeFolders, IsAbsent, IsComplete, IsFilled, IsFolderAt, IsIndexed, IsOpen, IsPut}
+use Rattle.ext_gen.specs.PreparingStages.{AreSettled, Completes, Fills, FillsTold, HasFolder, HasHomeFolders, IsAbsent, IsComplete, IsFilled, IsFolderAt, IsIndexed, IsOpen, IsPut}
 use Rattle.ext_gen.proofs.PreparingMovesLemmas.{stays_holds, still_written, told_fact}
 use Rattle.ext_gen.proofs.PreparingPathsLemmas.{not_true, contraposed, top_coming}
 

@@ -1,5 +1,5 @@
 -- A valid host is valid whichever homes its files have.
-use Rattle.std.proofs.Common.{◌≡◌, ℕ, ◌+◌, ◌≤◌, Bool, true, false, cond, List, [], ◌∷◌, length, Option, Some, None, refl, sym, ap, ◌∙◌, subst, arith}
+use Rattle.std.proofs.Common.{◌≡◌, ℕ, ◌+◌, true, false, cond, List, [], ◌∷◌, length, Option, Some, None, refl, sym, ap, ◌∙◌, subst, arith}
 use Rattle.std.specs.Prelude.{IsTrue}
 use Rattle.std.specs.List.{AllByRecursion, sum_by}
 use Rattle.std.specs.Option.{is_some}
@@ -8,15 +8,15 @@ use Rattle.std.proofs.lemmas.Bool.{false≢true}
 use Rattle.std.proofs.lemmas.List.Sums.{sum_by-cons}
 use Rattle.ext_text.specs.Path.{is_prefix, path_cmp}
 use Rattle.ext_tree.specs.EntryLine.{IsWritable}
-use Rattle.ext_tree.specs.Tree.{Entries, lookup, most_entries}
+use Rattle.ext_tree.specs.Tree.{Entries, lookup}
 use Rattle.ext_tree.specs.declared.entry.Entry.{Entry}
 use Rattle.ext_tree.specs.declared.entry.Entry.TheVariants.{Dir, Opaque, File, Link, Hide}
 use Rattle.ext_host.specs.Held.{HeldFile}
 use Rattle.ext_host.specs.Host.{Hierarchies, HostTree, base_at, hierarchies_in, is_in, merged_hierarchies, present}
-use Rattle.ext_host.specs.Valid.{AreInRange, AreManifests, HasItems, IsValidHost, IsValidTree, IsWithinLimits, all_bytes, bytes_of, held_form, most_bytes}
+use Rattle.ext_host.specs.Valid.{AreInRange, HasItems, IsValidHost, all_bytes, bytes_of, held_form}
 use Rattle.ext_host.specs.declared.host.Host.{Host}
 use Rattle.ext_host.specs.declared.manifest.Manifest.{Manifest}
-use Rattle.ext_gen.proofs.PreparingIndexLemmas.{IsNoLonger, EntryNoLonger, AreNoLonger}
+use Rattle.ext_gen.proofs.PreparingIndexLemmas.{EntryNoLonger, AreNoLonger}
 
 -- ---- look-ups
 

@@ -1,8 +1,7 @@
 -- The store folder settled: a store that stands for a state then does so firmly; and what a stop within a call leaves.
-use Rattle.std.proofs.Common.{◌≡◌, ◌⊎◌, ℕ, ◌+◌, ◌<◌, ◌≤◌, Bool, true, false, cond, ◌&&◌, not, List, [], ◌∷◌, Option, Some, None, IfSome, refl, sym, ap, ◌∙◌, subst, inl, inr, arith}
+use Rattle.std.proofs.Common.{◌≡◌, ◌⊎◌, ℕ, ◌+◌, ◌<◌, ◌≤◌, Bool, true, false, cond, not, List, [], ◌∷◌, Option, Some, None, IfSome, refl, sym, ap, ◌∙◌, subst, inl, inr, arith}
 use Rattle.std.proofs.lemmas.Bool.{cases_lt, and_parts, and_from}
-use Rattle.std.specs.Option.{is_some}
-use Rattle.ext_disk.specs.Disk.{Node, Tree, Place, Places, Told, DiskState, IsDisk, MayLeave, at_prefixes, is_firm, is_folder, is_settled, now, root_place}
+use Rattle.ext_disk.specs.Disk.{Tree, Place, Places, Told, DiskState, IsDisk, MayLeave, at_prefixes, is_firm, is_folder, is_settled, now, root_place}
 use Rattle.ext_disk.specs.Calls.{Allows, Call, IsWithin, Does, DoesTold, MayCall, is_child, settled, settled_in, sync_dir}
 use Rattle.ext_disk.specs.Since.{Since}
 use Rattle.ext_store.specs.Names.{current_path}

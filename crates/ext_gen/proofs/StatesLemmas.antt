@@ -1,10 +1,10 @@
 -- States of a store: what a state rests on, which trees stand for it, and what a stop leaves of a disk that stands for one.
-use Rattle.std.proofs.Common.{◌≡◌, ◌⊎◌, ℕ, Bool, true, false, cond, ◌&&◌, not, List, [], ◌∷◌, Option, Some, None, refl, sym, ap, ◌∙◌, subst, inl, inr}
+use Rattle.std.proofs.Common.{◌≡◌, ◌⊎◌, ℕ, true, false, ◌&&◌, not, List, [], Option, Some, None, refl, sym, ap, ◌∙◌, inl, inr}
 use Rattle.std.proofs.lemmas.Bool.{false≢true, and_parts, and_from, not-true, cond-false}
 use Rattle.std.specs.Option.{is_some}
 use Rattle.std.specs.Ordering.{eq_by_cmp}
 use Rattle.ext_text.specs.Path.{path_cmp}
-use Rattle.ext_disk.specs.Disk.{Node, Tree, Place, Places, Swing, MayLeave, absent, at_prefixes, is_firm, is_settled, now, root_place}
+use Rattle.ext_disk.specs.Disk.{Node, Tree, Place, Places, Swing, MayLeave, absent, is_firm, is_settled, now, root_place}
 use Rattle.ext_store.specs.Names.{current_path}
 use Rattle.ext_gen.specs.Store.{State, none, at, generation_in, Points, Stands}
 use Rattle.ext_gen.specs.Sound.{IsBase, base_folder, base_index, base_home, IsBaseFirm, MayHold, as_now, as_before, as_after, with_current, IsMember, IsSound, IsEither, IsFirmly}

@@ -1,5 +1,5 @@
 -- A store whose `current`, or whose index, is none. This project's own.
-use Rattle.std.specs.Prelude.{◌≡◌, ◌≢◌, ℕ, ◌⊎◌, List, Option, Some, None}
+use Rattle.std.specs.Prelude.{◌≡◌, ◌≢◌, ℕ, ◌⊎◌, Option, Some, None}
 use Rattle.ext_disk.specs.Disk.{Node, Tree, folder, file}
 use Rattle.ext_index.specs.Faulty.{IsFaulty}
 use Rattle.ext_store.specs.Names.{IsGeneration, current_path, current_text, index_path}

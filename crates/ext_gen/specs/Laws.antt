@@ -1,11 +1,11 @@
 -- The laws of stores between stops.
-use Rattle.std.specs.Prelude.{◌≡◌, ℕ, ◌⊎◌, true, List, []}
+use Rattle.std.specs.Prelude.{◌≡◌, ℕ, List, []}
 use Rattle.ext_disk.specs.Disk.{Tree, Places, Told, MayLeave, absent, now, root_place}
 use Rattle.ext_disk.specs.Calls.{settled_in}
 use Rattle.ext_disk.specs.Fixed.{IsFixed}
 use Rattle.ext_store.specs.Names.{current_path}
 use Rattle.ext_gen.specs.Store.{State, none, generation_in, Stands}
-use Rattle.ext_gen.specs.Sound.{IsBase, IsEither, IsFirmly, IsMember, IsReady, IsSound, StandsSince}
+use Rattle.ext_gen.specs.Sound.{IsBase, IsEither, IsFirmly, IsMember, IsSound, StandsSince}
 
 -- an empty disk firmly stands for no generation
 abbrev pub EmptyStandsForNone : Type 0

@@ -1,5 +1,5 @@
 -- Plans for tests: hosts of what is seen alone, with small files.
-use Rattle.std.specs.Prelude.{◌≡◌, ℕ, ◌≤◌, List, [], ◌∷◌, Option, Some, None}
+use Rattle.std.specs.Prelude.{◌≡◌, ◌≤◌, [], Option, Some, None}
 use Rattle.ext_tree.specs.EntryLine.{IsWritable}
 use Rattle.ext_tree.specs.Tree.{Entries}
 use Rattle.ext_tree.specs.declared.entry.Entry.{Entry}

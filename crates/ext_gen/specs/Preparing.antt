@@ -6,7 +6,7 @@ use Rattle.ext_text.specs.Causes.{Rose}
 use Rattle.ext_text.specs.declared.which.Which.{Which}
 use Rattle.ext_text.specs.declared.which.Which.TheVariants as whichs
 use Rattle.ext_depot.specs.Depot.{DepotState}
-use Rattle.ext_disk.specs.Disk.{Places, Told, DiskState, BothTold, now}
+use Rattle.ext_disk.specs.Disk.{Told, DiskState, BothTold, now}
 use Rattle.ext_disk.specs.Since.{Rests}
 use Rattle.ext_tree.specs.Tree.{Entries}
 use Rattle.ext_tree.specs.declared.entry.Entry.{Entry}

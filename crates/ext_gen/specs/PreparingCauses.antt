@@ -1,5 +1,5 @@
 -- Why a part of a change was not done.
-use Rattle.std.specs.Prelude.{ℕ, List, ◌++◌}
+use Rattle.std.specs.Prelude.{ℕ}
 use Rattle.ext_text.specs.Causes.{Rose}
 use Rattle.ext_depot.specs.Depot.{DepotState}
 use Rattle.ext_disk.specs.Disk.{DiskState}

@@ -1,5 +1,5 @@
 -- Stores between stops, this project's own: which state a disk stands for now, and whichever it may stand for after a stop.
-use Rattle.std.specs.Prelude.{◌≡◌, ℕ, Bool, true, false, ◌⊎◌, List, Option, Some, if◌then◌else◌}
+use Rattle.std.specs.Prelude.{◌≡◌, ℕ, true, false, ◌⊎◌, List, Option, Some, if◌then◌else◌}
 use Rattle.std.specs.Ordering.{eq_by_cmp}
 use Rattle.ext_text.specs.Path.{path_cmp}
 use Rattle.ext_disk.specs.Disk.{Node, Tree, Places, Told, Swing, is_firm, now}
@@ -8,7 +8,7 @@ use Rattle.ext_host.specs.Held.{HeldFile}
 use Rattle.ext_host.specs.declared.home.Home.{Home}
 use Rattle.ext_store.specs.Names.{current_path, generation_path, home_path, index_path, next_path}
 use Rattle.ext_gen.specs.Opened.{Generation}
-use Rattle.ext_gen.specs.Store.{State, none, at, IsKeptFile, Stands}
+use Rattle.ext_gen.specs.Store.{State, at, IsKeptFile, Stands}
 
 -- ---- the paths that a state rests on
 

@@ -1,11 +1,11 @@
 -- Commands that look at no store come to one outcome, and write it.
-use Rattle.std.proofs.Common.{◌≡◌, ◌<◌, ◌≤◌, ℕ, List, length, refl, sym, ap, ◌∙◌, subst, arith, inl, inr}
+use Rattle.std.proofs.Common.{◌≡◌, ◌<◌, ◌≤◌, ℕ, List, length, sym, ap, ◌∙◌, subst, arith, inl, inr}
 use Rattle.std.specs.Prelude.{◌⊎◌, reverse, None}
 use Rattle.ext_text.specs.declared.which.Which.TheVariants as limits
-use Rattle.ext_tree.specs.FirstFault.{IsFirstFault, AtLeastOne}
+use Rattle.ext_tree.specs.FirstFault.{AtLeastOne}
 use Rattle.ext_tree.specs.Laws.{OneListOfSequence, NoFaultInSequence, OneFirstFault}
 use Rattle.ext_tree.specs.Tree.{Entries, most_entries}
-use Rattle.ext_tree.specs.TreeText.{IsSequence, tree_text}
+use Rattle.ext_tree.specs.TreeText.{tree_text}
 use Rattle.ext_tree.specs.declared.stamp.Stamp.{Stamp}
 use Rattle.ext_layer.specs.Laws.{OneLayeredTree}
 use Rattle.ext_vers.specs.Version.{version_cmp}

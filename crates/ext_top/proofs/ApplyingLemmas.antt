@@ -1,39 +1,29 @@
 -- What carrying out a command leaves: where nothing was done to the disk, and where outcomes are those of another definition.
-use Rattle.std.proofs.Common.{◌≡◌, ◌≤◌, ℕ, Bool, true, false, List, [], ◌∷◌, ◌++◌, ◌⊎◌, inl, inr, Option, Some, None, IfSome, Result, Ok, Err, refl, sym, ap, ◌∙◌, subst, arith}
-use Rattle.std.specs.Option.{option_map}
-use Rattle.ext_text.specs.Causes.{Rose}
-use Rattle.ext_text.specs.declared.which.Which.{Which}
-use Rattle.ext_tree.specs.Tree.{Entries}
+use Rattle.std.proofs.Common.{◌≡◌, ◌≤◌, ℕ, List, ◌++◌, inl, inr, Option, Some, None, IfSome, Result, Ok, Err, refl, sym, subst, arith}
 use Rattle.ext_tree.specs.declared.stamp.Stamp.{Stamp}
-use Rattle.ext_depot.specs.Depot.{DepotState, IsKept}
-use Rattle.ext_disk.specs.Disk.{Places, Told, DiskState, BothTold, IsDisk, now}
-use Rattle.ext_disk.specs.Since.{Rests}
-use Rattle.ext_host.specs.Drawn.{IsFileOf}
+use Rattle.ext_depot.specs.Depot.{DepotState}
+use Rattle.ext_disk.specs.Disk.{Places, Told, DiskState, BothTold, IsDisk}
 use Rattle.ext_host.specs.Held.{HeldFile}
-use Rattle.ext_host.specs.declared.home.Home.{Home}
 use Rattle.ext_host.specs.declared.host.Host.{Host}
 use Rattle.ext_store.specs.Copying.{IsMissing, IsReadStamp}
 use Rattle.ext_homes.specs.Giving.{trees_before}
-use Rattle.ext_homes.specs.Refused.{StopsAt}
 use Rattle.ext_gen.specs.Opened.{Generation}
-use Rattle.ext_gen.specs.Preparing.{coming_number, contents_after, host_before, limit_of}
-use Rattle.ext_gen.specs.Store.{State, none, at, generation_in}
-use Rattle.ext_gen.specs.Sound.{IsEither, IsFirmly, StandsSince}
+use Rattle.ext_gen.specs.Preparing.{coming_number, host_before}
+use Rattle.ext_gen.specs.Store.{State, generation_in}
+use Rattle.ext_gen.specs.Sound.{IsFirmly}
 use Rattle.ext_gen.proofs.ForCallers.{firmly_since, stands_since_wider}
 use Rattle.ext_cmd.specs.Replies.{answer_text}
-use Rattle.ext_cmd.specs.declared.command.Command.{Command}
 use Rattle.ext_cmd.specs.declared.refusal.Refusal.{Refusal}
 use Rattle.ext_cmd.specs.declared.refusal.Refusal.TheVariants as refusals
-use Rattle.ext_step.specs.Intents.{Seen, trees_seen}
-use Rattle.ext_step.specs.Step.{Wants}
+use Rattle.ext_step.specs.Intents.{trees_seen}
 use Rattle.ext_step.specs.declared.intent.Intent.{Intent}
 use Rattle.ext_step.specs.declared.intent.Intent.TheVariants.{Changes, Answers, Checks, Shows, Refuses}
-use Rattle.ext_top.specs.Applying.{Applies, AppliesEnds, AppliesTold, ApplyCause, IsDamage, IsPassed}
-use Rattle.ext_top.specs.Machine.{Comes, IsMismatch, IsNext, IsNotThere, Outcome, Replaces, RefusesNext, Step, StopsFor, gives, refuses, seen_in, state_after, stored_in}
+use Rattle.ext_top.specs.Applying.{Applies, AppliesEnds, AppliesTold, ApplyCause, IsPassed}
+use Rattle.ext_top.specs.Machine.{Comes, IsMismatch, IsNext, IsNotThere, Outcome, Replaces, RefusesNext, StopsFor, stored_in}
 use Rattle.ext_top.specs.declared.applied.Applied.{Applied}
 use Rattle.ext_top.specs.declared.apply_err.ApplyErr.{ApplyErr}
 use Rattle.ext_top.specs.declared.apply_err.ApplyErr.TheVariants.{DiskFault, DepotFault, Damaged, Unfinished, OutOfMemory}
-use Rattle.ext_top.proofs.PlacedLemmas.{Alike, host_alike, stops_alike}
+use Rattle.ext_top.proofs.PlacedLemmas.{host_alike, stops_alike}
 use Rattle.ext_top.proofs.StoredLemmas.{alike_depot, depot_alike}
 
 -- ---- where nothing was done

@@ -1,15 +1,14 @@
 -- Where nothing fails, a command is answered.
-use Rattle.std.proofs.Common.{◌≡◌, ◌≢◌, ℕ, ◌+◌, ◌≤◌, Bool, true, false, List, [], ◌∷◌, ◌++◌, length, ◌⊎◌, inl, inr, Option, Some, None, IfSome, Result, Ok, Err, refl, sym, ap, ◌∙◌, subst, rules, arith}
+use Rattle.std.proofs.Common.{◌≡◌, ℕ, ◌+◌, Bool, true, false, List, [], ◌∷◌, ◌⊎◌, inl, inr, Option, Some, None, IfSome, Result, Ok, Err, sym, ◌∙◌, subst, rules}
 use Rattle.std.proofs.lemmas.List.{length-append}
 use Rattle.ext_text.specs.Causes.{Rose}
 use Rattle.ext_io.specs.SourceState.{SourceState}
 use Rattle.ext_io.specs.SinkState.{SinkState}
 use Rattle.ext_depot.specs.Depot.{DepotState}
-use Rattle.ext_disk.specs.Disk.{BothTold, Told, now}
+use Rattle.ext_disk.specs.Disk.{BothTold, Told}
 use Rattle.ext_gen.specs.Sound.{IsSound}
 use Rattle.ext_gen.specs.Store.{State}
-use Rattle.ext_gen.proofs.ForCallers.{sound_is_not_broken}
-use Rattle.ext_cmd.specs.Words.{IsCommand, IsWellFormed, command_words}
+use Rattle.ext_cmd.specs.Words.{IsCommand}
 use Rattle.ext_cmd.specs.declared.command.Command.{Command}
 use Rattle.ext_cmd.specs.declared.refusal.Refusal.{Refusal}
 use Rattle.ext_cmd.proofs.ForCallers.{no_fault, one_command}
@@ -20,7 +19,6 @@ use Rattle.ext_top.specs.Exits.{Ends, Line, Standing, StopsAt, does}
 use Rattle.ext_top.specs.Machine.{refusal_of}
 use Rattle.ext_top.specs.Running.{Devices, EndsAlone, IsCrowdedNow, Runs, RunsClosed, RunsCommand, RunsKind, RunsOpened, RunsSound, RunsStore, StoreSide, TakesSome, most_source, status_of, store_side, streams}
 use Rattle.ext_top.specs.declared.bad_store.BadStore as reasons
-use Rattle.ext_top.specs.declared.bad_store.BadStore.TheVariants as bad
 use Rattle.ext_top.specs.declared.status.Status.{Status}
 use Rattle.ext_top.specs.declared.status.Status.TheVariants.{Done, Refused, Usage, ReadFault, WriteFault, DiskFault, DepotFault, OutOfMemory, BadStore, Unfinished, TooLong}
 use Rattle.ext_top.specs.declared.stop.Stop.{Stop}

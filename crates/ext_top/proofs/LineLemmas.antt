@@ -1,40 +1,33 @@
 -- A line of a run: what the command leaves, and then what its reply does.
-use Rattle.std.proofs.Common.{◌≡◌, ◌≢◌, ℕ, zero, suc, ◌+◌, ◌<◌, ◌≤◌, Bool, true, false, List, [], ◌∷◌, ◌++◌, length, ◌⊎◌, inl, inr, Option, Some, None, IfOk, IfSome, Result, Ok, Err, refl, sym, ap, ◌∙◌, subst, arith, append-nil}
+use Rattle.std.proofs.Common.{◌≡◌, ℕ, ◌≤◌, List, [], ◌∷◌, length, inl, inr, Option, Some, None, IfOk, Result, Ok, Err, refl, sym, ap, ◌∙◌, subst, arith, append-nil}
 use Rattle.std.specs.Io.KnownBytes.{Appends}
-use Rattle.std.proofs.lemmas.Bool.{false≢true}
-use Rattle.ext_lines.specs.Prefix.{IsPrefix}
 use Rattle.ext_text.specs.Causes.{Rose}
 use Rattle.ext_io.specs.SinkState.{SinkState}
-use Rattle.ext_io.specs.Whole.{AppendsProperPrefix}
-use Rattle.ext_tree.specs.Tree.{Entries}
-use Rattle.ext_tree.specs.declared.stamp.Stamp.{Stamp}
 use Rattle.ext_depot.specs.Depot.{DepotState}
 use Rattle.ext_disk.specs.Disk.{Places, Told, DiskState, BothTold, now}
 use Rattle.ext_disk.specs.Since.{Rests}
-use Rattle.ext_host.specs.Drawn.{IsFileOf, trees_of}
-use Rattle.ext_host.specs.Held.{HeldFile, IsStampOf}
-use Rattle.ext_host.specs.Shelf.{IsFound, IsKeptAs, stored}
+use Rattle.ext_host.specs.Drawn.{IsFileOf}
+use Rattle.ext_host.specs.Held.{HeldFile}
+use Rattle.ext_host.specs.Shelf.{IsFound, stored}
 use Rattle.ext_host.specs.declared.body.Body.{Body}
 use Rattle.ext_host.specs.declared.body.Body.TheVariants.{Here, Kept, Depot}
 use Rattle.ext_host.specs.declared.home.Home.{Home}
 use Rattle.ext_store.specs.HeldFiles.{body_told, told_at}
 use Rattle.ext_store.specs.Names.{home_path}
-use Rattle.ext_homes.specs.Giving.{home_told, lists_kept, trees_before}
+use Rattle.ext_homes.specs.Giving.{trees_before}
 use Rattle.ext_index.specs.ValidIndex.{IsKeptUpTo}
 use Rattle.ext_gen.specs.Opened.{Generation}
-use Rattle.ext_gen.specs.Preparing.{contents_of, host_before}
+use Rattle.ext_gen.specs.Preparing.{host_before}
 use Rattle.ext_gen.specs.Store.{State, none, at, Stands, generation_in}
-use Rattle.ext_gen.specs.Sound.{IsEither, IsFirmly, StandsSince}
+use Rattle.ext_gen.specs.Sound.{IsFirmly, StandsSince}
 use Rattle.ext_gen.proofs.ForCallers.{current_is_opened, opened_is_valid_for, stands_since_wider}
-use Rattle.ext_cmd.specs.Refusals.{refusal_line}
 use Rattle.ext_cmd.specs.declared.command.Command.{Command}
 use Rattle.ext_cmd.specs.declared.refusal.Refusal.{Refusal}
-use Rattle.ext_top.specs.Applying.{Applies, AppliesEnds, AppliesTold, ApplyCause, IsApplied, IsDamage, IsPassed, IsReply, IsServedReply, IsShownReply}
-use Rattle.ext_top.specs.Exits.{Cuts, LineComes, IsOnTheWay, Standing, StandsAs, StopsAt, Tears, Wavers, between, does, firm}
-use Rattle.ext_top.specs.Lines.{LineCause, LineDone, LineEnds, LineRuns, LineStops, LineTold, stop_of_apply}
-use Rattle.ext_top.specs.Machine.{Outcome, Step, bytes_at, gives, refuses, reply_of, shows, state_after, trees_in}
-use Rattle.ext_top.specs.Replying.{FileCause, ReplyCause, TextCause, WritesFile, WritesPartly, WritesRefusal, WritesReply, WritesText}
-use Rattle.ext_top.specs.declared.applied.Applied.{Applied}
+use Rattle.ext_top.specs.Applying.{AppliesEnds, AppliesTold, ApplyCause, IsPassed, IsReply, IsServedReply, IsShownReply}
+use Rattle.ext_top.specs.Exits.{IsOnTheWay, Standing, StandsAs, StopsAt, between, does, firm}
+use Rattle.ext_top.specs.Lines.{LineCause, LineEnds, LineStops, LineTold, stop_of_apply}
+use Rattle.ext_top.specs.Machine.{Outcome, Step, bytes_at, gives, refuses, shows, state_after, trees_in}
+use Rattle.ext_top.specs.Replying.{FileCause, ReplyCause, TextCause, WritesPartly, WritesRefusal, WritesReply, WritesText}
 use Rattle.ext_top.specs.declared.applied.Reply.{Reply}
 use Rattle.ext_top.specs.declared.applied.Reply.TheVariants.{Text, File, Refused}
 use Rattle.ext_top.specs.declared.apply_err.ApplyErr.{ApplyErr}

@@ -1,15 +1,12 @@
 -- A file that is written in pieces.
-use Rattle.std.proofs.Common.{◌≡◌, ℕ, zero, suc, ◌+◌, ◌<◌, ◌≤◌, List, [], ◌∷◌, ◌++◌, length, take, drop, ◌⊎◌, inl, inr, Option, Some, None, Result, Ok, Err, refl, sym, ap, ◌∙◌, subst, arith, append_assoc, append-nil, length-append}
+use Rattle.std.proofs.Common.{◌≡◌, ℕ, ◌+◌, ◌≤◌, List, ◌++◌, length, take, drop, Option, Some, None, Ok, Err, sym, ap, ◌∙◌, subst, arith, append_assoc}
 use Rattle.std.specs.Io.KnownBytes.{Appends}
 use Rattle.std.proofs.Math.Seq.{take-add, take-append_seam}
 use Rattle.std.proofs.lemmas.List.{take-append-drop, take_all}
-use Rattle.ext_lines.specs.Prefix.{IsPrefix, IsProperPrefix}
 use Rattle.ext_io.specs.SinkState.{SinkState}
-use Rattle.ext_io.specs.Whole.{AppendsProperPrefix}
-use Rattle.ext_disk.specs.Disk.{DiskState}
 use Rattle.ext_host.specs.Shelf as shelf
 use Rattle.ext_host.specs.Shelf.{stored}
-use Rattle.ext_top.specs.Replying.{AppendsPrefix, WritesFile, WritesNext, WritesPartly, WritesPiece}
+use Rattle.ext_top.specs.Replying.{WritesFile, WritesNext, WritesPartly, WritesPiece}
 use Rattle.ext_top.specs.declared.stop.Stop.{Stop}
 use Rattle.ext_top.specs.declared.stop.Stop.TheVariants.{WriteFault, DiskFault, DepotFault, OutOfMemory, BadStore, Unfinished}
 use Rattle.ext_top.proofs.LineLemmas.{adds_nothing}

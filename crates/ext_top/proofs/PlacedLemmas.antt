@@ -1,12 +1,11 @@
 -- Homes of a coming host depend on what a store lists, on the bytes at the homes that it lists, and on the files of the depot.
-use Rattle.std.proofs.Common.{◌≡◌, ℕ, ◌+◌, Bool, List, [], ◌∷◌, ◌++◌, length, ◌⊎◌, inl, inr, sym, ap, ◌∙◌, subst}
-use Rattle.std.specs.declared.cmp.Ordering.TheVariants.{Less}
+use Rattle.std.proofs.Common.{◌≡◌, ℕ, ◌+◌, Bool, List, [], ◌∷◌, length, inl, inr, subst}
 use Rattle.ext_tree.specs.Tree.{Entries}
 use Rattle.ext_tree.specs.declared.entry.Entry.{Entry}
 use Rattle.ext_tree.specs.declared.entry.Entry.TheVariants.{Dir, Opaque, File, Link, Hide}
 use Rattle.ext_tree.specs.declared.stamp.Stamp.{Stamp}
 use Rattle.ext_depot.specs.Depot.{DepotState}
-use Rattle.ext_host.specs.Held.{HeldFile, IsStampOf}
+use Rattle.ext_host.specs.Held.{HeldFile}
 use Rattle.ext_host.specs.Shelf as shelf
 use Rattle.ext_host.specs.Shelf.{IsTold}
 use Rattle.ext_host.specs.declared.body.Body.{Body}
@@ -14,7 +13,7 @@ use Rattle.ext_host.specs.declared.body.Body.TheVariants.{Here, Kept, Depot}
 use Rattle.ext_host.specs.declared.home.Home.{Home}
 use Rattle.ext_host.specs.declared.host.Host.{Host}
 use Rattle.ext_store.specs.Comparing.{IsCompared}
-use Rattle.ext_homes.specs.Placed.{Stored, ArePlaced, DifferBefore, HasNone, IsBodyPlaced, IsBroughtTo, IsEntryPlaced, IsHostPlaced, IsLeastHome, TakesHome, brought_told, home_cmp}
+use Rattle.ext_homes.specs.Placed.{Stored, ArePlaced, DifferBefore, IsBodyPlaced, IsBroughtTo, IsEntryPlaced, IsHostPlaced, TakesHome, brought_told}
 use Rattle.ext_homes.specs.Refused.{StopsAt}
 
 -- the same homes are listed, with the same bytes, and the same is told of what is brought

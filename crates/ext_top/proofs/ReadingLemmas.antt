@@ -1,10 +1,9 @@
 -- Commands that only read the store: nothing is done, or its files are checked, or one of them is shown.
-use Rattle.std.proofs.Common.{◌≡◌, ◌≢◌, ℕ, Bool, true, List, inl, Option, Some, None, IfSome, Result, Ok, Err, refl, sym, ap, ◌∙◌, subst}
+use Rattle.std.proofs.Common.{◌≡◌, ℕ, true, List, inl, Option, Some, None, IfSome, Ok, Err, refl, sym, ap, ◌∙◌, subst}
 use Rattle.ext_tree.specs.declared.stamp.Stamp.{Stamp}
 use Rattle.ext_depot.specs.Depot.{DepotState}
-use Rattle.ext_disk.specs.Disk.{Places, Told, DiskState, BothTold, IsDisk, now}
-use Rattle.ext_disk.specs.Since.{Rests}
-use Rattle.ext_host.specs.Drawn.{IsFileOf, trees_of}
+use Rattle.ext_disk.specs.Disk.{Told, DiskState, BothTold, IsDisk, now}
+use Rattle.ext_host.specs.Drawn.{IsFileOf}
 use Rattle.ext_host.specs.Held.{HeldFile}
 use Rattle.ext_host.specs.Shelf.{IsFound, ShelfCause}
 use Rattle.ext_host.specs.declared.home.Home.{Home}
@@ -24,14 +23,11 @@ use Rattle.ext_cmd.specs.Replies.{answer_text}
 use Rattle.ext_cmd.specs.declared.answer.Answer.{Answer}
 use Rattle.ext_cmd.specs.declared.answer.Answer.TheVariants.{Checked}
 use Rattle.ext_cmd.specs.declared.refusal.Refusal.{Refusal}
-use Rattle.ext_step.specs.DepotText.{PlanCause}
-use Rattle.ext_step.specs.declared.plan_err.PlanErr.{PlanErr}
-use Rattle.ext_step.specs.declared.plan_err.PlanErr.TheVariants as plan_errors
-use Rattle.ext_step.specs.Check.{host_bytes, host_files}
+use Rattle.ext_step.specs.Check.{host_files}
 use Rattle.ext_step.specs.Intents.{trees_seen}
 use Rattle.ext_step.specs.declared.intent.Intent.TheVariants.{Answers, Refuses}
-use Rattle.ext_top.specs.Applying.{AppliesEnds, AppliesTold, ApplyCause, IsApplied, IsDamage, IsShownReply, RestCause, of_plan, of_shelf}
-use Rattle.ext_top.specs.Machine.{Comes, Counts, Outcome, bytes_at, checked_text, gives, refuses, shows, state_after, trees_in}
+use Rattle.ext_top.specs.Applying.{AppliesEnds, AppliesTold, ApplyCause, IsApplied, IsDamage, RestCause, of_shelf}
+use Rattle.ext_top.specs.Machine.{Comes, Counts, Outcome, bytes_at, checked_text, gives, refuses, shows, state_after}
 use Rattle.ext_top.specs.declared.applied.Applied.{Applied}
 use Rattle.ext_top.specs.declared.applied.Reply.TheVariants.{Text, File, Refused}
 use Rattle.ext_top.specs.declared.apply_err.ApplyErr.{ApplyErr}

@@ -1,26 +1,21 @@
 -- A host is put in place of the one that the store has: what the preparation and the switch leave together.
-use Rattle.std.proofs.Common.{◌≡◌, ◌≢◌, ℕ, zero, suc, ◌+◌, ◌<◌, ◌≤◌, Bool, true, false, List, [], ◌∷◌, ◌++◌, ◌⊎◌, inl, inr, Option, Some, None, IfSome, Result, Ok, Err, refl, sym, ap, ◌∙◌, subst, arith}
+use Rattle.std.proofs.Common.{◌≡◌, ℕ, suc, ◌+◌, ◌<◌, false, List, [], ◌∷◌, ◌++◌, inl, inr, Option, Some, None, IfSome, Result, Ok, Err, refl, sym, ap, ◌∙◌, subst, arith}
 use Rattle.std.specs.Prelude.{Contains}
 use Rattle.std.specs.List.{AllByRecursion}
-use Rattle.ext_text.specs.declared.which.Which.{Which}
 use Rattle.ext_tree.specs.Tree.{Entries}
-use Rattle.ext_tree.specs.declared.stamp.Stamp.{Stamp}
 use Rattle.ext_io.specs.declared.failed.Failed.{Failed}
 use Rattle.ext_depot.specs.Depot.{DepotState}
-use Rattle.ext_disk.specs.Disk.{Places, Told, DiskState, BothTold, IsDisk, now}
+use Rattle.ext_disk.specs.Disk.{Places, Told, DiskState, BothTold, now}
 use Rattle.ext_disk.specs.Since.{IsLater}
 use Rattle.ext_host.specs.Drawn.{AreDrawnFrom, IsFileOf, trees_of}
 use Rattle.ext_host.specs.Held.{HeldFile}
 use Rattle.ext_host.specs.declared.body.Body.{Body}
 use Rattle.ext_host.specs.declared.body.Body.TheVariants.{Here, Kept, Depot}
-use Rattle.ext_host.specs.declared.home.Home.{Home}
 use Rattle.ext_host.specs.declared.host.Host.{Host}
 use Rattle.ext_host.specs.declared.past.Past.{Past}
-use Rattle.ext_store.specs.Copying.{IsMissing, IsReadStamp}
 use Rattle.ext_store.specs.Removal.{MoreThan}
 use Rattle.ext_homes.specs.Brought.{is_brought}
 use Rattle.ext_homes.specs.Giving.{lists_kept, stored_by, trees_before}
-use Rattle.ext_homes.specs.Placed.{IsHostPlaced}
 use Rattle.ext_homes.specs.Refused.{StopsAt}
 use Rattle.ext_index.specs.ValidIndex.{IsKeptUpTo}
 use Rattle.ext_gen.specs.Opened.{Generation, IsOpened}
@@ -28,15 +23,14 @@ use Rattle.ext_gen.specs.Committing.{CommitEnds, CommitsTold, IsOneOf, IsPrepare
 use Rattle.ext_gen.specs.Preparing.{AreBefore, BringNone, LimitSays, PrepareCause, Prepares, PreparesTold, coming_number, contents_after, host_before, is_left, limit_of, trees_of_pasts}
 use Rattle.ext_gen.specs.PreparingPaths.{Cleans, CleansSays}
 use Rattle.ext_gen.specs.Store.{State, at, Stands, generation_in}
-use Rattle.ext_gen.specs.Sound.{IsEither, IsFirmly, KeepsFirmly, StandsSince}
+use Rattle.ext_gen.specs.Sound.{IsFirmly, KeepsFirmly}
 use Rattle.ext_gen.specs.declared.errors.StoreErr.{StoreErr}
 use Rattle.ext_gen.specs.declared.errors.StoreErr.TheVariants as store_errors
 use Rattle.ext_gen.proofs.ForCallers.{opened_is_valid_for, stands_since_then, stands_since_wider}
 use Rattle.ext_cmd.specs.declared.refusal.Refusal.{Refusal}
-use Rattle.ext_cmd.specs.declared.refusal.Refusal.TheVariants as refusals
-use Rattle.ext_step.specs.Intents.{IsPlanned, past_seen, trees_seen}
-use Rattle.ext_top.specs.Applying.{Applies, AppliesEnds, AppliesTold, ApplyCause, IsCrowded, IsDamage, IsOfPreparing, IsPassed, refusal_from}
-use Rattle.ext_top.specs.Machine.{IsMismatch, IsNext, IsNotThere, Outcome, Replaces, RefusesNext, StopsFor, gives, refuses, state_after, stored_in}
+use Rattle.ext_step.specs.Intents.{IsPlanned, past_seen}
+use Rattle.ext_top.specs.Applying.{AppliesEnds, AppliesTold, ApplyCause, IsOfPreparing, IsPassed, refusal_from}
+use Rattle.ext_top.specs.Machine.{IsMismatch, IsNext, IsNotThere, Outcome, Replaces, RefusesNext, gives, refuses, state_after, stored_in}
 use Rattle.ext_top.specs.declared.applied.Applied.{Applied}
 use Rattle.ext_top.specs.declared.applied.Reply.TheVariants.{Text, Refused}
 use Rattle.ext_top.specs.declared.apply_err.ApplyErr.{ApplyErr}

@@ -1,36 +1,31 @@
 -- A run over a store: it is opened, and then its line runs.
-use Rattle.std.proofs.Common.{◌≡◌, ◌≢◌, ℕ, zero, suc, ◌+◌, ◌<◌, ◌≤◌, Bool, true, false, List, [], ◌∷◌, ◌++◌, length, ◌⊎◌, inl, inr, Option, Some, None, is_some, IfSome, Result, Ok, Err, refl, sym, ap, ◌∙◌, subst, arith, append-nil}
-use Rattle.std.specs.Io.KnownBytes.{Appends}
+use Rattle.std.proofs.Common.{◌≡◌, ℕ, ◌≤◌, Bool, false, List, [], ◌∷◌, ◌⊎◌, inl, inr, Option, Some, None, is_some, IfSome, Result, Ok, Err, refl, sym, ap, ◌∙◌, subst, arith, append-nil}
 use Rattle.ext_text.specs.Causes.{Rose}
 use Rattle.ext_io.specs.SinkState.{SinkState}
 use Rattle.ext_tree.specs.declared.stamp.Stamp.{Stamp}
-use Rattle.ext_depot.specs.Depot.{DepotState, IsKept}
+use Rattle.ext_depot.specs.Depot.{DepotState}
 use Rattle.ext_disk.specs.Disk.{Places, Told, DiskState, BothTold, now}
 use Rattle.ext_disk.specs.Since.{IsLater}
 use Rattle.ext_host.specs.Shelf.{IsFound}
 use Rattle.ext_host.specs.declared.home.Home.{Home}
 use Rattle.ext_store.specs.HeldFiles.{node_told, told_at}
 use Rattle.ext_store.specs.Names.{home_path}
-use Rattle.ext_store.specs.Removal.{AllStand, MoreThan, Stand}
-use Rattle.ext_store.specs.Writing.{WorksTold, nowhere}
-use Rattle.ext_homes.specs.Giving.{lists_kept, trees_before}
-use Rattle.ext_gen.specs.Broken.{IsBroken}
+use Rattle.ext_store.specs.Removal.{AllStand, MoreThan}
 use Rattle.ext_gen.specs.Opened.{Generation}
-use Rattle.ext_gen.specs.Opening.{KeepsNow, OpenCause, OpenEnds, OpenSays, OpensSound, OpensTold}
-use Rattle.ext_gen.specs.Preparing.{host_before, is_left}
-use Rattle.ext_gen.specs.Store.{State, Points, Stands, generation_in}
-use Rattle.ext_gen.specs.Sound.{IsEither, IsFirmly, IsMember, IsSound, StandsSince}
+use Rattle.ext_gen.specs.Opening.{KeepsNow, OpenCause, OpenSays, OpensTold}
+use Rattle.ext_gen.specs.Preparing.{is_left}
+use Rattle.ext_gen.specs.Store.{State, Points, Stands}
+use Rattle.ext_gen.specs.Sound.{IsFirmly, IsMember, IsSound}
 use Rattle.ext_gen.specs.declared.errors.StoreErr.{StoreErr}
 use Rattle.ext_gen.specs.declared.errors.StoreErr.TheVariants as store_errors
 use Rattle.ext_gen.proofs.ForCallers.{either_is_sound, firmly_is_sound, sound_is_not_broken, stands_since_then, stands_since_wider}
-use Rattle.ext_cmd.specs.declared.command.Command.{Command}
 use Rattle.ext_cmd.specs.declared.refusal.Refusal.{Refusal}
 use Rattle.ext_top.specs.Alone.{status_of_refusal}
-use Rattle.ext_top.specs.Applying.{IsCrowded, IsDamage, PointsAs}
-use Rattle.ext_top.specs.Exits.{Ends, IsOnTheWay, Line, Standing, StandsAs, between, does, firm}
-use Rattle.ext_top.specs.Lines.{LineCause, LineDone, LineEnds, LineRuns, LineStops, LineTold}
-use Rattle.ext_top.specs.Machine.{Outcome, refusal_of, reply_of, state_after}
-use Rattle.ext_top.specs.Running.{IsClosed, IsCrowdedNow, IsDamagedNow, IsOfOpening, OpenedCause, RunsClosed, RunsFrom, RunsOpened, RunsSound, RunsStore, RunsTold, StoreCause, StoreSide, status_of, status_of_closed, status_of_stop, store_side}
+use Rattle.ext_top.specs.Applying.{IsDamage, PointsAs}
+use Rattle.ext_top.specs.Exits.{IsOnTheWay, Line, Standing, StandsAs, between, firm}
+use Rattle.ext_top.specs.Lines.{LineCause, LineRuns, LineTold}
+use Rattle.ext_top.specs.Machine.{reply_of, state_after}
+use Rattle.ext_top.specs.Running.{IsClosed, IsCrowdedNow, IsDamagedNow, IsOfOpening, OpenedCause, RunsFrom, RunsSound, RunsTold, StoreCause, StoreSide, status_of, status_of_closed, status_of_stop, store_side}
 use Rattle.ext_top.specs.declared.bad_store.BadStore.TheVariants as bad
 use Rattle.ext_top.specs.declared.lines.Written.{Written}
 use Rattle.ext_top.specs.declared.status.Status.{Status}

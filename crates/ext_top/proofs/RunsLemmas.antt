@@ -1,5 +1,5 @@
 -- How a run ends: a command that looks at no store writes what it says; and the words are a command, which ran so.
-use Rattle.std.proofs.Common.{◌≡◌, ◌≤◌, ◌+◌, ℕ, Bool, true, false, List, [], length, inl, inr, Option, Some, None, refl, sym, ap, ◌∙◌, subst, arith}
+use Rattle.std.proofs.Common.{◌≡◌, ◌≤◌, ◌+◌, ℕ, Bool, true, false, List, inl, inr, Option, Some, None, refl, sym, subst, arith}
 use Rattle.std.specs.Prelude.{reverse}
 use Rattle.std.specs.Io.KnownBytes.{Appends}
 use Rattle.ext_io.specs.SourceState.{SourceState}
@@ -17,9 +17,9 @@ use Rattle.ext_step.specs.Step.{is_of_store}
 use Rattle.ext_step.specs.declared.intent.Intent.{Intent}
 use Rattle.ext_step.specs.declared.intent.Intent.TheVariants.{Answers, Refuses}
 use Rattle.ext_gen.specs.Store.{none}
-use Rattle.ext_top.specs.Alone.{AloneWants, ComesAlone, IsAlone, reads_source, status_of_refusal}
+use Rattle.ext_top.specs.Alone.{AloneWants, IsAlone, reads_source, status_of_refusal}
 use Rattle.ext_top.specs.Machine.{Outcome, gives, refuses, refusal_of, reply_of}
-use Rattle.ext_top.specs.Running.{CameTo, Devices, EndsAlone, Runs, RunsCommand, RunsKind, TakesAll, TakesSome, WritesIntent, WritesLast, WritesOutcome, most_source, streams}
+use Rattle.ext_top.specs.Running.{CameTo, Devices, EndsAlone, Runs, RunsKind, TakesAll, TakesSome, WritesIntent, WritesLast, WritesOutcome, most_source, streams}
 use Rattle.ext_top.specs.declared.status.Status.{Status}
 use Rattle.ext_top.specs.declared.status.Status.TheVariants.{Done, Refused, Usage, ReadFault, WriteFault, DiskFault, DepotFault, OutOfMemory, BadStore, Unfinished, TooLong}
 

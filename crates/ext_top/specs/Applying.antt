@@ -1,5 +1,5 @@
 -- What carrying out a command leaves: of a store that firmly stands for a state, the one that the machine gives.
-use Rattle.std.specs.Prelude.{◌≡◌, ℕ, ◌==◌, true, ◌⊎◌, List, Option, Some, None, IfSome, Result, Ok, Err}
+use Rattle.std.specs.Prelude.{◌≡◌, ◌==◌, true, ◌⊎◌, Option, Some, None, IfSome, Result, Ok, Err}
 use Rattle.std.specs.List.{AllByRecursion}
 use Rattle.ext_text.specs.Causes.{Rose}
 use Rattle.ext_tree.specs.declared.stamp.Stamp.{Stamp}

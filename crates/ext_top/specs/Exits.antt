@@ -1,7 +1,7 @@
 -- How a run over a store ends, by the machine: a run of a list of lines, of which one command is a list of one. It goes on
 -- from line to line while each is done or refused; where a line stops it, the table below says, for each reason, for which
 -- state the store stands then and which part of the line's reply was written. No command is named here.
-use Rattle.std.specs.Prelude.{◌≡◌, ℕ, ◌<◌, ◌⊎◌, List, [], ◌∷◌, ◌++◌, length, codes, decimal, Option, Some, None, Result, Ok, Err}
+use Rattle.std.specs.Prelude.{◌≡◌, ℕ, ◌<◌, ◌⊎◌, List, [], ◌∷◌, ◌++◌, length, codes, decimal, Option, Result, Ok, Err}
 use Rattle.ext_disk.specs.Disk.{Places}
 use Rattle.ext_depot.specs.Depot.{DepotState}
 use Rattle.ext_gen.specs.Store.{State}
@@ -9,7 +9,7 @@ use Rattle.ext_gen.specs.Sound.{IsEither, IsFirmly}
 use Rattle.ext_cmd.specs.Replies.{lined}
 use Rattle.ext_cmd.specs.declared.command.Command.{Command}
 use Rattle.ext_cmd.specs.declared.refusal.Refusal.{Refusal}
-use Rattle.ext_top.specs.Machine.{Outcome, gives, shows, refuses, Step, refusal_of, reply_of, state_after}
+use Rattle.ext_top.specs.Machine.{Outcome, gives, shows, Step, refusal_of, reply_of, state_after}
 use Rattle.ext_top.specs.declared.stop.Stop.{Stop}
 use Rattle.ext_top.specs.declared.stop.Stop.TheVariants.{WriteFault, DiskFault, DepotFault, OutOfMemory, BadStore, Unfinished}
 

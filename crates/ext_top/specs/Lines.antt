@@ -1,5 +1,5 @@
 -- One line of a run, done or stopped.
-use Rattle.std.specs.Prelude.{◌≡◌, ℕ, ◌⊎◌, List, [], ◌∷◌, Option, IfSome, Result, Ok, Err}
+use Rattle.std.specs.Prelude.{◌≡◌, ℕ, List, [], ◌∷◌, Option, Result, Ok, Err}
 use Rattle.std.specs.Io.KnownBytes.{Appends}
 use Rattle.ext_text.specs.Causes.{Rose}
 use Rattle.ext_io.specs.SinkState.{SinkState}

@@ -8,7 +8,6 @@ use Rattle.ext_host.specs.Held.{HeldFile}
 use Rattle.ext_host.specs.Shelf.{stored}
 use Rattle.ext_host.specs.declared.body.Body.{Body}
 use Rattle.ext_host.specs.declared.body.Body.TheVariants.{Here, Kept, Depot}
-use Rattle.ext_host.specs.declared.home.Home.{Home}
 use Rattle.ext_host.specs.declared.host.Host.{Host}
 use Rattle.ext_store.specs.Copying.{IsMissing, IsReadStamp}
 use Rattle.ext_homes.specs.Giving.{lists_kept, trees_before}

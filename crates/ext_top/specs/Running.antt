@@ -7,7 +7,7 @@ use Rattle.ext_io.specs.SourceState.{SourceState}
 use Rattle.ext_io.specs.SinkState.{SinkState}
 use Rattle.ext_io.specs.Whole.{ReadsAll, Took, AppendsProperPrefix}
 use Rattle.ext_tree.specs.declared.stamp.Stamp.{Stamp}
-use Rattle.ext_disk.specs.Disk.{DiskState, Places, Told, BothTold, now}
+use Rattle.ext_disk.specs.Disk.{DiskState, Told, BothTold, now}
 use Rattle.ext_disk.specs.Since.{Follows}
 use Rattle.ext_depot.specs.Depot.{DepotState, IsKept}
 use Rattle.ext_host.specs.Shelf.{IsFound}

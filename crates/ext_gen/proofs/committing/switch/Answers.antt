@@ -2,7 +2,7 @@ use Rattle.std.proofs.Common.{false, true, sym, subst}
 use Rattle.std.proofs.lemmas.Result.{err_from_is_err_and}
 use Rattle.ext_disk.specs.Disk.{BothTold}
 use Rattle.ext_gen.specs.Committing.{CommitsTold}
-use Rattle.ext_gen.proofs.CommittingLemmas.{may_rename, now_after_both, now_after_rename, points_after_both, renames, stops_after_both, stops_after_rename}
+use Rattle.ext_gen.proofs.CommittingLemmas.{may_rename, points_after_both, renames, stops_after_both, stops_after_rename}
 use Rattle.ext_gen.proofs.committing.switch.Goals as goal
 
 pub rename-requires : goal.rename-requires

@@ -1,4 +1,4 @@
-use Rattle.std.proofs.Common.{◌≡◌, ◌+◌, ◌≤◌, false, ◌++◌, length, IfSome, Err, refl, sym, ap, ◌∙◌, subst, arith}
+use Rattle.std.proofs.Common.{◌≡◌, ◌+◌, false, ◌++◌, length, Err, refl, sym, ap, ◌∙◌, subst, arith}
 use Rattle.std.proofs.lemmas.Result.{err_from_is_err_and}
 use Rattle.std.specs.Option.{option_copied}
 use Rattle.ext_host.specs.Host.{present}
@@ -9,7 +9,7 @@ use Rattle.ext_homes.specs.Brought.{brought, bytes_of_all}
 use Rattle.ext_homes.specs.Giving.{AreHomesBefore, stored_by, trees_before}
 use Rattle.ext_homes.proofs.ForCallers.{limits_small}
 use Rattle.ext_store.specs.Writing.{Holds}
-use Rattle.ext_gen.specs.Preparing.{coming_number, host_before, is_left, is_needed, most_bytes_of, most_files}
+use Rattle.ext_gen.specs.Preparing.{host_before, is_left, is_needed, most_bytes_of, most_files}
 use Rattle.ext_gen.specs.PreparingIndex.{coming_index}
 use Rattle.ext_gen.specs.PreparingCauses.{FillCause}
 use Rattle.ext_gen.specs.PreparingPaths.{Changes, Cleans}

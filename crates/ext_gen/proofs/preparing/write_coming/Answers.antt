@@ -1,9 +1,8 @@
-use Rattle.std.proofs.Common.{◌≡◌, ◌++◌, Err, sym, ap, ◌∙◌, subst}
+use Rattle.std.proofs.Common.{◌++◌, Err, sym, ap, ◌∙◌, subst}
 use Rattle.std.proofs.lemmas.Result.{err_from_is_err_and}
 use Rattle.std.specs.Option.{option_copied}
 use Rattle.ext_host.specs.declared.host.Host.{Host}
 use Rattle.ext_homes.specs.Giving.{stored_by}
-use Rattle.ext_gen.specs.Opened.{Generation}
 use Rattle.ext_gen.specs.Preparing.{AreBefore, coming_number, host_before, is_left, is_needed, limit_of, most_bytes_of, most_files}
 use Rattle.ext_gen.specs.PreparingPaths.{Changes}
 use Rattle.ext_gen.proofs.PreparingAnswersLemmas.{limit_cause, limit_cleans, limit_says, no_limit, prepare_cause, prepared_cause, prepared_completed, prepared_limit}

@@ -1,4 +1,4 @@
-use Rattle.std.proofs.Common.{Ok, Err, true, false}
+use Rattle.std.proofs.Common.{Ok, Err}
 use Rattle.ext_top.specs.Exits.{does}
 use Rattle.ext_top.specs.Running.{store_side}
 use Rattle.ext_top.proofs.RunLemmas.{line_is_run, no_cause, stop_cause}

@@ -1,4 +1,4 @@
-use Rattle.std.proofs.Common.{◌||◌, take, sym, ap, ◌∙◌}
+use Rattle.std.proofs.Common.{◌||◌, sym, ap, ◌∙◌}
 use Rattle.std.specs.List.{list_any}
 use Rattle.std.proofs.lemmas.List.{take_all}
 use Rattle.ext_store.specs.LeftOvers.{is_spared}
