@@ -1,5 +1,5 @@
 -- What reading the lines of an index gives.
-use Rattle.std.specs.Prelude.{◌≡◌, ◌≢◌, ℕ, ◌+◌, List, [], ◌++◌, length, Option, Some, None, Result, Ok, Err}
+use Rattle.std.specs.Prelude.{◌≡◌, ◌≢◌, ℕ, ◌+◌, Bool, true, false, List, [], ◌++◌, length, Option, Some, None, Result, Ok, Err}
 use Rattle.std.specs.List.{AllByRecursion}
 use Rattle.ext_lines.specs.Lines.{lines_text}
 use Rattle.ext_lines.specs.Split.{IsSplit, Lacks}
@@ -16,6 +16,11 @@ use Rattle.ext_reading.specs.declared.state.Stage.TheVariants as stages
 abbrev pub Takes : ℕ → Reading → List ℕ → Option Reading → Type 0
 Takes g r line None = (t : Reading) → ¬ Steps g r line t
 Takes g r line (Some t) = Steps g r line t
+
+-- the same of a reading that a line changes
+abbrev pub Reads : ℕ → Reading → Reading → List ℕ → Bool → Type 0
+Reads g r t line false = Takes g r line None
+Reads g r t line true = Takes g r line (Some t)
 
 -- the bytes are lines that may stand one after another from the start on, and a rest; the next line has this number
 pub record IsRead (g : ℕ) (bytes rest : List ℕ) (line : ℕ) (reading : Reading) : Type 0 where

@@ -106,6 +106,26 @@ abbrev pub CountsEntry : SoFar → SoFar → Entry Homed → Bool → Type 0
 CountsEntry s t e true = Agrees s.homes e × (t ≡ counted s e)
 CountsEntry s t e false = ¬ Agrees s.homes e
 
+-- an entry may follow what is seen, or what lies under it
+pub record MayRoot (g : ℕ) (s : SoFar) (x : List (List ℕ) × Entry Homed) : Type 0 where
+  pub enters : MayEnter g s x.1
+  pub tree : IsTree (s.parts.root ++ row_of x ∷ [])
+
+pub record MayLower (g : ℕ) (s : SoFar) (x : List (List ℕ) × Entry Homed) : Type 0 where
+  pub enters : MayEnter g s x.1
+  pub tree : IsTree (s.parts.lower ++ row_of x ∷ [])
+  pub inside : IsTrue (is_in (merged_so_far s) x.0)
+
+-- the entry of a line was added to what is seen, or the line has none that may follow there
+abbrev pub AddsRoot : ℕ → SoFar → SoFar → List ℕ → Bool → Type 0
+AddsRoot g s t line false = (x : List (List ℕ) × Entry Homed) → HasHomedLine x → line ≡ homed_line x → ¬ MayRoot g s x
+AddsRoot g s t line true = (x : List (List ℕ) × Entry Homed) × HasHomedLine x × MayRoot g s x × (line ≡ homed_line x) × (t ≡ with_root s x)
+
+-- and to what lies under it
+abbrev pub AddsLower : ℕ → SoFar → SoFar → List ℕ → Bool → Type 0
+AddsLower g s t line false = (x : List (List ℕ) × Entry Homed) → HasHomedLine x → line ≡ homed_line x → ¬ MayLower g s x
+AddsLower g s t line true = (x : List (List ℕ) × Entry Homed) × HasHomedLine x × MayLower g s x × (line ≡ homed_line x) × (t ≡ with_lower s x)
+
 -- ---- merged names
 
 -- the merged names with that of a line, or that the line has none which may follow them

@@ -6,7 +6,7 @@ ghost use Rattle.ext_reading.specs.State.{host_of};
 use crate::err::IndexErr;
 use crate::said::Said;
 use crate::state::{Reading, SoFar, Stage, start};
-use crate::step::step;
+use crate::step::read_line;
 use ext_host::Host;
 use ext_lines::split_line;
 use std::alloc::Global;
@@ -26,14 +26,13 @@ pub fn read_lines(alloc: Global, bytes: &[u8], generation: u32) -> Result<Said, 
     'lines: loop {
         match split_line(rest) {
             None => return finished(reading, rest, line),
-            Some((text, after)) => match step(alloc, generation, reading, text)? {
-                None => return Err(IndexErr::Broken { line }),
-                Some(next) => {
-                    reading = next;
-                    rest = after;
-                    line += 1;
+            Some((text, after)) => {
+                if !read_line(alloc, generation, &mut reading, text)? {
+                    return Err(IndexErr::Broken { line });
                 }
-            },
+                rest = after;
+                line += 1;
+            }
         }
     }
 }

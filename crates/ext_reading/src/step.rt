@@ -1,6 +1,6 @@
 // What is read after a line.
 ghost use Rattle.std.specs.Prelude.{◌≡◌, IfOk};
-ghost use Rattle.ext_reading.specs.Reading.{Takes};
+ghost use Rattle.ext_reading.specs.Reading.{Reads, Takes};
 ghost use Rattle.ext_reading.specs.State.{at_part};
 
 use crate::attachment_lines::{added_line, attachment_line, image_line, kept_line, place_line};
@@ -10,13 +10,64 @@ use crate::merged_lines::{
     attached_line, confext_line, confext_name_line, sysext_line, sysext_name_line,
 };
 use crate::past_lines::{end_line, generation_line, past_line};
-use crate::state::{PartStage, Reading, SoFar, Stage};
-use crate::tree_lines::{lower_entry_line, lower_line, root_entry_line};
+use crate::state::{PartStage, Reading, SoFar, Stage, start};
+use crate::tree_lines::{add_lower, add_root, lower_entry_line, lower_line, root_entry_line};
 use ext_lines::OutOfMemory;
 use std::alloc::Global;
+use std::mem;
 
-/// What is read after a line; `None` where it may not stand next.
-pub(crate) fn step(
+/// Reads a line; says whether it may stand next. Where it may not, or there was no memory, what was read is of no use.
+///
+/// Most lines are those of entries behind which others follow: such an entry is added where it is, and what was read stays
+/// there.
+pub(crate) fn read_line(
+    alloc: Global,
+    generation: u32,
+    reading: &mut Reading,
+    line: &[u8],
+) -> Result<bool, OutOfMemory>
+    ensures { IfOk result (Reads generation reading.old reading.new line.now) }
+{
+    match reading.stage {
+        Stage::Part(PartStage::RootEntry { more }) => {
+            if more == 0 {
+                return read_last(alloc, generation, reading, line);
+            }
+            reading.stage = Stage::Part(PartStage::RootEntry { more: more - 1 });
+            add_root(alloc, generation, &mut reading.so_far, line)
+        }
+        Stage::Part(PartStage::LowerEntry { more }) => {
+            if more == 0 {
+                return read_last(alloc, generation, reading, line);
+            }
+            reading.stage = Stage::Part(PartStage::LowerEntry { more: more - 1 });
+            add_lower(alloc, generation, &mut reading.so_far, line)
+        }
+        _ => read_last(alloc, generation, reading, line),
+    }
+}
+
+// Reads a line behind which another stage may begin.
+fn read_last(
+    alloc: Global,
+    generation: u32,
+    reading: &mut Reading,
+    line: &[u8],
+) -> Result<bool, OutOfMemory>
+    ensures { IfOk result (Reads generation reading.old reading.new line.now) }
+{
+    let before = mem::replace(reading, start(alloc));
+    match step(alloc, generation, before, line)? {
+        None => Ok(false),
+        Some(next) => {
+            *reading = next;
+            Ok(true)
+        }
+    }
+}
+
+// What is read after a line; `None` where it may not stand next.
+fn step(
     alloc: Global,
     generation: u32,
     reading: Reading,

@@ -7,6 +7,7 @@ ghost use Rattle.ext_host.specs.Held.{HeldFile};
 ghost use Rattle.ext_host.specs.Host.{is_in, where_merged};
 ghost use Rattle.ext_reading.specs.Reading.{Takes};
 ghost use Rattle.ext_reading.specs.State.{at_part, merged_so_far};
+ghost use Rattle.ext_reading.specs.Step.{AddsLower, AddsRoot};
 ghost use Rattle.ext_reading.specs.declared.state.PartStage.TheVariants as parts;
 
 use crate::entry_lines::entered;
@@ -16,6 +17,28 @@ use ext_lines::OutOfMemory;
 use ext_record::{MOST_COUNT, number_after};
 use ext_text::{Name, Names, Path};
 use std::alloc::Global;
+
+/// Adds the entry of a line to what is seen; says whether it may stand there. Where it may not, or there was no memory, what was
+/// read is of no use.
+pub(crate) fn add_root(
+    alloc: Global,
+    generation: u32,
+    so_far: &mut SoFar,
+    line: &[u8],
+) -> Result<bool, OutOfMemory>
+    ensures { IfOk result (AddsRoot generation so_far.old so_far.new line.now) }
+{
+    match entered(alloc, generation, so_far, line)? {
+        None => Ok(false),
+        Some((path, entry)) => {
+            if !so_far.parts.root.may_follow(&path) {
+                return Ok(false);
+            }
+            so_far.parts.root.push(path, entry)?;
+            Ok(true)
+        }
+    }
+}
 
 /// After the line of an entry that is seen.
 pub(crate) fn root_entry_line(
@@ -27,16 +50,10 @@ pub(crate) fn root_entry_line(
 ) -> Result<Option<Reading>, OutOfMemory>
     ensures { IfOk result (Takes generation (at_part so_far (parts.RootEntry more)) line.now) }
 {
-    match entered(alloc, generation, &mut so_far, line)? {
-        None => Ok(None),
-        Some((path, entry)) => {
-            if !so_far.parts.root.may_follow(&path) {
-                return Ok(None);
-            }
-            so_far.parts.root.push(path, entry)?;
-            Ok(Some(then_root(so_far, more)))
-        }
+    if !add_root(alloc, generation, &mut so_far, line)? {
+        return Ok(None);
     }
+    Ok(Some(then_root(so_far, more)))
 }
 
 /// After the line that tells how many entries lie under them.
@@ -53,7 +70,29 @@ pub(crate) fn lower_line(
     }
 }
 
-/// After the line of an entry that lies under them, in a hierarchy of a merged class.
+/// Adds the entry of a line to what lies under them, in a hierarchy of a merged class; says whether it may stand there. Where it
+/// may not, or there was no memory, what was read is of no use.
+pub(crate) fn add_lower(
+    alloc: Global,
+    generation: u32,
+    so_far: &mut SoFar,
+    line: &[u8],
+) -> Result<bool, OutOfMemory>
+    ensures { IfOk result (AddsLower generation so_far.old so_far.new line.now) }
+{
+    match entered(alloc, generation, so_far, line)? {
+        None => Ok(false),
+        Some((path, entry)) => {
+            if !may_lie_under(so_far, &path) {
+                return Ok(false);
+            }
+            so_far.parts.lower.push(path, entry)?;
+            Ok(true)
+        }
+    }
+}
+
+/// After the line of an entry that lies under them.
 pub(crate) fn lower_entry_line(
     alloc: Global,
     generation: u32,
@@ -63,16 +102,10 @@ pub(crate) fn lower_entry_line(
 ) -> Result<Option<Reading>, OutOfMemory>
     ensures { IfOk result (Takes generation (at_part so_far (parts.LowerEntry more)) line.now) }
 {
-    match entered(alloc, generation, &mut so_far, line)? {
-        None => Ok(None),
-        Some((path, entry)) => {
-            if !may_lie_under(&so_far, &path) {
-                return Ok(None);
-            }
-            so_far.parts.lower.push(path, entry)?;
-            Ok(Some(then_lower(alloc, so_far, more)?))
-        }
+    if !add_lower(alloc, generation, &mut so_far, line)? {
+        return Ok(None);
     }
+    Ok(Some(then_lower(alloc, so_far, more)?))
 }
 
 // Whether an entry at this path may follow what lies under the view.

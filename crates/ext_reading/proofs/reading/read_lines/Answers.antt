@@ -8,14 +8,15 @@ lines-init c = record { read = read_start c.args.generation c.args.bytes.now c.s
 pub returns-in-None : goal.returns-in-None
 returns-in-None c = read_end c.args.generation c.args.bytes.now c.lines.rest.now c.lines.line c.lines.reading c.finished.result c.lines.invariant.read c.in-None.ensures c.finished.ensures
 
-pub returns-in-None-2 : goal.returns-in-None-2
-returns-in-None-2 c =
-    stop_at c.args.generation c.args.bytes.now c.lines.rest.now c.lines.line c.lines.reading c.in-Some.text.now c.in-Some.after.now c.lines.invariant.read c.in-Some.ensures (rw c.in-None-2.is at c.in_ok-step-in-Some.ensures)
+pub returns-then-not-branch : goal.returns-then-not-branch
+returns-then-not-branch c =
+    let none = rw c.if-not-branch.true at c.in_ok-read_line-in-Some.ensures in
+    stop_at c.args.generation c.args.bytes.now c.lines.rest.now c.lines.line c.lines.reading c.in-Some.text.now c.in-Some.after.now c.lines.invariant.read c.in-Some.ensures none
 
 pub lines-preserved : goal.lines-preserved
 lines-preserved c =
-    let found = rw c.in-Some-2.is at c.in_ok-step-in-Some.ensures in
+    let found = rw c.if-not-branch.false at c.in_ok-read_line-in-Some.ensures in
     record {
-      read = read_more c.args.generation c.args.bytes.now c.lines.rest.now c.lines.line c.lines.reading c.in-Some-2.next c.in-Some.text.now c.in-Some.after.now c.lines.invariant.read c.in-Some.ensures found;
+      read = read_more c.args.generation c.args.bytes.now c.lines.rest.now c.lines.line c.lines.reading c.read_line.new.reading c.in-Some.text.now c.in-Some.after.now c.lines.invariant.read c.in-Some.ensures found;
       room = omega (arith, c.lines.invariant.room, split_short c.lines.rest.now c.in-Some.text.now c.in-Some.after.now c.in-Some.ensures);
     }
