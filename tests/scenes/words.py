@@ -125,7 +125,8 @@ def of_tables(program):
 def help_shows_each_command(program):
     written, told, status = run(program, [b"--help"])
     expect((b"", told, status), (b"", b"", 0))
-    for said in (b"usage: hostext STORE DEPOT COMMAND ..\n", b"\n  compare TEXT TEXT ", b"\n  layer "):
+    commands = "init import-fs remove sysext confext tree cat check migrate compare layer".split()
+    for said in (b"usage: hostext STORE DEPOT COMMAND ..\n", *(f"\n  {word}".encode() for word in commands)):
         if said not in written:
             raise Failed(f"{said!r} isn't in {written!r}")
 

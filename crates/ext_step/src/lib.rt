@@ -18,8 +18,6 @@ mod migrate;
 mod plan_err;
 mod remove;
 mod steps;
-#[cfg(test)]
-mod tests;
 mod tree;
 mod view_items;
 mod views;

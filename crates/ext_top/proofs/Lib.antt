@@ -2,6 +2,7 @@ pub mod PlacedLemmas
 pub mod StoredLemmas
 pub mod ApplyingLemmas
 pub mod ReplacingLemmas
+pub mod WorkingLemmas
 pub mod CheckLemmas
 pub mod ReadingLemmas
 pub mod LineLemmas
@@ -10,5 +11,6 @@ pub mod PiecesLemmas
 pub mod RunLemmas
 pub mod AloneLemmas
 pub mod RunsLemmas
+pub mod RunsWorkLemmas
 pub mod CompletingLemmas
 pub mod SeenLemmas

@@ -1,9 +1,6 @@
 -- What a command sees of a store: what the disk tells of the files of its host is what a state has for which it stands.
-use Rattle.std.proofs.Common.{◌≡◌, ℕ, zero, suc, ◌==◌, ◌≤◌, true, List, inl, inr, Option, Some, None, IfSome, Result, Ok, Err, refl, sym, ap, subst, arith}
+use Rattle.std.proofs.Common.{◌≡◌, ℕ, zero, suc, ◌==◌, ◌≤◌, true, List, inl, inr, Option, Some, None, IfSome, Result, Err, refl, sym, ap, subst, arith}
 use Rattle.std.proofs.lemmas.Bool.{false≢true}
-use Rattle.std.specs.List.{AllByRecursion}
-use Rattle.std.specs.Prelude.{OnOk}
-use Rattle.ext_text.proofs.ForCallers.{all_weaker}
 use Rattle.ext_depot.specs.Depot.{DepotState}
 use Rattle.ext_disk.specs.Disk.{BothTold, DiskState, IsDisk, Told, now}
 use Rattle.ext_disk.specs.Since.{Rests}
@@ -22,7 +19,6 @@ use Rattle.ext_find.specs.HostRelease.{ShelfFault}
 use Rattle.ext_store.specs.HeldFiles.{IsListed, body_told, is_served, told_at}
 use Rattle.ext_store.specs.Names.{home_path}
 use Rattle.ext_store.specs.Removal.{MoreThan}
-use Rattle.ext_gen.specs.Checking.{IsAsListed, files_of_host}
 use Rattle.ext_gen.specs.Opened.{Generation, IsOpened}
 use Rattle.ext_gen.specs.Preparing.{is_left}
 use Rattle.ext_gen.specs.Store.{Points, State, none, at, Stands, generation_in}
@@ -33,12 +29,11 @@ use Rattle.ext_step.specs.Causes.{StepCause}
 use Rattle.ext_step.specs.Intents.{IsFit}
 use Rattle.ext_step.specs.Step.{TellAlike, Wants, WantsFirst, WantsOf}
 use Rattle.ext_step.specs.declared.intent.Intent.{Intent}
-use Rattle.ext_step.specs.declared.intent.Intent.TheVariants.{Changes, Answers, Checks, Shows, Refuses}
 use Rattle.ext_step.specs.declared.plan_err.PlanErr.{PlanErr}
 use Rattle.ext_step.specs.declared.plan_err.PlanErr.TheVariants as plan_errors
 use Rattle.ext_step.proofs.ForCallers.{wants_alike, wants_fit}
 use Rattle.ext_view.specs.Survey.{ServesHost}
-use Rattle.ext_top.specs.Applying.{AppliesEnds, AppliesTold, ApplyCause, HasChecked, IsChecked, IsPassed, IsShownReply, PointsAs, RestCause, SeeCause, of_plan, of_shelf, seen_on}
+use Rattle.ext_top.specs.Applying.{AppliesEnds, AppliesTold, ApplyCause, IsPassed, IsShownReply, PointsAs, RestCause, SeeCause, of_plan, of_shelf, seen_on}
 use Rattle.ext_top.specs.Machine.{Comes, Outcome, Step, bytes_at, seen_in}
 use Rattle.ext_top.specs.declared.applied.Applied.{Applied}
 use Rattle.ext_top.specs.declared.applied.Reply.{Reply}
@@ -170,17 +165,6 @@ shown_since from old mid new (File held) rests shown =
     (shown.0, shown.1, rests_then old mid new rests shown.2, subst (λ t. IsListed t held.stamp) (body_same old mid rests.told held.body) shown.3)
 shown_since from old mid new (Refused refusal) rests shown = tt
 
-listed_since : (old mid : DiskState) → mid.told ≡ old.told → (files : List HeldFile) → AllByRecursion (IsAsListed mid) files → AllByRecursion (IsAsListed old) files
-listed_since old mid same files all = all_weaker (IsAsListed mid) (IsAsListed old) (λ held is. subst (λ t. IsListed t held.stamp) (body_same old mid same held.body) is) files all
-
-pub checked_since : (intent : Intent) (from : Option Generation) (old mid : DiskState) → mid.told ≡ old.told → IsChecked intent from mid → IsChecked intent from old
-checked_since (Changes host answer) from old mid same checked = tt
-checked_since (Answers answer) from old mid same checked = tt
-checked_since Checks None old mid same checked = tt
-checked_since Checks (Some g) old mid same checked = listed_since old mid same (files_of_host g.host) checked
-checked_since (Shows held) from old mid same checked = tt
-checked_since (Refuses refusal) from old mid same checked = tt
-
 pub cause_mid : (from : Option Generation) (old mid new : DiskState) (before between after : DepotState) (error : ApplyErr) → Rests old mid → before.faults ≤ between.faults → ApplyCause from mid new between after error → ApplyCause from old new before after error
 cause_mid from old mid new before between after DiskFault rests le (inl more) = let low = rests.count in inl (omega arith)
 cause_mid from old mid new before between after DiskFault rests le (inr most) = inr most
@@ -215,9 +199,3 @@ step_wants g disk depot command intent host text same number wants = subst (λ h
 
 pub step_fits : (g : Generation) (disk : DiskState) (depot : DepotState) (command : Command) (intent : Intent) → IsOpened g → Wants (seen_on (Some g) disk) depot command intent → IsFit (Some g.host) intent
 step_fits g disk depot command intent opened wants = wants_fit (record { host = g.host; newest = g.text == 2; told = λ held. body_told disk held.body }) depot command intent (opened_is_valid g opened) wants
-
--- and what was checked then is as listed
-pub has_checked : (from : Option Generation) (old mid : DiskState) (depot : DepotState) (command : Command) (intent : Intent) (result : Result Applied ApplyErr) → mid.told ≡ old.told → Wants (seen_on from old) depot command intent
-    → OnOk result (IsChecked intent from mid) → OnOk result (HasChecked command from old depot)
-has_checked from old mid depot command intent (Ok applied) same wants checked = (intent, wants, checked_since intent from old mid same checked)
-has_checked from old mid depot command intent (Err error) same wants checked = tt

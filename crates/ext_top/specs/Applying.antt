@@ -1,6 +1,5 @@
 -- What carrying out a command leaves: of a store that firmly stands for a state, the one that the machine gives.
 use Rattle.std.specs.Prelude.{◌≡◌, ◌==◌, true, ◌⊎◌, Option, Some, None, IfSome, Result, Ok, Err}
-use Rattle.std.specs.List.{AllByRecursion}
 use Rattle.ext_text.specs.Causes.{Rose}
 use Rattle.ext_tree.specs.declared.stamp.Stamp.{Stamp}
 use Rattle.ext_disk.specs.Disk.{Places, Told, DiskState, now}
@@ -15,19 +14,14 @@ use Rattle.ext_gen.specs.Preparing.{host_before, is_left}
 use Rattle.ext_depot.specs.Depot.{DepotState}
 use Rattle.ext_store.specs.HeldFiles.{IsListed, body_told, is_served}
 use Rattle.ext_store.specs.Removal.{MoreThan}
-use Rattle.ext_gen.specs.Checking.{IsAsListed, files_of_host}
 use Rattle.ext_gen.specs.Opened.{Generation}
 use Rattle.ext_gen.specs.Store.{State, generation_in, Points}
 use Rattle.ext_gen.specs.Sound.{IsEither, IsFirmly, StandsSince}
 use Rattle.ext_gen.specs.declared.errors.StoreErr.{StoreErr}
 use Rattle.ext_gen.specs.declared.errors.StoreErr.TheVariants as store_errors
-use Rattle.ext_cmd.specs.declared.command.Command.{Command}
 use Rattle.ext_cmd.specs.declared.refusal.Refusal.{Refusal}
 use Rattle.ext_cmd.specs.declared.refusal.Refusal.TheVariants as refusals
 use Rattle.ext_step.specs.Intents.{Seen}
-use Rattle.ext_step.specs.Step.{Wants}
-use Rattle.ext_step.specs.declared.intent.Intent.{Intent}
-use Rattle.ext_step.specs.declared.intent.Intent.TheVariants.{Changes, Answers, Checks, Shows, Refuses}
 use Rattle.ext_step.specs.declared.plan_err.PlanErr.{PlanErr}
 use Rattle.ext_step.specs.declared.plan_err.PlanErr.TheVariants as plan_errors
 use Rattle.ext_top.specs.Machine.{Outcome, gives, shows, refuses, bytes_at, state_after, trees_in}
@@ -145,19 +139,6 @@ IsShownReply opened old new (Text text) = Unit {0}
 IsShownReply opened old new (File held) =
     (is_served held.body ≡ true) × IsFileOf (trees_before (host_before opened)) held × Rests old new × IsListed (body_told old held.body) held.stamp
 IsShownReply opened old new (Refused refusal) = Unit {0}
-
--- where the files are checked, each has its stamp, where its bytes are told
-abbrev pub IsChecked : Intent → Option Generation → DiskState → Type 0
-IsChecked (Changes host answer) opened disk = Unit {0}
-IsChecked (Answers answer) opened disk = Unit {0}
-IsChecked Checks None disk = Unit {0}
-IsChecked Checks (Some g) disk = AllByRecursion (IsAsListed disk) (files_of_host g.host)
-IsChecked (Shows held) opened disk = Unit {0}
-IsChecked (Refuses refusal) opened disk = Unit {0}
-
--- so it is of what the command wants
-abbrev pub HasChecked : Command → Option Generation → DiskState → DepotState → Type 0
-HasChecked command opened disk depot = (intent : Intent) × Wants (seen_on opened disk) depot command intent × IsChecked intent opened disk
 
 -- ---- what a preparation refuses
 

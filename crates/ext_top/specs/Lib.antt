@@ -2,6 +2,7 @@ pub mod Status
 pub mod Machine
 pub mod Exits
 pub mod Applying
+pub mod Working
 pub mod Replying
 pub mod Lines
 pub mod Alone

@@ -30,7 +30,8 @@ use Rattle.ext_step.specs.Step.{is_of_store}
 use Rattle.ext_step.specs.declared.intent.Intent.{Intent}
 use Rattle.ext_top.specs.Machine.{Outcome, refusal_of, reply_of}
 use Rattle.ext_top.specs.Exits.{Line, does, Standing, StandsAs, Ends, IsOnTheWay}
-use Rattle.ext_top.specs.Applying.{IsCrowded, IsDamage}
+use Rattle.ext_top.specs.Applying.{IsCrowded, IsDamage, PointsAs}
+use Rattle.ext_top.specs.Working.{HasMet, StaysTold, WantsOn, WorksFor}
 use Rattle.ext_top.specs.Alone.{ComesAlone, Says, reads_source, status_of_refusal}
 use Rattle.ext_top.specs.declared.bad_store.BadStore.TheVariants as bad
 use Rattle.ext_top.specs.declared.status.Status.{Status}
@@ -275,6 +276,37 @@ pub record RunsStore (batch : Bool) (lines : List Line) (old new : StoreSide) (s
   pub cause : StoreCause old new status
   pub sound : BothTold (RunsSound batch lines old.depot old.sink new.sink status) old.disk.told new.disk.told
 
+-- ---- a command over a store, whatever that is
+
+-- what was met by a command that was done or refused; else nothing is said
+abbrev pub StatusMet : (Option Refusal → Option Generation → Type 0) → Status → Type 0
+StatusMet M Done = (after : Option Generation) × M None after
+StatusMet M (Refused refusal) = (after : Option Generation) × M (Some refusal) after
+StatusMet M (Usage place) = Unit {0}
+StatusMet M ReadFault = Unit {0}
+StatusMet M WriteFault = Unit {0}
+StatusMet M DiskFault = Unit {0}
+StatusMet M DepotFault = Unit {0}
+StatusMet M OutOfMemory = Unit {0}
+StatusMet M (BadStore why) = Unit {0}
+StatusMet M Unfinished = Unit {0}
+StatusMet M TooLong = Unit {0}
+
+-- The disk, where it is told, points to what was opened; and what the command wants of that does so to the disk. Where it wants
+-- no other host, or the run ended before that, nothing is made, removed or appended.
+abbrev pub RunWorks : Command → DiskState → DepotState → Told → Told → Type 0
+RunWorks command disk depot d e =
+    StaysTold d e ⊎ ((opened : Option Generation) × Points (now d.places) opened × WorksFor (WantsOn opened disk depot command) opened d e)
+
+-- what was met of what the command wants of what was opened
+abbrev pub OpenedMet : Command → DiskState → DiskState → DepotState → Option Refusal → Option Generation → Type 0
+OpenedMet command old new depot refusal after =
+    (opened : Option Generation) × PointsAs old opened × HasMet (WantsOn opened old depot command) opened old new depot refusal after
+
+-- so it is where the command was done or refused
+abbrev pub RunMet : Command → DiskState → DiskState → DepotState → Status → Type 0
+RunMet command old new depot status = StatusMet (OpenedMet command old new depot) status
+
 -- ---- words
 
 -- disk and depot are left alone
@@ -286,6 +318,8 @@ pub record RunsAlone (command : Command) (old new : Devices) (status : Status) :
 -- the source is left alone
 pub record RunsOver (command : Command) (old new : Devices) (status : Status) : Type 0 where
   pub source : new.source ≡ old.source
+  pub works : BothTold (RunWorks command old.disk old.depot) old.disk.told new.disk.told
+  pub met : RunMet command old.disk new.disk old.depot status
   pub store : RunsStore false (does command ∷ []) (store_side old.sink old.disk old.depot) (store_side new.sink new.disk new.depot) status
 
 abbrev pub RunsKind : Bool → Command → Devices → Devices → Status → Type 0

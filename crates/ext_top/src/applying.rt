@@ -1,5 +1,5 @@
 // A command is carried out: what it wants is asked once, and done once for all commands.
-ghost use Rattle.std.specs.Prelude.{◌≡◌, IsSome, IsTrue, IfErr, IfOk, IfSome, OnOk, Some};
+ghost use Rattle.std.specs.Prelude.{◌≡◌, IsSome, IsTrue, IfErr, IfOk, IfSome, Some, None};
 ghost use Rattle.ext_depot.specs.Depot.{IsKept};
 ghost use Rattle.ext_disk.specs.Disk.{BothTold};
 ghost use Rattle.ext_disk.specs.Since.{Follows, Rests};
@@ -11,11 +11,11 @@ ghost use Rattle.ext_step.specs.Intents.{IsFit, trees_seen};
 ghost use Rattle.ext_step.specs.Causes.{StepCause};
 ghost use Rattle.ext_step.specs.Step.{Wants, WantsOf, is_of_store};
 ghost use Rattle.ext_host.specs.Valid.{IsValidHost};
-ghost use Rattle.ext_store.specs.HeldFiles.{body_told, is_served};
+ghost use Rattle.ext_store.specs.HeldFiles.{IsListed, body_told, is_served};
 ghost use Rattle.ext_view.specs.Survey.{ServesHost};
-ghost use Rattle.ext_step.specs.declared.intent.Intent.TheVariants.{Checks};
 ghost use Rattle.ext_top.specs.Machine.{Comes, Counts, Step, bytes_at, shows};
-ghost use Rattle.ext_top.specs.Applying.{AppliesTold, ApplyCause, HasChecked, IsChecked, IsShownReply, PointsAs, RestCause, SeeCause, seen_on};
+ghost use Rattle.ext_top.specs.Applying.{AppliesTold, ApplyCause, IsShownReply, PointsAs, RestCause, SeeCause, seen_on};
+ghost use Rattle.ext_top.specs.Working.{AppliedSo, AreListed, Met, WantsOn, WorksFor, refused_by};
 
 use crate::applied::{Applied, Reply};
 use crate::apply_err::ApplyErr;
@@ -38,8 +38,9 @@ use std::alloc::Global;
 /// # Errors
 /// From a store that firmly stands for a state: a fault of the disk leaves it standing for that state or for the step's, and so
 /// may a stop at any moment; every other error leaves that state, firmly. `DiskFault` and `DepotFault` come only where that
-/// count rose; `Damaged` exactly where a file of the host that was read is another than listed, which no such store has;
-/// `Unfinished` exactly where a plan within the limits met more left-overs than one command removes.
+/// count rose; `Damaged` only where a file that the host lists is another than listed, which no such store has, and where one
+/// that is to be shown or checked is, the command is not done; `Unfinished` exactly where a plan within the limits met more
+/// left-overs than one command removes.
 pub fn apply<D: Disk, P: Depot>(
     alloc: Global,
     command: &Command,
@@ -54,7 +55,8 @@ pub fn apply<D: Disk, P: Depot>(
     ensures kept { IsKept (P.state depot.old) (P.state depot.new) }
     ensures applies { BothTold (AppliesTold (λ s. Step s (P.state depot.old) command.now) opened result) (D.state disk.old).told (D.state disk.new).told }
     ensures shown { IfOk result (λ applied. IsShownReply opened (D.state disk.old) (D.state disk.new) applied.reply) }
-    ensures checked { OnOk result (HasChecked command.now opened (D.state disk.old) (P.state depot.old)) }
+    ensures works { BothTold (WorksFor (WantsOn opened (D.state disk.old) (P.state depot.old) command.now) opened) (D.state disk.old).told (D.state disk.new).told }
+    ensures met { IfOk result (AppliedSo (WantsOn opened (D.state disk.old) (P.state depot.old) command.now) opened (D.state disk.old) (D.state disk.new) (P.state depot.old)) }
     ensures cause { IfErr result (ApplyCause opened (D.state disk.old) (D.state disk.new) (P.state depot.old) (P.state depot.new)) }
 {
     let intent = intended(alloc, command, &opened, disk, depot)?;
@@ -141,7 +143,8 @@ fn carry_out<D: Disk, P: Depot>(
     ensures kept { IsKept (P.state depot.old) (P.state depot.new) }
     ensures applies { BothTold (AppliesTold (λ s. Comes s (P.state depot.old) intent) opened result) (D.state disk.old).told (D.state disk.new).told }
     ensures shown { IfOk result (λ applied. IsShownReply opened (D.state disk.old) (D.state disk.new) applied.reply) }
-    ensures checked { OnOk result (IsChecked intent opened (D.state disk.old)) }
+    ensures works { BothTold (WorksFor (λ wanted. wanted ≡ intent) opened) (D.state disk.old).told (D.state disk.new).told }
+    ensures met { IfOk result (λ applied. Met intent opened (D.state disk.old) (D.state disk.new) (P.state depot.old) (refused_by applied.reply) applied.opened) }
     ensures cause { IfErr result (ApplyCause opened (D.state disk.old) (D.state disk.new) (P.state depot.old) (P.state depot.new)) }
 {
     match intent {
@@ -168,7 +171,7 @@ fn check_files<D: Disk>(
     requires some { IsSome opened }
     requires opened { IfSome opened IsOpened }
     ensures rests { Rests (D.state disk.old) (D.state disk.new) }
-    ensures listed { OnOk result (IsChecked Checks opened (D.state disk.old)) }
+    ensures met { IfOk result (λ applied. (applied.opened ≡ opened) × (refused_by applied.reply ≡ None) × AreListed opened (D.state disk.old)) }
     ensures checks { BothTold (AppliesTold (λ s. Counts s) opened result) (D.state disk.old).told (D.state disk.new).told }
     ensures shown { IfOk result (λ applied. IsShownReply opened (D.state disk.old) (D.state disk.new) applied.reply) }
     ensures cause { IfErr result (RestCause opened (D.state disk.old) (D.state disk.new)) }
@@ -190,6 +193,7 @@ fn show<D: Disk>(
     requires file { IsFileOf (trees_seen (host_before opened)) held }
     requires opened { IfSome opened IsOpened }
     ensures rests { Rests (D.state disk.old) (D.state disk.new) }
+    ensures met { IfOk result (λ applied. (applied.opened ≡ opened) × (refused_by applied.reply ≡ None) × IsListed (body_told (D.state disk.old) held.body) held.stamp) }
     ensures shows { BothTold (AppliesTold (λ s outcome. outcome ≡ shows (bytes_at s held.body)) opened result) (D.state disk.old).told (D.state disk.new).told }
     ensures shown { IfOk result (λ applied. IsShownReply opened (D.state disk.old) (D.state disk.new) applied.reply) }
     ensures cause { IfErr result (RestCause opened (D.state disk.old) (D.state disk.new)) }

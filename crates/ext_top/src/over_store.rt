@@ -8,7 +8,8 @@ ghost use Rattle.ext_step.specs.Step.{is_of_store};
 ghost use Rattle.ext_top.specs.Alone.{status_of_refusal};
 ghost use Rattle.ext_top.specs.Applying.{PointsAs};
 ghost use Rattle.ext_top.specs.Exits.{does};
-ghost use Rattle.ext_top.specs.Running.{IsOfOpening, OpenedCause, RunsStore, RunsTold, status_of_closed, status_of_stop, store_side};
+ghost use Rattle.ext_top.specs.Running.{IsOfOpening, OpenedCause, RunMet, RunWorks, RunsStore, RunsTold, StatusMet, status_of_closed, status_of_stop, store_side};
+ghost use Rattle.ext_top.specs.Working.{HasMet, WantsOn, WorksFor};
 
 use crate::bad_store::BadStore;
 use crate::lines::do_line;
@@ -34,6 +35,8 @@ pub(crate) fn run_store<K: Sink, D: Disk, P: Depot>(
     ensures runs { RunsStore false (does command.now ∷ [])
         (store_side (K.state sink.old) (D.state disk.old) (P.state depot.old))
         (store_side (K.state sink.new) (D.state disk.new) (P.state depot.new)) result }
+    ensures works { BothTold (RunWorks command.now (D.state disk.old) (P.state depot.old)) (D.state disk.old).told (D.state disk.new).told }
+    ensures met { RunMet command.now (D.state disk.old) (D.state disk.new) (P.state depot.old) result }
     ensures count { (K.state sink.old).faults ≤ (K.state sink.new).faults }
 {
     match open(alloc, disk) {
@@ -58,6 +61,8 @@ fn run_opened<K: Sink, D: Disk, P: Depot>(
     ensures kept { IsKept (P.state depot.old) (P.state depot.new) }
     ensures count { (K.state sink.old).faults ≤ (K.state sink.new).faults }
     ensures runs { BothTold (RunsTold false (does command.now ∷ []) opened (P.state depot.old) (K.state sink.old) (K.state sink.new) result) (D.state disk.old).told (D.state disk.new).told }
+    ensures works { BothTold (WorksFor (WantsOn opened (D.state disk.old) (P.state depot.old) command.now) opened) (D.state disk.old).told (D.state disk.new).told }
+    ensures met { StatusMet (HasMet (WantsOn opened (D.state disk.old) (P.state depot.old) command.now) opened (D.state disk.old) (D.state disk.new) (P.state depot.old)) result }
     ensures cause { OpenedCause opened
         (store_side (K.state sink.old) (D.state disk.old) (P.state depot.old))
         (store_side (K.state sink.new) (D.state disk.new) (P.state depot.new)) result }

@@ -6,9 +6,12 @@ ghost use Rattle.ext_disk.specs.Since.{Follows};
 ghost use Rattle.ext_gen.specs.Opened.{IsOpened};
 ghost use Rattle.ext_gen.specs.Preparing.{host_before};
 ghost use Rattle.ext_cmd.specs.Replies.{answer_text};
+ghost use Rattle.ext_cmd.specs.declared.answer.Answer.{Answer};
 ghost use Rattle.ext_step.specs.Intents.{IsPlanned};
 ghost use Rattle.ext_top.specs.Machine.{Replaces};
+ghost use Rattle.ext_step.specs.declared.intent.Intent.TheVariants.{Changes};
 ghost use Rattle.ext_top.specs.Applying.{AppliesTold, ApplyCause, IsOfPreparing, IsShownReply, PointsAs, refusal_from};
+ghost use Rattle.ext_top.specs.Working.{Met, ReplacesTold, WorksFor, refused_by};
 
 use crate::applied::{Applied, Reply};
 use crate::apply_err::ApplyErr;
@@ -38,6 +41,8 @@ pub(crate) fn replace<D: Disk, P: Depot>(
     ensures follows { Follows (D.state disk.old) (D.state disk.new) }
     ensures kept { IsKept (P.state depot.old) (P.state depot.new) }
     ensures applies { BothTold (AppliesTold (λ s. Replaces s (P.state depot.old) next (answer_text answer)) opened result) (D.state disk.old).told (D.state disk.new).told }
+    ensures works { BothTold (WorksFor (λ intent. intent ≡ Changes next answer) opened) (D.state disk.old).told (D.state disk.new).told }
+    ensures met { IfOk result (λ applied. Met (Changes next answer) opened (D.state disk.old) (D.state disk.new) (P.state depot.old) (refused_by applied.reply) applied.opened) }
     ensures shown { IfOk result (λ applied. IsShownReply opened (D.state disk.old) (D.state disk.new) applied.reply) }
     ensures cause { IfErr result (ApplyCause opened (D.state disk.old) (D.state disk.new) (P.state depot.old) (P.state depot.new)) }
 {
@@ -60,6 +65,8 @@ fn switch<D: Disk, P: Depot>(
     ensures follows { Follows (D.state disk.old) (D.state disk.new) }
     ensures kept { IsKept (P.state depot.old) (P.state depot.new) }
     ensures applies { BothTold (AppliesTold (λ s. Replaces s (P.state depot.old) next reply) opened result) (D.state disk.old).told (D.state disk.new).told }
+    ensures works { BothTold (ReplacesTold opened next) (D.state disk.old).told (D.state disk.new).told }
+    ensures met { (answer : Answer) → IfOk result (λ applied. Met (Changes next answer) opened (D.state disk.old) (D.state disk.new) (P.state depot.old) (refused_by applied.reply) applied.opened) }
     ensures shown { IfOk result (λ applied. IsShownReply opened (D.state disk.old) (D.state disk.new) applied.reply) }
     ensures cause { IfErr result (ApplyCause opened (D.state disk.old) (D.state disk.new) (P.state depot.old) (P.state depot.new)) }
 {

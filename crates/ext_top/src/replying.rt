@@ -3,6 +3,7 @@ ghost use Rattle.std.specs.Prelude.{◌≡◌, ◌+◌, ◌<◌, ◌≤◌, true
 ghost use Rattle.ext_disk.specs.Since.{Rests};
 ghost use Rattle.ext_store.specs.HeldFiles.{body_told, is_served};
 ghost use Rattle.ext_top.specs.Applying.{IsServedReply};
+ghost use Rattle.ext_top.specs.Working.{refused_by};
 ghost use Rattle.ext_top.specs.Replying.{FileCause, ReplyCause, WritesBytes, WritesFile, WritesPiece, WritesReply};
 
 use crate::applied::Reply;
@@ -32,6 +33,7 @@ pub(crate) fn write_reply<K: Sink, D: Disk>(
     requires { IsServedReply reply }
     ensures rests { Rests (D.state disk.old) (D.state disk.new) }
     ensures writes { WritesReply reply (D.state disk.old) (K.state sink.old) (K.state sink.new) result }
+    ensures refusal { IfOk result (λ refusal. refusal ≡ refused_by reply) }
     ensures count { (K.state sink.old).faults ≤ (K.state sink.new).faults }
     ensures cause { IfErr result (ReplyCause reply (K.state sink.old) (K.state sink.new) (D.state disk.old) (D.state disk.new)) }
 {

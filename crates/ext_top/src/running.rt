@@ -21,6 +21,10 @@ use std::alloc::Global;
 /// by the machine, and then its reply is written. Each status comes as `Runs` says, with what was written and what the store
 /// stands for then, and after a stop at any moment; a fault is told only where that count rose.
 ///
+/// Whatever the store is, a command makes, removes and appends what the host that it wants asks for and nothing else, and
+/// nothing at all where it wants no other host; and where it was done or refused, no file that it showed or checked was another
+/// than listed, and no change met more left-overs than one command removes.
+///
 /// Where no count rose, a source that is read tells its bytes and is within its limit, and a store that is looked at is
 /// sound and has no more left-overs than one command removes, it ends with `Done`, `Refused` or `OutOfMemory`.
 pub fn run<S: Source, K: Sink, D: Disk, P: Depot>(

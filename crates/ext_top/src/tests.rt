@@ -1,31 +1,22 @@
 use crate::{Status, run};
 use ext_depot::MemoryDepot;
-use ext_disk::MemoryDisk;
+use ext_disk::{Disk, MemoryDisk};
 use ext_io::{Calls, MemorySink, MemorySource};
 use ext_text::{OutOfMemory, Path, Text, Words};
 use std::alloc::Global;
 use std::test::Fail;
 
+mod by_hand;
+mod files;
+mod left_overs;
 mod rows;
+mod session;
 mod stops;
-
-// Files of the depot: a tree with one file, a tree text with a faulty line, and a tree whose file is another than listed.
-static FILES: [(&[u8], &[u8]); 5] = [
-    (b"a.tree", A_TREE),
-    (b"a/etc/a", b"abc"),
-    (b"b.tree", b"hostext-tree 1\nd 755 usr\n"),
-    (b"c.tree", A_TREE),
-    (b"c/etc/a", b"abd"),
-];
-
-const A_TREE: &[u8] = b"hostext-tree 1
-d 755 etc
-f 644 3 ba7816bf8f01cfea414140de5dae2223b00361a396177a9cb410ff61f20015ad etc/a
-end
-";
+mod stores;
+mod trees;
 
 // Commands one after another over one store, with the number of the status and what is written.
-static SESSION: [(&[&str], u8, &str); 22] = [
+static SESSION: [(&[&str], u8, &str); 26] = [
     (&["tree"], 1, "refused 1 no-store\n"),
     (&["check", "now"], 2, ""),
     (&["init", "x86-64", "system"], 0, "done\n"),
@@ -55,11 +46,16 @@ static SESSION: [(&[&str], u8, &str); 22] = [
         "refused 23 bad-tree 3 b.tree\n",
     ),
     (&["import-fs", "c", "/opt"], 1, MISMATCH),
+    (&["import-fs", "d", "/opt"], 1, LONGER),
     (&["import-fs", "a", "/opt/a"], 0, "done\n"),
     (&["check"], 0, "ok 2 6\n"),
     (&["remove", "/etc"], 0, "done\n"),
     (&["remove", "/etc"], 1, "refused 8 no-entry /etc\n"),
     (&["tree", "/opt/a"], 0, AGAIN),
+    // A file gives way to a directory.
+    (&["import-fs", "a", "/opt/a/etc/a"], 0, "done\n"),
+    (&["tree", "/opt/a"], 0, IN_PLACE_OF_A_FILE),
+    (&["check"], 0, "ok 1 3\n"),
 ];
 
 const BELOW_ETC: &str = "hostext-tree 1
@@ -73,9 +69,21 @@ f 644 3 ba7816bf8f01cfea414140de5dae2223b00361a396177a9cb410ff61f20015ad etc/a
 end
 ";
 
+const IN_PLACE_OF_A_FILE: &str = "hostext-tree 1
+d 755 etc
+d 755 etc/a
+d 755 etc/a/etc
+f 644 3 ba7816bf8f01cfea414140de5dae2223b00361a396177a9cb410ff61f20015ad etc/a/etc/a
+end
+";
+
 const MISMATCH: &str =
     "refused 25 mismatch c/etc/a 3 ba7816bf8f01cfea414140de5dae2223b00361a396177a9cb410ff61f20015ad 3 a52d159f262b2c6ddb724a61840befc36eb30c88877a4030b65cbe86298449c9
 ";
+
+// A file that is listed as empty and has three bytes: one more than listed is read.
+const LONGER: &str =
+    "refused 25 mismatch d/a 0 e3b0c44298fc1c149afbf4c8996fb92427ae41e4649b934ca495991b7852b855 1 ca978112ca1bbdcafac231b39a23dc4da786eff8147c4e72b9807785afee48bb\n";
 
 fn words_of(alloc: Global, texts: &[&str]) -> Result<Words, OutOfMemory> {
     let mut words = Words::new(alloc);
@@ -95,7 +103,7 @@ fn only(alloc: Global, call: u64) -> Result<Calls, Fail> {
 // The depot with the files.
 fn filled(alloc: Global, fails: Calls) -> Result<MemoryDepot, Fail> {
     let mut depot = MemoryDepot::new(alloc, fails);
-    for (path, bytes) in &FILES {
+    for (path, bytes) in &files::FILES {
         let bytes = Text::from_bytes(alloc, bytes)?;
         depot.put(Path::read(alloc, path)?, bytes)?;
     }
@@ -103,10 +111,10 @@ fn filled(alloc: Global, fails: Calls) -> Result<MemoryDepot, Fail> {
 }
 
 // The status of a run of these words over a store and a depot, and what it wrote.
-fn run_on(
+fn run_on<D: Disk>(
     alloc: Global,
     texts: &[&str],
-    disk: &mut MemoryDisk,
+    disk: &mut D,
     depot: &mut MemoryDepot,
 ) -> Result<(Status, Text), OutOfMemory> {
     let words = words_of(alloc, texts)?;
@@ -116,32 +124,55 @@ fn run_on(
     Ok((status, Text::from_bytes(alloc, sink.written())?))
 }
 
-// What `tree` writes.
-fn tree_of(alloc: Global, disk: &mut MemoryDisk) -> Result<Text, OutOfMemory> {
-    let mut depot = MemoryDepot::new(alloc, Calls::new(alloc));
-    Ok(run_on(alloc, &["tree"], disk, &mut depot)?.1)
-}
-
-// Whether each command ends so, one after another.
-fn all_end(
+// The number of the first command that ends otherwise, one after another, counted from 0.
+fn wrong_end(
     alloc: Global,
     rows: &[(&[&str], u8, &str)],
     disk: &mut MemoryDisk,
     depot: &mut MemoryDepot,
-) -> Result<bool, OutOfMemory> {
-    for (texts, number, written) in rows {
+) -> Result<Option<usize>, OutOfMemory> {
+    for (index, (texts, number, written)) in rows.iter().enumerate() {
         let (status, text) = run_on(alloc, texts, disk, depot)?;
         if status.number() != *number || text.bytes() != written.as_bytes() {
-            return Ok(false);
+            return Ok(Some(index));
         }
     }
-    Ok(true)
+    Ok(None)
+}
+
+// The same, from an empty disk on.
+fn wrong_in_session(alloc: Global, rows: &[(&[&str], u8, &str)]) -> Result<Option<usize>, Fail> {
+    let mut disk = MemoryDisk::new(alloc, Calls::new(alloc), None);
+    let mut depot = filled(alloc, Calls::new(alloc))?;
+    Ok(wrong_end(alloc, rows, &mut disk, &mut depot)?)
 }
 
 #[test]
 fn commands_over_a_store_have_their_replies(rt: HostRuntime) -> Result<(), Fail> {
-    let mut disk = MemoryDisk::new(rt.alloc(), Calls::new(rt.alloc()), None);
-    let mut depot = filled(rt.alloc(), Calls::new(rt.alloc()))?;
-    assert!(rt; all_end(rt.alloc(), &SESSION, &mut disk, &mut depot)?);
+    assert_eq!(rt; wrong_in_session(rt.alloc(), &SESSION)?, None);
+    Ok(())
+}
+
+#[test]
+fn extensions_are_listed_and_merged(rt: HostRuntime) -> Result<(), Fail> {
+    assert_eq!(rt; wrong_in_session(rt.alloc(), &session::EXTENSIONS)?, None);
+    Ok(())
+}
+
+#[test]
+fn hierarchies_are_layered_and_come_back(rt: HostRuntime) -> Result<(), Fail> {
+    assert_eq!(rt; wrong_in_session(rt.alloc(), &session::HIERARCHIES)?, None);
+    Ok(())
+}
+
+#[test]
+fn chosen_hierarchies_are_merged_and_no_others(rt: HostRuntime) -> Result<(), Fail> {
+    assert_eq!(rt; wrong_in_session(rt.alloc(), &session::CHOSEN)?, None);
+    Ok(())
+}
+
+#[test]
+fn whiteouts_and_opaque_directories_are_entries(rt: HostRuntime) -> Result<(), Fail> {
+    assert_eq!(rt; wrong_in_session(rt.alloc(), &session::HIDING)?, None);
     Ok(())
 }

@@ -1,116 +1,54 @@
-// Stores that are none, stores of the first kind of text, left-overs, and devices that fail.
-ghost use Rattle.std.specs.Prelude.{◌≡◌, ◌∷◌, ◌++◌, [], IsTrue, IfOk};
-ghost use Rattle.ext_disk.specs.Calls.{make_file, MayCall};
-
-use super::{all_end, filled, only, run_on, words_of};
-use crate::{BadStore, Status, run};
+// Words that are no command, left-overs, and devices that fail.
+use super::by_hand::{There, put};
+use super::{filled, only, run_on, words_of};
+use crate::{Status, run};
 use ext_depot::MemoryDepot;
 use ext_disk::{Disk, Kind, MemoryDisk};
-use ext_io::{Calls, Failed, MemorySink, MemorySource};
-use ext_store::{make_folder, write_file};
-use ext_text::{Name, OutOfMemory, Path, PathErr, Text};
+use ext_io::{Calls, MemorySink, MemorySource};
+use ext_text::{Path, Text};
 use std::alloc::Global;
 use std::test::Fail;
 
-// What a test puts somewhere in a store.
-#[derive(Drop)]
-enum There {
-    Folder,
-    File(&'static [u8]),
-}
-
-fn below(dir: &Path, name: &Name) -> Result<Path, PathErr>
-    ensures { IfOk result (λ path. path ≡ dir.now ++ name.now ∷ []) }
-{
-    dir.child(name)
-}
-
-// Whether the folder is there, and nothing of the name in it.
-fn is_free<D: Disk>(disk: &mut D, dir: &Path, name: &Name, path: &Path) -> Result<bool, Failed>
-    requires { path.now ≡ dir.now ++ name.now ∷ [] }
-    ensures { IfOk result (λ free. IsTrue free → MayCall (make_file path.now) (D.state disk.new)) }
-{
-    let folder = disk.kind(dir)?;
-    let there = disk.kind(path)?;
-    Ok(folder == Some(Kind::Dir) && there == None)
-}
-
-fn put(
-    alloc: Global,
-    disk: &mut MemoryDisk,
-    dir: &[u8],
-    name: &[u8],
-    there: &There,
-) -> Result<(), Fail> {
-    let dir = Path::read(alloc, dir)?;
-    let name = Name::read(alloc, name)?;
-    let path = below(&dir, &name)?;
-    if !is_free(disk, &dir, &name, &path)? {
-        return Err("not free".into());
-    }
-    match there {
-        There::Folder => make_folder(disk, &path)?,
-        There::File(bytes) => write_file(disk, &path, bytes)?,
-    }
-    Ok(())
-}
-
-// A store with this at `current`, and this index of generation 1.
-fn store(alloc: Global, current: &'static [u8], index: &'static [u8]) -> Result<MemoryDisk, Fail> {
-    let mut disk = MemoryDisk::new(alloc, Calls::new(alloc), None);
-    put(alloc, &mut disk, b"", b"current", &There::File(current))?;
-    put(alloc, &mut disk, b"", b"g-1", &There::Folder)?;
-    put(alloc, &mut disk, b"g-1", b"index", &There::File(index))?;
-    Ok(disk)
-}
-
-// What is at `current`, the index of generation 1, and the line in which the store is broken.
-static BROKEN: [(&[u8], &[u8], u64); 3] = [
-    (b"g-x", EMPTY, 0),
-    (b"g-2\n", EMPTY, 1),
-    (b"g-1\n", b"hostext-store 1\nhost x86-64 system\n", 3),
+// Words that are no command, with the place that is told.
+static NO_COMMANDS: [(&[&str], u64); 17] = [
+    (&[], 1),
+    (&["inits"], 1),
+    (&["init"], 2),
+    (&["init", "x86_64", "system"], 2),
+    (&["init", "x86-64"], 3),
+    (&["init", "x86-64", "portable"], 3),
+    (&["init", "x86-64", "system", "usr"], 4),
+    (&["init", "x86-64", "system", "/usr:"], 4),
+    (&["init", "x86-64", "system", "/usr:/usr"], 4),
+    (&["init", "x86-64", "system", "/usr/lib"], 4),
+    (&["init", "x86-64", "system", SEVENTEEN], 4),
+    (&["init", "x86-64", "system", "/etc"], 5),
+    (&["init", "x86-64", "system", "/usr", "/usr"], 5),
+    (&["init", "x86-64", "system", "/usr", "/srv", "/etc"], 6),
+    (&["remove", "/"], 2),
+    (&["import-fs", "a"], 3),
+    (&["migrate", "now"], 2),
 ];
 
-// An index of the first kind of text, of a host without entries.
-const EMPTY: &[u8] = b"hostext-store 1
-host x86-64 system
-attached 0
-kept 0
-root 0
-lower 0
-end
-";
+const SEVENTEEN: &str = "/a:/b:/c:/d:/e:/f:/g:/h:/i:/j:/k:/l:/m:/n:/o:/p:/q";
 
 #[test]
-fn a_broken_store_is_told_with_its_line(rt: HostRuntime) -> Result<(), Fail> {
-    for (current, index, line) in &BROKEN {
-        let mut disk = store(rt.alloc(), current, index)?;
-        let mut depot = MemoryDepot::new(rt.alloc(), Calls::new(rt.alloc()));
-        let (status, text) = run_on(rt.alloc(), &["tree"], &mut disk, &mut depot)?;
-        assert!(rt; status == Status::BadStore(BadStore::Broken { line: *line }));
+fn words_that_are_no_command_touch_nothing(rt: HostRuntime) -> Result<(), Fail> {
+    let alloc = rt.alloc();
+    for (texts, place) in &NO_COMMANDS {
+        let mut disk = MemoryDisk::new(alloc, Calls::new(alloc), None);
+        let mut depot = MemoryDepot::new(alloc, Calls::new(alloc));
+        let (status, text) = run_on(alloc, texts, &mut disk, &mut depot)?;
+        assert!(rt; status == Status::Usage { place: *place });
+        assert_eq!(rt; status.number(), 2);
         assert!(rt; text.bytes().is_empty());
+        assert_eq!(rt; disk.calls(), 0);
     }
-    Ok(())
-}
-
-// A store of the first kind of text is migrated once.
-static MIGRATION: [(&[&str], u8, &str); 4] = [
-    (&["tree"], 0, "hostext-tree 1\nend\n"),
-    (&["migrate"], 0, "done\n"),
-    (&["migrate"], 0, "unchanged\n"),
-    (&["tree"], 0, "hostext-tree 1\nend\n"),
-];
-
-#[test]
-fn a_store_is_migrated_once(rt: HostRuntime) -> Result<(), Fail> {
-    let mut disk = store(rt.alloc(), b"g-1\n", EMPTY)?;
-    let mut depot = MemoryDepot::new(rt.alloc(), Calls::new(rt.alloc()));
-    assert!(rt; all_end(rt.alloc(), &MIGRATION, &mut disk, &mut depot)?);
     Ok(())
 }
 
 // What stands in a folder before a store is made there.
-static LEFT: [(&[u8], &[u8], There); 5] = [
+pub(super) static LEFT: [(&[u8], &[u8], There); 5] = [
     (b"", b"next", There::File(b"g-9\n")),
     (b"", b"g-7", There::Folder),
     (b"g-7", b"000", There::Folder),
@@ -168,7 +106,7 @@ fn shown(alloc: Global, call: u64) -> Result<(Status, Text), Fail> {
     Ok((status, Text::from_bytes(alloc, sink.written())?))
 }
 
-fn assert_done(status: Status) -> Result<(), Fail> {
+pub(super) fn assert_done(status: Status) -> Result<(), Fail> {
     match status {
         Status::Done => Ok(()),
         _ => Err("not done".into()),
@@ -184,5 +122,51 @@ fn a_write_that_fails_leaves_a_prefix_of_the_reply(rt: HostRuntime) -> Result<()
         assert!(rt; b"abc".starts_with(text.bytes()));
     }
     assert!(rt; shown(rt.alloc(), 4)?.0 == Status::Done);
+    Ok(())
+}
+
+// Commands one after another, and how many bytes were appended in all after each: an index and a line each time, and the file
+// of three bytes once.
+static APPENDED: [(&[&str], u64); 5] = [
+    (&["init", "x86-64", "system"], 137),
+    (&["import-fs", "a", "/"], 374),
+    (&["import-fs", "a", "/srv"], 723),
+    (&["check"], 723),
+    (&["migrate"], 723),
+];
+
+#[test]
+fn a_file_that_the_store_has_is_not_written_again(rt: HostRuntime) -> Result<(), Fail> {
+    let alloc = rt.alloc();
+    let mut disk = MemoryDisk::new(alloc, Calls::new(alloc), None);
+    let mut depot = filled(alloc, Calls::new(alloc))?;
+    for (texts, appended) in &APPENDED {
+        assert_done(run_on(alloc, texts, &mut disk, &mut depot)?.0)?;
+        assert_eq!(rt; disk.appended(), *appended);
+    }
+    Ok(())
+}
+
+// Tree texts whose second line is faulty.
+static FAULTY: [&[u8]; 4] = [
+    b"hostext-tree 1\nd 755 ../x\nend\n",
+    b"hostext-tree 1\nd 755 a//b\nend\n",
+    b"hostext-tree 1\nd 0755 a\nend\n",
+    b"hostext-tree 1\nf 644 1073741825 e3b0c44298fc1c149afbf4c8996fb92427ae41e4649b934ca495991b7852b855 a\nend\n",
+];
+
+#[test]
+fn a_faulty_tree_text_is_told_with_its_line(rt: HostRuntime) -> Result<(), Fail> {
+    let alloc = rt.alloc();
+    let mut disk = MemoryDisk::new(alloc, Calls::new(alloc), None);
+    let mut depot = MemoryDepot::new(alloc, Calls::new(alloc));
+    assert_done(run_on(alloc, &["init", "x86-64", "system"], &mut disk, &mut depot)?.0)?;
+    for text in &FAULTY {
+        let bytes = Text::from_bytes(alloc, text)?;
+        depot.put(Path::read(alloc, b"t.tree")?, bytes)?;
+        let (status, text) = run_on(alloc, &["import-fs", "t", "/"], &mut disk, &mut depot)?;
+        assert_eq!(rt; status.number(), 1);
+        assert!(rt; text.bytes() == b"refused 23 bad-tree 2 t.tree\n".as_slice());
+    }
     Ok(())
 }

@@ -1,8 +1,9 @@
-use Rattle.std.proofs.Common.{refl}
+use Rattle.std.proofs.Common.{◌≡◌, refl}
 use Rattle.std.proofs.lemmas.Result.{err_from_is_err_and}
 use Rattle.ext_disk.proofs.ForCallers.{follows_itself, rests_follow}
 use Rattle.ext_top.specs.Machine.{Comes}
 use Rattle.ext_top.proofs.ReadingLemmas.{answers_applied, refusal_applied, unread_applies}
+use Rattle.ext_top.proofs.WorkingLemmas.{reading_keeps, works_not, works_nothing}
 use Rattle.ext_top.proofs.applying.carry_out.Goals as goal
 
 pub returns-in-Changes-clause-applies : goal.returns-in-Changes-clause-applies
@@ -40,3 +41,42 @@ returns-in-Refuses-clause-applies g c =
     let disk = g.D.Disk.state c.args.disk.now in
     rw c.in-Refuses.is
     (refusal_applied c.in-Refuses.refusal c.args.opened (g.P.Depot.state c.args.depot.now) disk disk refl (g.met.D.Disk.holds_a_tree c.args.disk.now))
+
+pub returns-in-Changes-clause-works : goal.returns-in-Changes-clause-works
+returns-in-Changes-clause-works g c = rw c.in-Changes.is c.replace.ensures.works
+
+pub returns-in-Changes-clause-met : goal.returns-in-Changes-clause-met
+returns-in-Changes-clause-met g c = rw c.in-Changes.is c.replace.ensures.met
+
+pub returns-in_err-answer_text-in-Answers-clause-works : goal.returns-in_err-answer_text-in-Answers-clause-works
+returns-in_err-answer_text-in-Answers-clause-works g c = works_nothing (λ wanted. wanted ≡ c.args.intent) c.args.opened (g.D.Disk.state c.args.disk.now).told
+
+pub returns-in_ok-answer_text-in-Answers-clause-works : goal.returns-in_ok-answer_text-in-Answers-clause-works
+returns-in_ok-answer_text-in-Answers-clause-works g c = works_nothing (λ wanted. wanted ≡ c.args.intent) c.args.opened (g.D.Disk.state c.args.disk.now).told
+
+pub returns-in_ok-answer_text-in-Answers-clause-met : goal.returns-in_ok-answer_text-in-Answers-clause-met
+returns-in_ok-answer_text-in-Answers-clause-met g c = rw c.in-Answers.is (refl, refl)
+
+pub returns-in-Checks-clause-works : goal.returns-in-Checks-clause-works
+returns-in-Checks-clause-works g c =
+    let old = g.D.Disk.state c.args.disk.now in
+    let new = g.D.Disk.state c.check_files.new.disk in
+    works_not (λ wanted. wanted ≡ c.args.intent) c.args.opened old.told new.told (reading_keeps old new c.check_files.ensures.rests.told)
+
+pub returns-in-Checks-clause-met : goal.returns-in-Checks-clause-met
+returns-in-Checks-clause-met g c = rw c.in-Checks.is c.check_files.ensures.met
+
+pub returns-in-Shows-clause-works : goal.returns-in-Shows-clause-works
+returns-in-Shows-clause-works g c =
+    let old = g.D.Disk.state c.args.disk.now in
+    let new = g.D.Disk.state c.show.new.disk in
+    works_not (λ wanted. wanted ≡ c.args.intent) c.args.opened old.told new.told (reading_keeps old new c.show.ensures.rests.told)
+
+pub returns-in-Shows-clause-met : goal.returns-in-Shows-clause-met
+returns-in-Shows-clause-met g c = rw c.in-Shows.is c.show.ensures.met
+
+pub returns-in-Refuses-clause-works : goal.returns-in-Refuses-clause-works
+returns-in-Refuses-clause-works g c = works_nothing (λ wanted. wanted ≡ c.args.intent) c.args.opened (g.D.Disk.state c.args.disk.now).told
+
+pub returns-in-Refuses-clause-met : goal.returns-in-Refuses-clause-met
+returns-in-Refuses-clause-met g c = rw c.in-Refuses.is (refl, refl)

@@ -1,4 +1,4 @@
-use Rattle.std.proofs.Common.{Some, sym, subst}
+use Rattle.std.proofs.Common.{Some, refl, sym, subst}
 use Rattle.std.proofs.lemmas.Result.{err_from_is_err_and}
 use Rattle.ext_host.specs.Drawn.{trees_of}
 use Rattle.ext_gen.specs.Checking.{AreServed}
@@ -36,5 +36,5 @@ returns-clause-checks g c =
     (checked_applied c.in-Some.opened _ _ (g.D.Disk.state c.args.disk.now) (g.D.Disk.state c.check.new.disk) (rw c.host.ensures.same at c.in_ok-files.ensures.checked) c.in_ok-answer_text.ensures
     c.in_ok-files.ensures.rests.told (g.met.D.Disk.holds_a_tree c.args.disk.now))
 
-pub returns-clause-listed : goal.returns-clause-listed
-returns-clause-listed g c = rw c.in-Some.is ((rw c.host.ensures.same at c.in_ok-files.ensures.checked).listed)
+pub returns-clause-met : goal.returns-clause-met
+returns-clause-met g c = rw c.in-Some.is (refl, refl, (rw c.host.ensures.same at c.in_ok-files.ensures.checked).listed)

@@ -1,3 +1,4 @@
+use Rattle.std.proofs.Common.{refl}
 use Rattle.std.proofs.lemmas.Result.{err_from_is_err_and}
 use Rattle.ext_top.proofs.ReadingLemmas.{file_cause, seen_is_before, seen_is_served, shown_applied, unread_applies}
 use Rattle.ext_top.proofs.applying.show.Goals as goal
@@ -28,3 +29,6 @@ returns-clause-shows g c =
 pub returns-clause-shown : goal.returns-clause-shown
 returns-clause-shown g c =
     (seen_is_served c.args.opened c.args.held c.requires.opened c.requires.file, seen_is_before c.args.opened c.args.held c.requires.file, c.in_ok-verify.ensures.rests, c.in_ok-verify.ensures.listed)
+
+pub returns-clause-met : goal.returns-clause-met
+returns-clause-met g c = (refl, refl, c.in_ok-verify.ensures.listed)

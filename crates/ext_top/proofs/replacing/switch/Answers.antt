@@ -1,4 +1,4 @@
-use Rattle.std.proofs.Common.{Ok, Err, sym, ◌∙◌, subst}
+use Rattle.std.proofs.Common.{Ok, Err, refl, sym, ◌∙◌, subst}
 use Rattle.std.proofs.lemmas.Result.{err_from_is_err_and}
 use Rattle.ext_disk.specs.Disk.{BothTold}
 use Rattle.ext_disk.proofs.ForCallers.{follows_then}
@@ -10,6 +10,7 @@ use Rattle.ext_gen.specs.PreparingPaths.{Cleans}
 use Rattle.ext_top.specs.Applying.{AppliesTold}
 use Rattle.ext_top.specs.Machine.{Replaces}
 use Rattle.ext_top.proofs.ReplacingLemmas.{CauseOf, planned_brings_none, planned_is_before, planned_is_drawn, switched_applies, unprepared, unprepared_applies, unprepared_cause}
+use Rattle.ext_top.proofs.WorkingLemmas.{ClearedBy, Works, replaced_met, switches_told, unprepared_met, unswitched_told}
 use Rattle.ext_top.proofs.replacing.switch.Goals as goal
 
 pub prepare-requires-clause-drawn : goal.prepare-requires-clause-drawn
@@ -78,3 +79,38 @@ returns-in_ok-refusal_from-in-Err-clause-applies g c =
     subst (λ r. BothTold (AppliesTold (λ s. Replaces s depot c.args.next c.args.reply) c.args.opened (unprepared c.args.opened r)) old.told new.told) (sym c.refusal_from.ensures ∙ c.in_ok-refusal_from-in-Err.was)
     (unprepared_applies c.args.next c.args.reply c.args.opened depot after old new c.in-Err.error
     (subst (λ o. LimitSays {T = Generation} (limit_of o c.args.next) (Err c.in-Err.error)) c.as_ref.ensures.value c.in-Err.ensures.limit) (subst (λ o. PrepareCause o c.args.next old new depot after c.in-Err.error) c.as_ref.ensures.value c.in-Err.ensures.cause) c.in-Err.ensures.firm)
+
+pub returns-in_err-commit-in-Ok-clause-works : goal.returns-in_err-commit-in-Ok-clause-works
+returns-in_err-commit-in-Ok-clause-works g c =
+    switches_told c.args.opened c.args.next (g.D.Disk.state c.args.disk.now).told (g.D.Disk.state c.prepare.new.disk).told (g.D.Disk.state c.commit.new.disk).told
+    (subst (λ o. BothTold (Works o c.args.next) (g.D.Disk.state c.args.disk.now).told (g.D.Disk.state c.prepare.new.disk).told) c.as_ref.ensures.value c.in-Ok.ensures.changes) c.commit.ensures.now
+
+pub returns-in_ok-commit-in-Ok-clause-works : goal.returns-in_ok-commit-in-Ok-clause-works
+returns-in_ok-commit-in-Ok-clause-works g c =
+    switches_told c.args.opened c.args.next (g.D.Disk.state c.args.disk.now).told (g.D.Disk.state c.prepare.new.disk).told (g.D.Disk.state c.commit.new.disk).told
+    (subst (λ o. BothTold (Works o c.args.next) (g.D.Disk.state c.args.disk.now).told (g.D.Disk.state c.prepare.new.disk).told) c.as_ref.ensures.value c.in-Ok.ensures.changes) c.commit.ensures.now
+
+pub returns-in_err-refusal_from-in-Err-clause-works : goal.returns-in_err-refusal_from-in-Err-clause-works
+returns-in_err-refusal_from-in-Err-clause-works g c =
+    unswitched_told c.args.opened c.args.next (g.D.Disk.state c.args.disk.now).told (g.D.Disk.state c.prepare.new.disk).told
+    (subst (λ o. BothTold (Works o c.args.next) (g.D.Disk.state c.args.disk.now).told (g.D.Disk.state c.prepare.new.disk).told) c.as_ref.ensures.value c.in-Err.ensures.changes)
+
+pub returns-in_ok-refusal_from-in-Err-clause-works : goal.returns-in_ok-refusal_from-in-Err-clause-works
+returns-in_ok-refusal_from-in-Err-clause-works g c =
+    unswitched_told c.args.opened c.args.next (g.D.Disk.state c.args.disk.now).told (g.D.Disk.state c.prepare.new.disk).told
+    (subst (λ o. BothTold (Works o c.args.next) (g.D.Disk.state c.args.disk.now).told (g.D.Disk.state c.prepare.new.disk).told) c.as_ref.ensures.value c.in-Err.ensures.changes)
+
+pub returns-in_ok-commit-in-Ok-clause-met : goal.returns-in_ok-commit-in-Ok-clause-met
+returns-in_ok-commit-in-Ok-clause-met g c = λ answer.
+    rw c.in_ok-commit-in-Ok.ensures.opened
+    (replaced_met c.args.opened c.args.next answer c.in-Ok.prepared (g.D.Disk.state c.args.disk.now) (g.D.Disk.state c.prepare.new.disk) (g.D.Disk.state c.commit.new.disk) (g.P.Depot.state c.args.depot.now)
+    (subst (λ o. Cleans {T = Generation} (is_left o) (Ok c.in-Ok.prepared) (g.D.Disk.state c.args.disk.now) (g.D.Disk.state c.prepare.new.disk)) c.as_ref.ensures.value c.in-Ok.ensures.cleans)
+    (rw c.as_ref.ensures.value at c.in-Ok.ensures.prepared) c.commit.ensures.now)
+
+pub returns-in_ok-refusal_from-in-Err-clause-met : goal.returns-in_ok-refusal_from-in-Err-clause-met
+returns-in_ok-refusal_from-in-Err-clause-met g c = λ answer. (
+  refl,
+  subst (ClearedBy c.args.opened (g.D.Disk.state c.args.disk.now)) (sym c.refusal_from.ensures ∙ c.in_ok-refusal_from-in-Err.was)
+      (unprepared_met c.args.opened (g.D.Disk.state c.args.disk.now) (g.D.Disk.state c.prepare.new.disk) c.in-Err.error
+      (subst (λ o. Cleans {T = Generation} (is_left o) (Err c.in-Err.error) (g.D.Disk.state c.args.disk.now) (g.D.Disk.state c.prepare.new.disk)) c.as_ref.ensures.value c.in-Err.ensures.cleans)),
+)

@@ -1,7 +1,7 @@
 // Trees of the depot.
 
 // A host with a release file and a mask.
-pub(super) static HOST: &[u8] = b"hostext-tree 1
+pub(super) const HOST: &[u8] = b"hostext-tree 1
 d 755 etc
 d 755 etc/extensions
 l 9 /dev/null etc/extensions/m
@@ -14,7 +14,7 @@ end
 
 // Images: two that fit, one without a release file and one with a faulty one, one that the host masks, one for another version,
 // two versions of one, and one in a file.
-pub(super) static IMAGES: &[u8] = b"hostext-tree 1
+pub(super) const IMAGES: &[u8] = b"hostext-tree 1
 d 755 a-10
 d 755 a-10/usr
 d 755 a-10/usr/bin
@@ -55,13 +55,13 @@ end
 ";
 
 // A release file with a fault.
-pub(super) static FAULTY: &[u8] = b"hostext-tree 1
+pub(super) const FAULTY: &[u8] = b"hostext-tree 1
 f 644 7 72dbdfcd9fc6a0a41f09ede7e979828de70cf9b3b28801af34f7a2b6c14b7e59 os-release
 end
 ";
 
 // An image whose `usr` is opaque, with a hierarchy that the host lacks and a directory that is none.
-pub(super) static OPAQUE: &[u8] = b"hostext-tree 2
+pub(super) const OPAQUE: &[u8] = b"hostext-tree 2
 d 755 etc
 f 644 24 280140cdebf52d2d404ced30b19da6302fc144948fe503228f24583c554d0d4d etc/os-release
 d 711 usr
@@ -82,7 +82,7 @@ end
 ";
 
 // A host whose `opt` is a link, and an image with a whiteout.
-pub(super) static LINK: &[u8] = b"hostext-tree 2
+pub(super) const LINK: &[u8] = b"hostext-tree 2
 d 755 etc
 f 644 24 280140cdebf52d2d404ced30b19da6302fc144948fe503228f24583c554d0d4d etc/os-release
 l 3 srv opt
@@ -105,7 +105,7 @@ end
 ";
 
 // An image of each class.
-pub(super) static BOTH: &[u8] = b"hostext-tree 1
+pub(super) const BOTH: &[u8] = b"hostext-tree 1
 d 755 etc
 f 644 0 e3b0c44298fc1c149afbf4c8996fb92427ae41e4649b934ca495991b7852b855 etc/motd
 d 755 usr
@@ -129,13 +129,30 @@ f 644 0 e3b0c44298fc1c149afbf4c8996fb92427ae41e4649b934ca495991b7852b855 var/lib
 end
 ";
 
-// Merged, this host has two bytes more than a host may have.
-pub(super) static LARGE: &[u8] = b"hostext-tree 1
+// `/etc` is a link to itself.
+pub(super) const LOOP: &[u8] = b"hostext-tree 1
+l 3 etc etc
+end
+";
+
+// A file in a directory.
+pub(super) const A: &[u8] = b"hostext-tree 1
+d 755 etc
+f 644 3 ba7816bf8f01cfea414140de5dae2223b00361a396177a9cb410ff61f20015ad etc/a
+end
+";
+
+// An empty file.
+pub(super) const EMPTY_FILE: &[u8] = b"hostext-tree 1
+f 644 0 e3b0c44298fc1c149afbf4c8996fb92427ae41e4649b934ca495991b7852b855 a
+end
+";
+
+// A host with two images that have the same file.
+pub(super) const PAIR: &[u8] = b"hostext-tree 1
+d 755 etc
+f 644 24 280140cdebf52d2d404ced30b19da6302fc144948fe503228f24583c554d0d4d etc/os-release
 d 755 usr
-f 644 1073741824 e3b0c44298fc1c149afbf4c8996fb92427ae41e4649b934ca495991b7852b855 usr/a
-f 644 1073741793 e3b0c44298fc1c149afbf4c8996fb92427ae41e4649b934ca495991b7852b855 usr/b
-d 755 usr/lib
-f 644 24 280140cdebf52d2d404ced30b19da6302fc144948fe503228f24583c554d0d4d usr/lib/os-release
 d 755 var
 d 755 var/lib
 d 755 var/lib/extensions
@@ -144,11 +161,42 @@ d 755 var/lib/extensions/x/usr
 d 755 var/lib/extensions/x/usr/lib
 d 755 var/lib/extensions/x/usr/lib/extension-release.d
 f 644 8 422628a418fd161590cfbd873d9b3c137ef4abf7792df579eb801b7d1d8e4510 var/lib/extensions/x/usr/lib/extension-release.d/extension-release.x
+f 644 3 ba7816bf8f01cfea414140de5dae2223b00361a396177a9cb410ff61f20015ad var/lib/extensions/x/usr/t
+d 755 var/lib/extensions/y
+d 755 var/lib/extensions/y/usr
+d 755 var/lib/extensions/y/usr/lib
+d 755 var/lib/extensions/y/usr/lib/extension-release.d
+f 644 8 422628a418fd161590cfbd873d9b3c137ef4abf7792df579eb801b7d1d8e4510 var/lib/extensions/y/usr/lib/extension-release.d/extension-release.y
+f 644 0 e3b0c44298fc1c149afbf4c8996fb92427ae41e4649b934ca495991b7852b855 var/lib/extensions/y/usr/t
 end
 ";
 
-// `/etc` is a link to itself.
-pub(super) static LOOP: &[u8] = b"hostext-tree 1
-l 3 etc etc
+// A host with images whose directories are hierarchies only where they are chosen.
+pub(super) const CHOSEN: &[u8] = b"hostext-tree 1
+d 755 opt
+f 644 0 e3b0c44298fc1c149afbf4c8996fb92427ae41e4649b934ca495991b7852b855 opt/h
+d 755 srv
+f 644 0 e3b0c44298fc1c149afbf4c8996fb92427ae41e4649b934ca495991b7852b855 srv/h
+d 755 usr
+d 755 usr/lib
+f 644 24 280140cdebf52d2d404ced30b19da6302fc144948fe503228f24583c554d0d4d usr/lib/os-release
+d 755 var
+d 755 var/lib
+d 755 var/lib/confexts
+d 755 var/lib/confexts/c
+d 755 var/lib/confexts/c/etc
+d 755 var/lib/confexts/c/etc/extension-release.d
+f 644 24 280140cdebf52d2d404ced30b19da6302fc144948fe503228f24583c554d0d4d var/lib/confexts/c/etc/extension-release.d/extension-release.c
+d 755 var/lib/confexts/c/srv
+f 644 3 ba7816bf8f01cfea414140de5dae2223b00361a396177a9cb410ff61f20015ad var/lib/confexts/c/srv/s
+d 755 var/lib/extensions
+d 755 var/lib/extensions/x
+d 755 var/lib/extensions/x/opt
+f 644 3 ba7816bf8f01cfea414140de5dae2223b00361a396177a9cb410ff61f20015ad var/lib/extensions/x/opt/o
+d 755 var/lib/extensions/x/usr
+d 755 var/lib/extensions/x/usr/lib
+d 755 var/lib/extensions/x/usr/lib/extension-release.d
+f 644 8 422628a418fd161590cfbd873d9b3c137ef4abf7792df579eb801b7d1d8e4510 var/lib/extensions/x/usr/lib/extension-release.d/extension-release.x
+f 644 3 ba7816bf8f01cfea414140de5dae2223b00361a396177a9cb410ff61f20015ad var/lib/extensions/x/usr/u
 end
 ";
