@@ -58,6 +58,31 @@ def in_a_folder(session, program):
         follow(session, folder)
 
 
+FIRST = """init: done
+import-fs: done
+import-fs: done
+import-fs: done
+sysext: tool-2 image /var/lib/extensions/tool-2 fits|vendor image /var/lib/extensions/vendor fits
+sysext: merged 2|tool-2|vendor
+cat: #!/bin/sh|echo tool 2
+remove: done
+sysext: merged 1|vendor
+cat: #!/bin/sh|echo tool 1
+sysext: unmerged
+"""
+
+
+def the_first_session(program):
+    """Each command of examples/first-session up to the unmerged view, by its first word, and the lines that it writes."""
+    around = {**os.environ, "HOSTEXT": str(program)}
+    ended = subprocess.run([TOP / "examples/first-session"], env=around, timeout=SECONDS, stdout=subprocess.PIPE, stderr=subprocess.STDOUT)
+    blocks = re.findall(r"^\$ hostext STORE DEPOT (\S+)[^\n]*\n((?:(?!\$ )[^\n]*\n)*)", ended.stdout.decode(), re.M)
+    found = "".join(f"{word}: {'|'.join(written.splitlines())}\n" for word, written in blocks)
+    if ended.returncode or not found.startswith(FIRST) or not found.endswith("check: ok 8 311\n"):
+        raise Failed(f"examples/first-session ends with {ended.returncode} and writes {shortened(found)}")
+
+
 def scenes(program):
+    yield "examples/first-session", lambda: the_first_session(program)
     for session in sessions():
         yield f"README.md: {session[-1][0]}", lambda session=session: in_a_folder(session, program)

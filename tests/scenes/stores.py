@@ -20,6 +20,8 @@ EMPTY_INDEX = (
 )
 OLD_INDEX = b"hostext-store 1\nhost x86-64 system\nattached 0\nkept 0\nroot 0\nlower 0\nend\n"
 INIT = ("init", "x86-64", "system")
+# In memory, where there is such a file system: a disk takes its time for each sync.
+ROOM = "/dev/shm" if os.access("/dev/shm", os.W_OK) else None
 FAULTS = {5: b"hostext: disk fault\n", 6: b"hostext: depot fault\n", 8: b"hostext: bad store\n"}
 
 
@@ -93,7 +95,7 @@ def in_a_place(call):
     """A scene over a new store and a new depot."""
 
     def scene(program):
-        with tempfile.TemporaryDirectory() as folder:
+        with tempfile.TemporaryDirectory(dir=ROOM) as folder:
             call(Place(program, folder))
 
     scene.__name__ = call.__name__
@@ -416,6 +418,37 @@ def pack_and_unpack_give_a_folder_back(place):
         raise Failed(f"what was unpacked is {shortened(texts[1])}, and not {shortened(texts[0])}")
 
 
+def tool(place, name, *words):
+    """What the tool writes on standard error, and its status."""
+    around = {**os.environ, "HOSTEXT": str(place.program)}
+    ended = subprocess.run([TOP / "tools" / name, *words], stdout=subprocess.DEVNULL, stderr=subprocess.PIPE, env=around, timeout=SECONDS)
+    return ended.stderr, ended.returncode
+
+
+def the_tools_refuse_what_they_cannot_write(place):
+    folder, out = place.store.with_name("folder"), place.store.with_name("out")
+    folder.mkdir()
+    (folder / "a").write_bytes(b"abc")
+    os.mkfifo(folder / "pipe")
+    said, status = tool(place, "pack", folder, place.depot, "r")
+    if status != 1 or b"pipe" not in said or list(place.depot.iterdir()):
+        raise Failed(f"pack of a pipe says {said!r}, and the depot has {list(place.depot.iterdir())}")
+    (folder / "pipe").unlink()
+    expect(tool(place, "pack", folder, place.depot, "r"), (b"", 0))
+    said, status = tool(place, "pack", folder, place.depot, "r")
+    if status != 1 or b"it is there already" not in said:
+        raise Failed(f"a second pack says {said!r}")
+    place.expect(("init x86-64 system", DONE), ("import-fs r /", DONE))
+    out.mkdir()
+    (out / "kept").touch()
+    if tool(place, "unpack", place.store, "/", out)[1] != 1 or [path.name for path in out.iterdir()] != ["kept"]:
+        raise Failed(f"unpack into a folder that isn't empty leaves {list(out.iterdir())}")
+    for name in ("pack", "unpack"):
+        expect(tool(place, name, "--help"), (b"", 0))
+        if tool(place, name, "r")[1] != 1:
+            raise Failed(f"{name} of one word does not fail")
+
+
 CALLS = [
     *(a_new_store_has_an_index_and_nothing_else, left_overs_go_before_a_change_and_other_names_stay, an_old_text_is_read_and_migrated_once),
     *(the_words_of_init_have_their_places, a_host_is_imported_changed_and_checked, a_file_that_the_store_has_is_not_written_again),
@@ -425,5 +458,6 @@ CALLS = [
     *(a_name_that_is_no_utf_8_stops_a_change_alone, a_missing_store_is_a_disk_fault, a_missing_depot_has_no_file),
     *(a_depot_with_odd_files_is_a_depot_fault, folders_without_permission_are_faults, a_full_file_system_leaves_the_tree_before),
     *(a_large_file_comes_back, a_kill_at_any_moment_leaves_the_tree_before_or_after, pack_and_unpack_give_a_folder_back),
+    the_tools_refuse_what_they_cannot_write,
 ]
 scenes = named(*map(in_a_place, CALLS))
