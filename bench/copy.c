@@ -1,10 +1,12 @@
 /* What a change of a store asks of the system, and nothing else: copy DEPOT/RES FILES.. into STORE/g-2 as numbered files.
  *
- *     copy DEPOT STORE < LIST
+ *     copy few|same DEPOT STORE < LIST
  *
  * LIST has a path of the depot on each line. Each file is opened, read and written in pieces of 65,536 bytes, synced and
  * closed; each folder of 256 files is synced, then the generation's; `next` is written, synced and renamed over `current`,
- * and the store folder is synced before and after. Nothing is hashed, and no index is written. */
+ * and the store folder is synced before and after. Nothing is hashed, and no index is written. With `few` each file costs the
+ * calls that a copy can't do without; with `same` those that hostext makes of it, in its order, which also look at what stands
+ * at each path: three times at the depot's, and at the store's through the handle and before each write and sync. */
 #include <fcntl.h>
 #include <stdio.h>
 #include <stdlib.h>
@@ -37,10 +39,35 @@ static void copy(const char *from, const char *to) {
     close(out);
 }
 
+static void look(const char *path, struct stat *found) {
+    if (stat(path, found) < 0) fail(path);
+}
+
+/* The same with each call that hostext makes of a file within one piece. */
+static void copy_looking(const char *from, const char *to) {
+    struct stat found;
+    look(from, &found);
+    int out = open(to, O_WRONLY | O_CREAT | O_EXCL | O_NOCTTY | O_APPEND | O_CLOEXEC, 0666);
+    if (out < 0 || fstat(out, &found) < 0) fail(to);
+    look(from, &found);
+    int in = open(from, O_RDONLY | O_NOCTTY | O_CLOEXEC);
+    if (in < 0 || lseek(in, 0, SEEK_SET) < 0) fail(from);
+    ssize_t count = read(in, piece, sizeof piece);
+    close(in);
+    look(to, &found);
+    if (count < 0 || write(out, piece, count) != count) fail(to);
+    look(from, &found);
+    look(to, &found);
+    if (fsync(out) < 0) fail(to);
+    close(out);
+}
+
 int main(int count, char **words) {
     char line[8192], from[16384], to[4096], folder[4096];
     int number = 0;
-    if (count != 3) return 2;
+    if (count != 4) return 2;
+    int same = strcmp(words[1], "same") == 0;
+    words++;
     snprintf(to, sizeof to, "%s/g-2", words[2]);
     if (mkdir(to, 0777) < 0) fail(to);
     for (; fgets(line, sizeof line, stdin); number++) {
@@ -49,7 +76,7 @@ int main(int count, char **words) {
         if (number % 256 == 0 && mkdir(folder, 0777) < 0) fail(folder);
         snprintf(from, sizeof from, "%s/%s", words[1], line);
         snprintf(to, sizeof to, "%s/%02x", folder, number % 256);
-        copy(from, to);
+        (same ? copy_looking : copy)(from, to);
     }
     for (int at = 0; at * 256 < number; at++) {
         snprintf(folder, sizeof folder, "%s/g-2/%03x", words[2], at);
