@@ -22,7 +22,7 @@ OLD_INDEX = b"hostext-store 1\nhost x86-64 system\nattached 0\nkept 0\nroot 0\nl
 INIT = ("init", "x86-64", "system")
 # In memory, where there is such a file system: a disk takes its time for each sync.
 ROOM = "/dev/shm" if os.access("/dev/shm", os.W_OK) else None
-FAULTS = {5: b"hostext: disk fault\n", 6: b"hostext: depot fault\n", 8: b"hostext: bad store\n"}
+FAULTS = {5: b"hostext: disk fault\n", 6: b"hostext: depot fault\n", 8: b"hostext: bad store\n", 9: b"hostext: unfinished\n"}
 
 
 def digest(text):
@@ -418,6 +418,30 @@ def pack_and_unpack_give_a_folder_back(place):
         raise Failed(f"what was unpacked is {shortened(texts[1])}, and not {shortened(texts[0])}")
 
 
+def left_overs(folder, count):
+    """So many left-overs: a generation's folder, and names of one file in it."""
+    folder.mkdir()
+    (folder / "x0").touch()
+    try:
+        for at in range(1, count - 1):
+            os.link(folder / "x0", folder / f"x{at}")
+    except OSError as error:
+        raise Skipped(f"a file can't have so many names here: {error}") from None
+
+
+def more_left_overs_than_one_command_removes_take_two(place):
+    most = 1_048_576
+    left_overs(place.store / "g-7", most)
+    place.expect(("init x86-64 system", DONE))
+    left_overs(place.store / "g-8", most + 1)
+    place.expect(("tree", tree_text()))
+    place.resource("r", tree_text("d 755 a"))
+    place.fault(9, "import-fs r /")
+    if any((place.store / "g-8").iterdir()):
+        raise Failed("other left-overs than those that were counted are there")
+    place.expect(("tree", tree_text()), ("import-fs r /", DONE), ("tree", tree_text("d 755 a")))
+
+
 def tool(place, name, *words):
     """What the tool writes on standard error, and its status."""
     around = {**os.environ, "HOSTEXT": str(place.program)}
@@ -458,6 +482,6 @@ CALLS = [
     *(a_name_that_is_no_utf_8_stops_a_change_alone, a_missing_store_is_a_disk_fault, a_missing_depot_has_no_file),
     *(a_depot_with_odd_files_is_a_depot_fault, folders_without_permission_are_faults, a_full_file_system_leaves_the_tree_before),
     *(a_large_file_comes_back, a_kill_at_any_moment_leaves_the_tree_before_or_after, pack_and_unpack_give_a_folder_back),
-    the_tools_refuse_what_they_cannot_write,
+    *(the_tools_refuse_what_they_cannot_write, more_left_overs_than_one_command_removes_take_two),
 ]
 scenes = named(*map(in_a_place, CALLS))
