@@ -1,6 +1,6 @@
 use crate::{Status, run};
 use ext_depot::MemoryDepot;
-use ext_disk::{Disk, MemoryDisk};
+use ext_disk::MemoryDisk;
 use ext_io::{Calls, MemorySink, MemorySource};
 use ext_text::{OutOfMemory, Path, Text, Words};
 use std::alloc::Global;
@@ -8,7 +8,6 @@ use std::test::Fail;
 
 mod by_hand;
 mod files;
-mod left_overs;
 mod rows;
 mod session;
 mod stops;
@@ -111,10 +110,10 @@ fn filled(alloc: Global, fails: Calls) -> Result<MemoryDepot, Fail> {
 }
 
 // The status of a run of these words over a store and a depot, and what it wrote.
-fn run_on<D: Disk>(
+fn run_on(
     alloc: Global,
     texts: &[&str],
-    disk: &mut D,
+    disk: &mut MemoryDisk,
     depot: &mut MemoryDepot,
 ) -> Result<(Status, Text), OutOfMemory> {
     let words = words_of(alloc, texts)?;

@@ -512,7 +512,7 @@ fn status_of(damage: &Damage) -> Status {
             file: 0,
         },
         listed: stamp_of(damage.listed),
-        found: damage.found.map(stamp_of),
+        found: damage.found.map(|bytes| stamp_of(bytes)),
     })
 }
 
