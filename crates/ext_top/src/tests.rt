@@ -8,6 +8,7 @@ use std::test::Fail;
 
 mod by_hand;
 mod files;
+mod left_overs;
 mod rows;
 mod session;
 mod stops;

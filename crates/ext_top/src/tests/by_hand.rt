@@ -78,6 +78,16 @@ pub(super) fn put_file(
     Ok(())
 }
 
+// Makes an empty file in a folder.
+pub(super) fn make_file(disk: &mut MemoryDisk, dir: &Path, name: &Name) -> Result<(), Fail> {
+    let path = below(dir, name)?;
+    if !is_free(disk, dir, name, &path)? {
+        return Err("not free".into());
+    }
+    disk.make_file(&path)?;
+    Ok(())
+}
+
 // Settles the names in a folder, if one is there.
 fn settle_there<D: Disk>(disk: &mut D, dir: &Path) -> Result<(), Failed> {
     match disk.kind(dir)? {
