@@ -254,21 +254,36 @@ def what_one_device_wrote_new_ones_find(folder):
 
 
 def what_stays_open_changes_no_answer(folder):
-    """A file that was appended to is replaced, taken away or renamed, through the disk or from outside."""
+    """A file that was appended to or read is taken away or renamed through the disk, by a link too, or appended to from outside."""
     Path(folder, "d").mkdir()
     Path(folder, "l").symlink_to("d")
     with Device("disk", folder) as disk:
-        disk.expect(("make_file a", "done"), ("append a 1", "done"))
-        Path(folder, "new").write_text("new-")
-        os.replace(Path(folder, "new"), Path(folder, "a"))
-        disk.expect(("append a 2", "done"), ("read a 0 9", "bytes new-2"), ("append a 3", "done"), ("read a 0 9", "bytes new-23"))
-        os.unlink(Path(folder, "a"))
-        disk.expect(*each(("append a 4", "sync_file a"), "fault"), ("kind a", "nothing"))
         disk.expect(*each(("make_file d/a", "append d/a 1", "remove l/a"), "done"), *each(("append d/a 2", "sync_file d/a"), "fault"))
         disk.expect(*each(("make_file d/a", "append d/a 1", "rename d/a d/b", "make_file d/a", "append d/a 2", "append d/b 3"), "done"))
         disk.expect(("read d/a 0 9", "bytes 2"), ("read d/b 0 9", "bytes 13"), ("rename d/a d/b", "done"), ("append d/b 4", "done"))
         disk.expect(("read d/b 0 9", "bytes 24"), *each(("sync_file d/b", "append d/b 5", "remove d/b", "make_file d/b", "append d/b 6"), "done"))
         disk.expect(("read d/b 0 9", "bytes 6"), ("list d", "names b"))
+        disk.expect(*each(("make_file d/a", "append d/a 12", "rename l/a l/c", "make_file d/a"), "done"), ("append d/a 3", "done"))
+        disk.expect(("read d/a 0 9", "bytes 3"), ("read d/c 0 9", "bytes 12"), ("sync_file d/c", "done"), ("sync_file d/a", "done"))
+        disk.expect(("read d/c 0 1", "bytes 1"), ("rename l/a l/c", "done"), ("read d/c 1 9", "bytes "), ("read d/c 0 1", "bytes 3"))
+        disk.expect(("kind d/c", "file 1"), ("remove l/c", "done"), ("read d/c 0 9", "fault"), ("make_dir d/c", "done"), ("read d/c 0 9", "fault"))
+        disk.expect(("read d/b 0 9", "bytes 6"))
+        with open(Path(folder, "d/b"), "a") as other:
+            other.write("78")
+        disk.expect(("kind d/b", "file 3"), ("read d/b 1 9", "bytes 78"), ("read d/b 3 9", "bytes "), ("read d/b 0 9", "bytes 678"))
+        disk.expect(*each(("make_file d/e", "append d/e 1", "rename l/b l/e", "append d/e 9", "sync_file d/e"), "done"), ("read d/e 0 9", "bytes 6789"))
+
+
+def a_file_is_read_piece_after_piece(folder):
+    """A file of the depot that is replaced between two pieces is read on as it was opened; from its first byte on it is the new one."""
+    for kind, size in ("depot", "size"), ("disk", "kind"):
+        Path(folder, "a").write_text("abcdef")
+        with Device(kind, folder) as device:
+            device.expect((f"{size} a", "file 6"), ("read a 0 2", "bytes ab"), ("read a 2 2", "bytes cd"))
+            Path(folder, "new").write_text("123")
+            os.replace(Path(folder, "new"), Path(folder, "a"))
+            device.expect(("read a 4 9", "bytes ef"), ("read a 6 9", "bytes "), ("read a 6 9", "bytes "), (f"{size} a", "file 3"))
+            device.expect(("read a 0 9", "bytes 123"), ("read a 2 9", "bytes 3"), ("read a 1 1", "bytes 2"), ("read a 0 1", "bytes 1"))
 
 
 def in_a_folder(call, *given):
@@ -287,7 +302,8 @@ def in_a_folder(call, *given):
 CALLS = [
     *(a_link_to_a_folder_is_followed_and_stays, a_link_to_a_file_is_followed_and_moved_itself, a_file_where_a_folder_should_be_on_the_way),
     *(what_is_missing, a_folder_that_is_not_empty_and_names_that_are_taken, names_that_are_none_are_not_listed),
-    *(names_that_make_no_path_are_not_listed, names_come_in_byte_order, without_permission, roots, what_one_device_wrote_new_ones_find, what_stays_open_changes_no_answer),
+    *(names_that_make_no_path_are_not_listed, names_come_in_byte_order, without_permission, roots, what_one_device_wrote_new_ones_find),
+    *(what_stays_open_changes_no_answer, a_file_is_read_piece_after_piece),
 ]
 
 

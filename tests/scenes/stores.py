@@ -154,6 +154,14 @@ def a_host_is_imported_changed_and_checked(place):
     place.expect(("tree /srv/usr", tree_text(f"f 644 0 {EMPTY} a")), ("cat /srv/usr/a", b""))
 
 
+def what_one_command_stores_the_next_ones_find(place):
+    """Each command is a new process over the same folders."""
+    place.resource("host", tree_text("d 755 usr", f"f 644 3 {ABC} usr/a"), {"usr/a": b"abc"})
+    place.expect(("init x86-64 system", DONE), ("import-fs host /", DONE), ("cat /usr/a", b"abc"))
+    place.expect(("tree /", tree_text("d 755 usr", f"f 644 3 {ABC} usr/a")), ("check", b"ok 1 3\n"), ("cat /usr/a", b"abc"))
+    place.expect(("remove /usr", DONE), ("tree /", tree_text()), ("check", b"ok 0 0\n"), ("cat /usr/a", b"refused 8 no-entry /usr/a\n"))
+
+
 def a_file_that_the_store_has_is_not_written_again(place):
     place.resource("host", tree_text("d 755 usr", f"f 644 3 {ABC} usr/a"), {"usr/a": b"abc"})
     place.expect(("init x86-64 system", DONE), ("import-fs host /", DONE), ("import-fs host /srv", DONE), ("cat /srv/usr/a", b"abc"))
@@ -475,7 +483,8 @@ def the_tools_refuse_what_they_cannot_write(place):
 
 CALLS = [
     *(a_new_store_has_an_index_and_nothing_else, left_overs_go_before_a_change_and_other_names_stay, an_old_text_is_read_and_migrated_once),
-    *(the_words_of_init_have_their_places, a_host_is_imported_changed_and_checked, a_file_that_the_store_has_is_not_written_again),
+    *(the_words_of_init_have_their_places, a_host_is_imported_changed_and_checked, what_one_command_stores_the_next_ones_find),
+    a_file_that_the_store_has_is_not_written_again,
     *(entries_that_a_command_cannot_take_are_refused, marks_are_kept_and_no_directory_is_made_of_a_whiteout),
     *(a_depot_that_lacks_what_a_text_lists_is_refused, what_is_merged_is_read_only, a_manifest_goes_where_its_path_is_touched),
     *(a_store_that_is_none_is_told, a_damaged_file_is_told, odd_things_at_the_paths_of_a_store_are_told),

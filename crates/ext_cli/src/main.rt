@@ -34,7 +34,7 @@ commands:
   sysext unmerge      take the view away
   sysext refresh [--force]
                       merge anew, in one change
-  confext ..          the same of configuration extensions
+  confext ..          as sysext, with configuration extensions
   tree [PATH]         write the tree text of what stands below the path
   cat PATH            write the bytes of a file
   check               compare each file of the store with its digest

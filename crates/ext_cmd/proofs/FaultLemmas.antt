@@ -36,7 +36,7 @@ fault_after Is More word words first next place step after before fault = record
   stuck = stuck_after Is More word after fault.prefix fault.rest fault.stuck;
 }
 
--- ---- the same of what is answered, words and errors given by equations
+-- ---- faults of a word, the words and the error given by equations
 
 pub refuse_missing : (Is : Grammar) (words : List (List ℕ)) (first : ℕ) → Begins Is [] → ¬ Is [] → words ≡ [] → Refuses Is words first (Usage first)
 refuse_missing Is words first begins none are = rw are (missing Is first begins none)

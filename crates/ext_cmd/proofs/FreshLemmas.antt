@@ -98,7 +98,7 @@ away_name names some few =
 -- ---- so a list is followed by another
 
 one_name : (name : List ℕ) → IsHierarchy name → IsHierarchyList (name ∷ [])
-one_name name is = record { some = omega arith; few = omega arith; each = (is, tt); distinct = (tt, tt) }
+one_name name is = record { non_empty = omega arith; at_most_16 = omega arith; each = (is, tt); distinct = (tt, tt) }
 
 pub some_others : (names : List (List ℕ)) → IsHierarchyList names → Begins (TakesOthers names) []
 some_others names are = record {
@@ -107,7 +107,7 @@ some_others names are = record {
     record {
       value = away 0 names ∷ [];
       is = record {
-        hierarchies = one_name (away 0 names) (away_name names are.some are.few);
+        hierarchies = one_name (away 0 names) (away_name names are.non_empty are.at_most_16);
         apart = all_weaker (λ (name : List ℕ). name ≢ away 0 names) (λ (name : List ℕ). IsNone name (away 0 names ∷ [])) (λ name differ. (differ, tt)) names (away_none 0 names);
       };
       same = refl;

@@ -90,7 +90,7 @@ some_parts (name ∷ names) some = omega arith
 
 -- the parts of the word of a list are its names after slashes
 parts_of_word : (names : List (List ℕ)) → IsHierarchyList names → slice_split (λ b. eqb b 58) (hierarchies_word names) ≡ map slashed names
-parts_of_word names are = split_joined 58 (map slashed names) (some_parts names are.some) (slashed_lack names are.each)
+parts_of_word names are = split_joined 58 (map slashed names) (some_parts names are.non_empty) (slashed_lack names are.each)
 
 unslashed : (names others : List (List ℕ)) → map slashed names ≡ map slashed others → names ≡ others
 unslashed [] [] same = refl
@@ -166,13 +166,13 @@ part_refused word part names rest place (Usage at) parts refused = (
         is = record {
           hierarchy = (all_back IsHierarchy names (next.name ∷ next.more) each).0;
           new = none_before names next.name next.more (subst AreDistinct next.all_is it.is.distinct);
-          few = omega (arith, it.is.few, ap length next.all_is, length-append names (next.name ∷ next.more));
+          few = omega (arith, it.is.at_most_16, ap length next.all_is, length-append names (next.name ∷ next.more));
         };
         same = next.part_is;
       }),
 )
 
--- no part was read yet
+-- no part was read
 pub no_names : (word : List ℕ) → ReadsOn word word []
 no_names word = record { parts = refl; are = record { few = omega arith; each = tt; distinct = tt } }
 
@@ -193,6 +193,6 @@ ends_so word rest names name on lacks may same =
     let parts =
     on.parts ∙ ap (λ (l : List (List ℕ)). map slashed names ++ l) (one_part 58 rest lacks)
     ∙ ap (λ (p : List ℕ). map slashed names ++ p ∷ []) same ∙ one_more names name [] ∙ append-nil (map slashed (names ++ name ∷ [])) in (
-      record { some = omega (arith, length-append names (name ∷ [])); few = are.few; each = are.each; distinct = are.distinct },
+      record { non_empty = omega (arith, length-append names (name ∷ [])); at_most_16 = are.few; each = are.each; distinct = are.distinct },
       sym (join_with_byte-slice_split 58 word) ∙ ap (join_with_byte 58) parts,
     )

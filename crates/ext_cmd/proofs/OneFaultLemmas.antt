@@ -30,7 +30,7 @@ not_longer Is (x ∷ p) r (y ∷ q) s same longer stuck begins =
 pub one_fault : (Is : Grammar) (words : List (List ℕ)) (first a b : ℕ) → IsFault Is words first a → IsFault Is words first b → a ≡ b
 one_fault Is words first a b f g =
     let not_before : length f.prefix < length g.prefix → ⊥ = λ longer. not_longer Is f.prefix f.rest g.prefix g.rest (sym f.split ∙ g.split) longer f.stuck g.begins in
-    let not_behind : length g.prefix < length f.prefix → ⊥ = λ longer. not_longer Is g.prefix g.rest f.prefix f.rest (sym g.split ∙ f.split) longer g.stuck f.begins in
+    let not_after : length g.prefix < length f.prefix → ⊥ = λ longer. not_longer Is g.prefix g.rest f.prefix f.rest (sym g.split ∙ f.split) longer g.stuck f.begins in
     let same : length f.prefix ≡ length g.prefix = omega arith in
     f.after ∙ ap (λ (n : ℕ). n + first) same ∙ sym g.after
 

@@ -80,8 +80,8 @@ AreApart names others = AllByRecursion (λ name. IsNone name others) names
 
 -- 1 to 16 names of hierarchies, none twice
 pub record IsHierarchyList (names : List (List ℕ)) : Type 0 where
-  pub some : 0 < length names
-  pub few : length names ≤ 16
+  pub non_empty : 0 < length names
+  pub at_most_16 : length names ≤ 16
   pub each : AllByRecursion IsHierarchy names
   pub distinct : AreDistinct names
 

@@ -17,8 +17,6 @@ mod readers;
 mod refusal;
 mod replies;
 mod resource;
-#[cfg(test)]
-mod tests;
 mod views;
 mod words;
 

@@ -7,8 +7,6 @@
 
 mod depot;
 mod memory_depot;
-#[cfg(test)]
-mod tests;
 
 pub use depot::Depot;
 pub use memory_depot::MemoryDepot;

@@ -22,7 +22,7 @@ laid_push before (x ∷ xs) part laid start =
     let both = length-append x.piece (joined xs) in
     (laid.0, laid_push (before + length x.piece) xs part laid.1 (omega (arith, start, both)))
 
--- one more piece is laid behind the others
+-- one more piece is laid after the others
 pub pieces_push : (xs more : List Part) (size size' : ℕ) (part : Part) → IsLaid xs size → part.start ≡ size → size' ≡ size + length part.piece → more ≡ xs ++ part ∷ [] → IsLaid more size'
 pieces_push xs more size size' part laid start size_is more_is =
     let before = laid.size_is in
@@ -48,13 +48,13 @@ laid_start before (x ∷ xs) (suc i) d laid within =
 pub part_found : (xs : List Part) (i at : ℕ) (part : Part) → AreLaid 0 xs → i < length xs → part ≡ get_or xs i part → part.start ≤ at
     → drop at (joined xs) ≡ drop (at - part.start) (joined (drop i xs))
 part_found xs i at part laid within is begun =
-    let front = joined (take i xs) in
+    let prefix = joined (take i xs) in
     let known = laid_start 0 xs i part laid within in
     let same : part.start ≡ (get_or xs i part).start = ap (λ (p : Part). p.start) is in
-    let start : part.start ≡ length front = omega (arith, known, same) in
-    let whole : joined xs ≡ front ++ joined (drop i xs) = ap joined (sym (take-append-drop i xs)) ∙ joined_append (take i xs) (drop i xs) in
-    let count : at ≡ length front + (at - part.start) = omega (arith, start, begun) in
-    ap (drop at) whole ∙ ap (λ k. drop k (front ++ joined (drop i xs))) count ∙ drop-append-add front (joined (drop i xs)) (at - part.start)
+    let start : part.start ≡ length prefix = omega (arith, known, same) in
+    let whole : joined xs ≡ prefix ++ joined (drop i xs) = ap joined (sym (take-append-drop i xs)) ∙ joined_append (take i xs) (drop i xs) in
+    let count : at ≡ length prefix + (at - part.start) = omega (arith, start, begun) in
+    ap (drop at) whole ∙ ap (λ k. drop k (prefix ++ joined (drop i xs))) count ∙ drop-append-add prefix (joined (drop i xs)) (at - part.start)
 
 -- ---- what is read
 
@@ -74,13 +74,13 @@ pub joined_next : (xs : List Part) (i : ℕ) (part : Part) → i < length xs →
 joined_next xs i part within is = ap joined (drop_more xs i part within ∙ ap (λ (p : Part). p ∷ drop (i + 1) xs) (sym is))
 
 -- the bytes that were read of one piece stand in the buffer after those before them
-pub read_behind : (buf sub post bytes : List ℕ) (count more from : ℕ) → count < length buf → more ≤ length sub → drop from bytes ≡ take more sub ++ drop (from + more) bytes
+pub read_after : (buf sub post bytes : List ℕ) (count more from : ℕ) → count < length buf → more ≤ length sub → drop from bytes ≡ take more sub ++ drop (from + more) bytes
     → take count buf ++ drop from bytes ≡ take (count + more) (take count buf ++ (sub ++ post)) ++ drop (from + more) bytes
-read_behind buf sub post bytes count more from within fits read =
+read_after buf sub post bytes count more from within fits read =
     let size : length (take count buf) ≡ count = length-take-le count buf (omega (arith, within)) in
-    let front : take (count + more) (take count buf ++ (sub ++ post)) ≡ take count buf ++ take more sub =
+    let both_parts : take (count + more) (take count buf ++ (sub ++ post)) ≡ take count buf ++ take more sub =
     ap (λ k. take (k + more) (take count buf ++ (sub ++ post))) (sym size) ∙ take-append-add (take count buf) (sub ++ post) more ∙ ap (λ l. take count buf ++ l) (take-append-le more sub post fits) in
-    ap (λ l. take count buf ++ l) read ∙ sym (append_assoc (take count buf) (take more sub) (drop (from + more) bytes)) ∙ ap (λ l. l ++ drop (from + more) bytes) (sym front)
+    ap (λ l. take count buf ++ l) read ∙ sym (append_assoc (take count buf) (take more sub) (drop (from + more) bytes)) ∙ ap (λ l. l ++ drop (from + more) bytes) (sym both_parts)
 
 -- one more piece was read, or a part of it
 read_step : (all buf buf' piece rest : List ℕ) (count more from : ℕ) → all ≡ take count buf ++ drop from (piece ++ rest) → take count buf ++ drop from piece ≡ take (count + more) buf' ++ drop (from + more) piece

@@ -40,13 +40,13 @@ starved_of disk = disk.meter.starved
 abbrev pub IsCalled : MemoryDisk → MemoryDisk → DiskCall → Bool → Type 0
 IsCalled old new call done = IsMetered old.meter new.meter call done
 
--- the same of `list`; where the names found no memory, as of one that was done
+-- one call of `list`, which is kept as done where the call was done and its names alone found no memory
 abbrev pub IsListed : {T : Type 0} → MemoryDisk → MemoryDisk → DiskCall → Result T ListErr → Type 0
 IsListed old new call (Ok _) = IsCalled old new call true
 IsListed old new call (Err Failed) = IsCalled old new call false
 IsListed old new call (Err OutOfMemory) = IsCalled old new call true
 
--- no call was made of the disk yet, and the calls of these numbers are to fail, and each one from the number of the stop on
+-- no call was made of the disk, and the calls of these numbers are to fail, and each one from the number of the stop on
 pub record IsUncalled (disk : MemoryDisk) (fails : List ℕ) (stop : Option ℕ) : Type 0 where
   pub clock : (told_by disk.history).clock ≡ 0
   pub appended : appended_on disk ≡ 0

@@ -1,6 +1,6 @@
 //! The disk: the folder in which the store stands, and what a stop may leave of it.
 //!
-//! A [`Disk`] tells contracts what stands at each path, which names and bytes are not settled yet, and what a stop at each
+//! A [`Disk`] tells contracts what stands at each path, which names and bytes are not settled, and what a stop at each
 //! moment of its past may have left. What is promised of stops anywhere above comes from here: `laws` says what holds over
 //! any disk, and the lemmas for callers compose calls. [`MemoryDisk`] tells everything, fails where it is told to, and
 //! gives the disk that a stop leaves; it serves tests. The real folder is another crate's. The crate that keeps the store

@@ -108,7 +108,7 @@ module _ {C : Type 0} (size : C → ℕ) (es : Entries C) (class : Class) (arch 
         (λ name item usable. keeps.all index name item (inr (refl, none name)) usable)
 
     module _ (rest more : Entries C) (name : List ℕ) (next : Passes directory rest name more) (old new : IndexMap (List ℕ) Seat S) (keeps : Keeps size es class arch hierarchies (passed index directory rest) old) where
-      -- an item whose stem has none yet is the first of its stem
+      -- an item whose stem has none is the first of its stem
       is_first : (item : FoundItem) → IsUsableIn size es class arch hierarchies directory name item → is_some (kept_at old item.name) ≡ false → IsFirst size es class arch hierarchies index name item
       is_first item usable none = record { usable = record { directory = directory; opens = opens; entry = usable }; first = first }
         where

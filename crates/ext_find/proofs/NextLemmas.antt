@@ -39,14 +39,14 @@ point_parts Q (x ∷ xs) (suc i) within at =
     ((at.0 zero x (omega arith) (omega arith), rest.0), rest.1)
 
 -- the front of what a test splits is split
-pub front_partitioned : {X : Type 0} (Q : X → Bool) (xs : List X) (n : ℕ) → n ≤ length xs → IsPartitionedBy Q xs → IsPartitionedBy Q (take n xs)
-front_partitioned Q xs n within split i j d le lt pass =
+pub first_partitioned : {X : Type 0} (Q : X → Bool) (xs : List X) (n : ℕ) → n ≤ length xs → IsPartitionedBy Q xs → IsPartitionedBy Q (take n xs)
+first_partitioned Q xs n within split i j d le lt pass =
     let few : length (take n xs) ≡ n = length-take-le n xs within in
     ap Q (get_or-take n xs i d (omega arith)) ∙ split i j d le (omega arith) (ap Q (sym (get_or-take n xs j d (omega arith))) ∙ pass)
 
 -- a partition point of the front is one of the whole, where nothing past the front passes
-pub point_of_front : {X : Type 0} (Q : X → Bool) (xs : List X) (n i : ℕ) → n ≤ length xs → i ≤ n → IsPartitionPoint (λ x. Q x ≡ true) (λ x. Q x ≡ false) (take n xs) i → AllWithin (λ x. Q x ≡ false) xs n (length xs) → IsPartitionPoint (λ x. Q x ≡ true) (λ x. Q x ≡ false) xs i
-point_of_front Q xs n i within few at past =
+pub point_of_first : {X : Type 0} (Q : X → Bool) (xs : List X) (n i : ℕ) → n ≤ length xs → i ≤ n → IsPartitionPoint (λ x. Q x ≡ true) (λ x. Q x ≡ false) (take n xs) i → AllWithin (λ x. Q x ≡ false) xs n (length xs) → IsPartitionPoint (λ x. Q x ≡ true) (λ x. Q x ≡ false) xs i
+point_of_first Q xs n i within few at past =
     let count : length (take n xs) ≡ n = length-take-le n xs within in (
       λ k d low high. ap Q (sym (get_or-take n xs k d (omega arith))) ∙ at.0 k d low high,
       λ k d low high. elim (nat_lt k n) as (λ b. nat_lt k n ≡ b → Q (get_or xs k d) ≡ false) [
@@ -74,10 +74,10 @@ module _ {C : Type 0} (Q : List (List ℕ) → Bool) where
   where_out [] ys none = refl
   where_out (x ∷ xs) ys none = ap (λ b. cond b (x ∷ where_key path_cmp Q (xs ++ ys)) (where_key path_cmp Q (xs ++ ys))) none.0 ∙ where_out xs ys none.1
 
-  where_front : (xs ys : Entries C) → AllByRecursion (λ e. Q e.0 ≡ true) xs → AllByRecursion (λ e. Q e.0 ≡ false) ys → where_key path_cmp Q (xs ++ ys) ≡ xs
-  where_front [] [] all none = refl
-  where_front [] (y ∷ ys) all none = ap (λ b. cond b (y ∷ where_key path_cmp Q ys) (where_key path_cmp Q ys)) none.0 ∙ where_front [] ys all none.1
-  where_front (x ∷ xs) ys all none = ap (λ b. cond b (x ∷ where_key path_cmp Q (xs ++ ys)) (where_key path_cmp Q (xs ++ ys))) all.0 ∙ ap (λ zs. x ∷ zs) (where_front xs ys all.1 none)
+  where_first : (xs ys : Entries C) → AllByRecursion (λ e. Q e.0 ≡ true) xs → AllByRecursion (λ e. Q e.0 ≡ false) ys → where_key path_cmp Q (xs ++ ys) ≡ xs
+  where_first [] [] all none = refl
+  where_first [] (y ∷ ys) all none = ap (λ b. cond b (y ∷ where_key path_cmp Q ys) (where_key path_cmp Q ys)) none.0 ∙ where_first [] ys all none.1
+  where_first (x ∷ xs) ys all none = ap (λ b. cond b (x ∷ where_key path_cmp Q (xs ++ ys)) (where_key path_cmp Q (xs ++ ys))) all.0 ∙ ap (λ zs. x ∷ zs) (where_first xs ys all.1 none)
 
 all_not : {C : Type 0} (P : List (List ℕ) → Bool) (b : Bool) (es : Entries C) → AllByRecursion (λ e. P e.0 ≡ b) es → AllByRecursion (λ e. not (P e.0) ≡ not b) es
 all_not P b [] all = tt
@@ -187,7 +187,7 @@ module _ {C : Type 0} (es : Entries C) (tree : IsTree es) (directory : List (Lis
   inside_of_rest : where_key path_cmp (is_proper_prefix (directory ++ name ∷ [])) ((directory ++ name ∷ [], x) ∷ (inside ++ more)) ≡ inside
   inside_of_rest =
       ap (λ b. cond b ((directory ++ name ∷ [], x) ∷ where_key path_cmp (is_proper_prefix (directory ++ name ∷ [])) (inside ++ more)) (where_key path_cmp (is_proper_prefix (directory ++ name ∷ [])) (inside ++ more))) (not_below_itself (directory ++ name ∷ []))
-      ∙ where_front (is_proper_prefix (directory ++ name ∷ [])) inside more
+      ∙ where_first (is_proper_prefix (directory ++ name ∷ [])) inside more
       (all_proper (directory ++ name ∷ []) inside at (all_prefix (λ e. path_cmp (directory ++ name ∷ []) e.0 ≡ Less) inside more (all_past (directory ++ name ∷ []) (inside ++ more) sorted_others.0)))
       (none_proper (directory ++ name ∷ []) more past)
 

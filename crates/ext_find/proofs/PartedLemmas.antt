@@ -66,15 +66,15 @@ module _ {C : Type 0} (es : Entries C) (more : List (List ℕ)) where
           record { there = λ end ends. then_.there end (first.there end ends); back = λ end ends. first.back end (then_.back end ends) }
 
 -- a name below a path that leads anywhere stands in the directory to which the path leads
-pub child_leads : {C : Type 0} (es : Entries C) → IsTree es → (path folder end : List (List ℕ)) (name : List ℕ) → Ends es path folder → Ends es (path ++ name ∷ []) end → is_idle name ≡ false → is_up name ≡ false → is_some (lookup es (folder ++ name ∷ [])) ≡ true
-child_leads {C = C} es tree path folder end name first whole plain below =
-    by_entry (lookup es (folder ++ name ∷ [])) refl
+pub child_leads : {C : Type 0} (es : Entries C) → IsTree es → (path directory end : List (List ℕ)) (name : List ℕ) → Ends es path directory → Ends es (path ++ name ∷ []) end → is_idle name ≡ false → is_up name ≡ false → is_some (lookup es (directory ++ name ∷ [])) ≡ true
+child_leads {C = C} es tree path directory end name first whole plain below =
+    by_entry (lookup es (directory ++ name ∷ [])) refl
   where
-    rest : EndsFrom es (walk folder (name ∷ []) first.1) end
-    rest = (parted_from es (name ∷ []) first.0 (walk [] path 0) folder first.1 first.2).there end whole
+    rest : EndsFrom es (walk directory (name ∷ []) first.1) end
+    rest = (parted_from es (name ∷ []) first.0 (walk [] path 0) directory first.1 first.2).there end whole
 
-    by_entry : (o : Option (Entry C)) → lookup es (folder ++ name ∷ []) ≡ o → is_some (lookup es (folder ++ name ∷ [])) ≡ true
-    by_entry None is = absurd (stuck es folder name [] first.1 (step_into es folder name [] first.1 tree plain below ∙ ap (λ o. enter o folder name [] first.1) is) end rest)
+    by_entry : (o : Option (Entry C)) → lookup es (directory ++ name ∷ []) ≡ o → is_some (lookup es (directory ++ name ∷ [])) ≡ true
+    by_entry None is = absurd (stuck es directory name [] first.1 (step_into es directory name [] first.1 tree plain below ∙ ap (λ o. enter o directory name [] first.1) is) end rest)
     by_entry (Some e) is = ap is_some is
 
 -- names with a `_` after some bytes are neither idle nor `..`
@@ -104,13 +104,13 @@ left_none at name left links end used same = no_names (ap left_of same)
 
 module _ {C : Type 0} (es : Entries C) (name : List ℕ) where
   -- a walk that ends past one more name has an end before it
-  first_ends : (count : ℕ) (w : Walk) (used : ℕ) (end : List (List ℕ)) → steps es count (with_more (name ∷ []) w) ≡ Some (walk end [] used) → (folder : List (List ℕ)) × EndsFrom es w folder
+  first_ends : (count : ℕ) (w : Walk) (used : ℕ) (end : List (List ℕ)) → steps es count (with_more (name ∷ []) w) ≡ Some (walk end [] used) → (directory : List (List ℕ)) × EndsFrom es w directory
   first_ends count (walk at [] links) used end ends = (at, (0, links, refl))
   first_ends zero (walk at (n ∷ left) links) used end ends = absurd (left_none at n (left ++ name ∷ []) links end used (from_some ends))
   first_ends (suc count) (walk at (n ∷ left) links) used end ends =
       by_step (λ v rest. first_ends count v used end rest) (step es (walk at (n ∷ left) links)) refl (sym (ap (option_and_then (steps es count)) (more_stepped es (name ∷ []) at n left links)) ∙ ends)
     where
-      by_step : ((v : Walk) → steps es count (with_more (name ∷ []) v) ≡ Some (walk end [] used) → (folder : List (List ℕ)) × EndsFrom es v folder) → (o : Option Walk) → step es (walk at (n ∷ left) links) ≡ o → option_and_then (steps es count) (option_map (with_more (name ∷ [])) o) ≡ Some (walk end [] used) → (folder : List (List ℕ)) × EndsFrom es (walk at (n ∷ left) links) folder
+      by_step : ((v : Walk) → steps es count (with_more (name ∷ []) v) ≡ Some (walk end [] used) → (directory : List (List ℕ)) × EndsFrom es v directory) → (o : Option Walk) → step es (walk at (n ∷ left) links) ≡ o → option_and_then (steps es count) (option_map (with_more (name ∷ [])) o) ≡ Some (walk end [] used) → (directory : List (List ℕ)) × EndsFrom es (walk at (n ∷ left) links) directory
       by_step next None is rest = absurd (no_some rest)
       by_step next (Some v) is rest =
           let there = next v rest in

@@ -71,17 +71,17 @@ module _ {C : Type 0} (es : Entries C) (arch : Arch) (path : List (List ℕ)) (s
 
   -- ---- the best candidate so far
 
-  module _ (folder : List (List ℕ)) (rest more : Entries C) (name : List ℕ) (next : Passes folder rest name more) where
+  module _ (directory : List (List ℕ)) (rest more : Entries C) (name : List ℕ) (next : Passes directory rest name more) where
     -- a candidate that is passed now was passed before or has the name
-    pub best_next : (best found : Option Candidate) → IsBest es arch path stem folder rest best → CandidateAt es arch path stem name found → IsBest es arch path stem folder more (better_of best found)
+    pub best_next : (best found : Option Candidate) → IsBest es arch path stem directory rest best → CandidateAt es arch path stem name found → IsBest es arch path stem directory more (better_of best found)
     best_next None None best none = λ n v candidate passed. by_case n v candidate (next.passed n passed)
       where
-        by_case : (n v : List ℕ) → IsCandidate es arch path stem n v → (lookup rest (folder ++ n ∷ []) ≡ None) ⊎ (n ≡ name) → ⊥
+        by_case : (n v : List ℕ) → IsCandidate es arch path stem n v → (lookup rest (directory ++ n ∷ []) ≡ None) ⊎ (n ≡ name) → ⊥
         by_case n v candidate (inl before) = best n v candidate before
         by_case n v candidate (inr same) = none v (subst (λ m. IsCandidate es arch path stem m v) same candidate)
     best_next None (Some c) best found = (subst (λ m. IsCandidate es arch path stem m c.version.now) (sym found.0) found.1, λ n v candidate passed. by_case n v candidate (next.passed n passed))
       where
-        by_case : (n v : List ℕ) → IsCandidate es arch path stem n v → (lookup rest (folder ++ n ∷ []) ≡ None) ⊎ (n ≡ name) → is_gt (candidate_cmp (v, n) (c.version.now, c.name.now)) ≡ false
+        by_case : (n v : List ℕ) → IsCandidate es arch path stem n v → (lookup rest (directory ++ n ∷ []) ≡ None) ⊎ (n ≡ name) → is_gt (candidate_cmp (v, n) (c.version.now, c.name.now)) ≡ false
         by_case n v candidate (inl before) = absurd (best n v candidate before)
         by_case n v candidate (inr same) =
             let version : v ≡ c.version.now = found.2 v (subst (λ m. IsCandidate es arch path stem m v) same candidate) in
@@ -89,38 +89,38 @@ module _ {C : Type 0} (es : Entries C) (arch : Arch) (path : List (List ℕ)) (s
             same_candidate v c.version.now n c.name.now version named (c.version.now, c.name.now) ∙ not_itself (c.version.now, c.name.now)
     best_next (Some b) None best none = (best.0, λ n v candidate passed. by_case n v candidate (next.passed n passed))
       where
-        by_case : (n v : List ℕ) → IsCandidate es arch path stem n v → (lookup rest (folder ++ n ∷ []) ≡ None) ⊎ (n ≡ name) → is_gt (candidate_cmp (v, n) (b.version.now, b.name.now)) ≡ false
+        by_case : (n v : List ℕ) → IsCandidate es arch path stem n v → (lookup rest (directory ++ n ∷ []) ≡ None) ⊎ (n ≡ name) → is_gt (candidate_cmp (v, n) (b.version.now, b.name.now)) ≡ false
         by_case n v candidate (inl before) = best.1 n v candidate before
         by_case n v candidate (inr same) = absurd (none v (subst (λ m. IsCandidate es arch path stem m v) same candidate))
     best_next (Some b) (Some c) best found =
-        elim (is_gt (candidate_cmp (c.version.now, c.name.now) (b.version.now, b.name.now))) as (λ t. is_gt (candidate_cmp (c.version.now, c.name.now) (b.version.now, b.name.now)) ≡ t → IsBest es arch path stem folder more (cond t (Some c) (Some b))) [
+        elim (is_gt (candidate_cmp (c.version.now, c.name.now) (b.version.now, b.name.now))) as (λ t. is_gt (candidate_cmp (c.version.now, c.name.now) (b.version.now, b.name.now)) ≡ t → IsBest es arch path stem directory more (cond t (Some c) (Some b))) [
           | true ↦ λ above. (subst (λ m. IsCandidate es arch path stem m c.version.now) (sym found.0) found.1, λ n v candidate passed. new n v above candidate (next.passed n passed))
           | false ↦ λ low. (best.0, λ n v candidate passed. old n v low candidate (next.passed n passed))
         ] refl
       where
-        new : (n v : List ℕ) → is_gt (candidate_cmp (c.version.now, c.name.now) (b.version.now, b.name.now)) ≡ true → IsCandidate es arch path stem n v → (lookup rest (folder ++ n ∷ []) ≡ None) ⊎ (n ≡ name) → is_gt (candidate_cmp (v, n) (c.version.now, c.name.now)) ≡ false
+        new : (n v : List ℕ) → is_gt (candidate_cmp (c.version.now, c.name.now) (b.version.now, b.name.now)) ≡ true → IsCandidate es arch path stem n v → (lookup rest (directory ++ n ∷ []) ≡ None) ⊎ (n ≡ name) → is_gt (candidate_cmp (v, n) (c.version.now, c.name.now)) ≡ false
         new n v above candidate (inl before) = below_better (v, n) (b.version.now, b.name.now) (c.version.now, c.name.now) (best.1 n v candidate before) above
         new n v above candidate (inr same) =
             let version : v ≡ c.version.now = found.2 v (subst (λ m. IsCandidate es arch path stem m v) same candidate) in
             let named : n ≡ c.name.now = same ∙ sym found.0 in
             same_candidate v c.version.now n c.name.now version named (c.version.now, c.name.now) ∙ not_itself (c.version.now, c.name.now)
 
-        old : (n v : List ℕ) → is_gt (candidate_cmp (c.version.now, c.name.now) (b.version.now, b.name.now)) ≡ false → IsCandidate es arch path stem n v → (lookup rest (folder ++ n ∷ []) ≡ None) ⊎ (n ≡ name) → is_gt (candidate_cmp (v, n) (b.version.now, b.name.now)) ≡ false
+        old : (n v : List ℕ) → is_gt (candidate_cmp (c.version.now, c.name.now) (b.version.now, b.name.now)) ≡ false → IsCandidate es arch path stem n v → (lookup rest (directory ++ n ∷ []) ≡ None) ⊎ (n ≡ name) → is_gt (candidate_cmp (v, n) (b.version.now, b.name.now)) ≡ false
         old n v low candidate (inl before) = best.1 n v candidate before
         old n v low candidate (inr same) =
             let version : v ≡ c.version.now = found.2 v (subst (λ m. IsCandidate es arch path stem m v) same candidate) in
             let named : n ≡ c.name.now = same ∙ sym found.0 in
             same_candidate v c.version.now n c.name.now version named (b.version.now, b.name.now) ∙ low
 
-  -- a candidate stands in the folder
-  pub candidate_there : IsTree es → (folder : List (List ℕ)) (name version : List ℕ) → Ends es path folder → IsCandidate es arch path stem name version → is_some (lookup es (folder ++ name ∷ [])) ≡ true
-  candidate_there tree folder name version ends candidate =
-      child_leads es tree path folder candidate.leads.0 name ends candidate.leads.1 (ap is_idle candidate.named ∙ plain_name stem candidate.text) (ap is_up candidate.named ∙ not_up stem candidate.text)
+  -- a candidate stands in the directory
+  pub candidate_there : IsTree es → (directory : List (List ℕ)) (name version : List ℕ) → Ends es path directory → IsCandidate es arch path stem name version → is_some (lookup es (directory ++ name ∷ [])) ≡ true
+  candidate_there tree directory name version ends candidate =
+      child_leads es tree path directory candidate.leads.0 name ends candidate.leads.1 (ap is_idle candidate.named ∙ plain_name stem candidate.text) (ap is_up candidate.named ∙ not_up stem candidate.text)
 
   -- once none is left the best is the pick
-  pub picked : (folder : List (List ℕ)) (rest : Entries C) (best : Option Candidate) → ((n : List ℕ) → lookup rest (folder ++ n ∷ []) ≡ None) → IsBest es arch path stem folder rest best → Picks es arch path stem (option_map (λ c. c.name) best)
-  picked folder rest None none best = λ n pick. best n pick.version pick.candidate (none n)
-  picked folder rest (Some c) none best = record { version = c.version.now; candidate = best.0; greatest = λ n v candidate. best.1 n v candidate (none n) }
+  pub picked : (directory : List (List ℕ)) (rest : Entries C) (best : Option Candidate) → ((n : List ℕ) → lookup rest (directory ++ n ∷ []) ≡ None) → IsBest es arch path stem directory rest best → Picks es arch path stem (option_map (λ c. c.name) best)
+  picked directory rest None none best = λ n pick. best n pick.version pick.candidate (none n)
+  picked directory rest (Some c) none best = record { version = c.version.now; candidate = best.0; greatest = λ n v candidate. best.1 n v candidate (none n) }
 
 -- ---- the names of candidates
 
@@ -162,10 +162,10 @@ past_start arch start name text o begins is reads = go o reads
 begins : (start text : List ℕ) → starts_with nat_eq (start ++ text) start ≡ true
 begins start text = texts_ties start (take (length start) (start ++ text)) ∙ tied_name start (take (length start) (start ++ text)) (sym (take-append_seam start text))
 
--- each candidate is among the names that the folder has with these first bytes
-pub candidates_left : {C : Type 0} (es : Entries C) (arch : Arch) (path : List (List ℕ)) (stem start : List ℕ) (folder : List (List ℕ)) (rest : Entries C) → IsTree es → Ends es path folder → start ≡ stem ++ 95 ∷ [] → rest ≡ where_key path_cmp (is_named folder start) es → (name version : List ℕ) → IsCandidate es arch path stem name version → ¬ (lookup rest (folder ++ name ∷ []) ≡ None)
-candidates_left es arch path stem start folder rest tree ends is kept name version candidate none =
-    let named : is_named folder start (folder ++ name ∷ []) ≡ true = named_child folder start name ∙ ap (λ n. starts_with nat_eq n start) (start_text es arch path stem start name is candidate.text candidate.named) ∙ begins start candidate.text in
-    false≢true (sym (ap is_some none) ∙ ap (λ fs. is_some (lookup fs (folder ++ name ∷ []))) kept
-    ∙ ap is_some (lookup_where (is_named folder start) (folder ++ name ∷ []) es ∙ ap (λ b. cond b (lookup es (folder ++ name ∷ [])) None) named)
-    ∙ candidate_there es arch path stem tree folder name version ends candidate)
+-- each candidate is among the names that the directory has with these first bytes
+pub candidates_left : {C : Type 0} (es : Entries C) (arch : Arch) (path : List (List ℕ)) (stem start : List ℕ) (directory : List (List ℕ)) (rest : Entries C) → IsTree es → Ends es path directory → start ≡ stem ++ 95 ∷ [] → rest ≡ where_key path_cmp (is_named directory start) es → (name version : List ℕ) → IsCandidate es arch path stem name version → ¬ (lookup rest (directory ++ name ∷ []) ≡ None)
+candidates_left es arch path stem start directory rest tree ends is kept name version candidate none =
+    let named : is_named directory start (directory ++ name ∷ []) ≡ true = named_child directory start name ∙ ap (λ n. starts_with nat_eq n start) (start_text es arch path stem start name is candidate.text candidate.named) ∙ begins start candidate.text in
+    false≢true (sym (ap is_some none) ∙ ap (λ fs. is_some (lookup fs (directory ++ name ∷ []))) kept
+    ∙ ap is_some (lookup_where (is_named directory start) (directory ++ name ∷ []) es ∙ ap (λ b. cond b (lookup es (directory ++ name ∷ [])) None) named)
+    ∙ candidate_there es arch path stem tree directory name version ends candidate)

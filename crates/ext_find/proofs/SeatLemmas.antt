@@ -53,8 +53,8 @@ module _ {C : Type 0} (size : C → ℕ) (es : Entries C) (class : Class) (arch 
   pick_leads tree path stem name pick =
       path_leads es tree path pick.candidate.leads.0 name pick.candidate.leads.1 (ap is_idle pick.candidate.named ∙ plain_name stem pick.candidate.text) (ap is_up pick.candidate.named ∙ not_up stem pick.candidate.text)
 
-  pub none_without_folder : IsTree es → (path : List (List ℕ)) (stem : List ℕ) → ¬ LeadsToDirectory es path → PickedAt size es class arch hierarchies path stem None
-  none_without_folder tree path stem none place within at leads = none (pick_leads tree path stem at.0 at.2)
+  pub none_without_directory : IsTree es → (path : List (List ℕ)) (stem : List ℕ) → ¬ LeadsToDirectory es path → PickedAt size es class arch hierarchies path stem None
+  none_without_directory tree path stem none place within at leads = none (pick_leads tree path stem at.0 at.2)
 
   pub none_picked : (path : List (List ℕ)) (stem : List ℕ) → Picks es arch path stem None → PickedAt size es class arch hierarchies path stem None
   none_picked path stem none place within at leads = none at.0 at.2

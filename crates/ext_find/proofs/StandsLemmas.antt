@@ -98,32 +98,32 @@ module _ {C : Type 0} (es : Entries C) (tree : IsTree es) where
 
   -- ---- a name in a directory to which names lead
 
-  module _ (path folder : List (List ℕ)) (name : List ℕ) (first : Ends es path folder) (is : is_some (lookup es (folder ++ name ∷ [])) ≡ true) where
+  module _ (path directory : List (List ℕ)) (name : List ℕ) (first : Ends es path directory) (is : is_some (lookup es (directory ++ name ∷ [])) ≡ true) where
     named : IsName name
-    named = (all_back IsName folder (name ∷ []) (tree.paths (folder ++ name ∷ []) is).each).0
+    named = (all_back IsName directory (name ∷ []) (tree.paths (directory ++ name ∷ []) is).each).0
 
-    entering : (o : Option (Entry C)) → lookup es (folder ++ name ∷ []) ≡ o → step es (walk folder (name ∷ []) first.1) ≡ enter o folder name [] first.1
-    entering o at = step_into es folder name [] first.1 tree (name_plain name named) (name_not_up name named) ∙ ap (λ o. enter o folder name [] first.1) at
+    entering : (o : Option (Entry C)) → lookup es (directory ++ name ∷ []) ≡ o → step es (walk directory (name ∷ []) first.1) ≡ enter o directory name [] first.1
+    entering o at = step_into es directory name [] first.1 tree (name_plain name named) (name_not_up name named) ∙ ap (λ o. enter o directory name [] first.1) at
 
-    child_ends : (o : Option (Entry C)) → lookup es (folder ++ name ∷ []) ≡ o → is_standing o ≡ true → Ends es (path ++ name ∷ []) (folder ++ name ∷ [])
+    child_ends : (o : Option (Entry C)) → lookup es (directory ++ name ∷ []) ≡ o → is_standing o ≡ true → Ends es (path ++ name ∷ []) (directory ++ name ∷ [])
     child_ends o at stands =
-        (parted_from es (name ∷ []) first.0 (walk [] path 0) folder first.1 first.2).back (folder ++ name ∷ [])
-        ((same_step es (walk folder (name ∷ []) first.1) (walk (folder ++ name ∷ []) [] first.1) (entering o at ∙ entered o folder name [] first.1 stands)).back (folder ++ name ∷ []) (0, first.1, refl))
+        (parted_from es (name ∷ []) first.0 (walk [] path 0) directory first.1 first.2).back (directory ++ name ∷ [])
+        ((same_step es (walk directory (name ∷ []) first.1) (walk (directory ++ name ∷ []) [] first.1) (entering o at ∙ entered o directory name [] first.1 stands)).back (directory ++ name ∷ []) (0, first.1, refl))
 
     not_root : (p : List (List ℕ)) → 0 < length p → is_directory_at (lookup es p) ≡ false → is_directory_or_root es p ≡ false
     not_root [] some none = absurd (omega arith)
     not_root (n ∷ p) some none = none
 
     -- where no link stands there, it leads to a directory exactly where one stands there
-    pub child_leads_on : (e : Entry C) → lookup es (folder ++ name ∷ []) ≡ Some e → is_link e ≡ false → IsTrue (is_directory e) ↔ LeadsToDirectory es (path ++ name ∷ [])
-    child_leads_on (Dir mode) at plain = (λ _. (folder ++ name ∷ [], child_ends (Some (Dir mode)) at refl, dir_directory es (folder ++ name ∷ []) (ap is_directory_at at)), λ _. refl)
-    child_leads_on (Opaque mode) at plain = (λ _. (folder ++ name ∷ [], child_ends (Some (Opaque mode)) at refl, dir_directory es (folder ++ name ∷ []) (ap is_directory_at at)), λ _. refl)
+    pub child_leads_on : (e : Entry C) → lookup es (directory ++ name ∷ []) ≡ Some e → is_link e ≡ false → IsTrue (is_directory e) ↔ LeadsToDirectory es (path ++ name ∷ [])
+    child_leads_on (Dir mode) at plain = (λ _. (directory ++ name ∷ [], child_ends (Some (Dir mode)) at refl, dir_directory es (directory ++ name ∷ []) (ap is_directory_at at)), λ _. refl)
+    child_leads_on (Opaque mode) at plain = (λ _. (directory ++ name ∷ [], child_ends (Some (Opaque mode)) at refl, dir_directory es (directory ++ name ∷ []) (ap is_directory_at at)), λ _. refl)
     child_leads_on (File mode content) at plain = (
       λ is. absurd (false≢true is),
-      λ leads. absurd (other_directory es (path ++ name ∷ []) (folder ++ name ∷ []) (child_ends (Some (File mode content)) at refl) (not_root (folder ++ name ∷ []) (omega (arith, length-append folder (name ∷ []))) (ap is_directory_at at)) leads),
+      λ leads. absurd (other_directory es (path ++ name ∷ []) (directory ++ name ∷ []) (child_ends (Some (File mode content)) at refl) (not_root (directory ++ name ∷ []) (omega (arith, length-append directory (name ∷ []))) (ap is_directory_at at)) leads),
     )
     child_leads_on (Link target) at plain = absurd (false≢true (sym plain))
     child_leads_on Hide at plain = (
       λ is. absurd (false≢true is),
-      λ leads. absurd (stuck es folder name [] first.1 (entering (Some Hide) at) leads.0 ((parted_from es (name ∷ []) first.0 (walk [] path 0) folder first.1 first.2).there leads.0 leads.1)),
+      λ leads. absurd (stuck es directory name [] first.1 (entering (Some Hide) at) leads.0 ((parted_from es (name ∷ []) first.0 (walk [] path 0) directory first.1 first.2).there leads.0 leads.1)),
     )

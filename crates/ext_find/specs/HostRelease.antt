@@ -60,7 +60,7 @@ pub record IsGiven (told : Told) (held : HeldFile) (bytes : List ℕ) : Type 0 w
   pub as_told : IsTold told bytes
   pub stamped : IsStampOf bytes held.stamp
 
--- an error of the shelf other than want of memory, by its cause
+-- an error of the shelf by its cause; never one of memory
 abbrev pub ShelfFault : ℕ → ℕ → Told → HeldFile → ShelfErr → Type 0
 ShelfFault old new told held shelf_errors.OutOfMemory = ⊥
 ShelfFault old new told held shelf_errors.Fault = ShelfCause old new told held shelf_errors.Fault

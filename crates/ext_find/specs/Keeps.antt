@@ -14,7 +14,7 @@ use Rattle.ext_find.specs.declared.seat.Seat.{Seat}
 abbrev pub kept_at : {S : Type 0} → IndexMap (List ℕ) Seat S → List ℕ → Option Seat
 kept_at m stem = get (pointwise nat_eq) m stem
 
--- an item is kept where its stem has none yet
+-- an item is kept where its stem has none
 abbrev pub KeepsToo : {S : Type 0} → IndexMap (List ℕ) Seat S → IndexMap (List ℕ) Seat S → Option FoundItem → Type 0
 KeepsToo old new None = (q : List ℕ) → kept_at new q ≡ kept_at old q
 KeepsToo old new (Some item) =

@@ -42,12 +42,12 @@ CandidateAt es arch path stem name (Some c) =
     (c.name.now ≡ name) × IsCandidate es arch path stem name c.version.now
     × ((version : List ℕ) → IsCandidate es arch path stem name version → version ≡ c.version.now)
 
--- the greatest candidate of those that are passed, once the entries of the folder are left
+-- the greatest candidate of those that are passed, once the entries of the directory are left
 abbrev pub IsBest : {C : Type 0} → Entries C → Arch → List (List ℕ) → List ℕ → List (List ℕ) → Entries C → Option Candidate → Type 0
-IsBest es arch path stem folder rest None = (name version : List ℕ) → IsCandidate es arch path stem name version → ¬ (lookup rest (folder ++ name ∷ []) ≡ None)
-IsBest es arch path stem folder rest (Some c) =
+IsBest es arch path stem directory rest None = (name version : List ℕ) → IsCandidate es arch path stem name version → ¬ (lookup rest (directory ++ name ∷ []) ≡ None)
+IsBest es arch path stem directory rest (Some c) =
     IsCandidate es arch path stem c.name.now c.version.now
-    × ((name version : List ℕ) → IsCandidate es arch path stem name version → lookup rest (folder ++ name ∷ []) ≡ None → is_gt (candidate_cmp (version, name) (c.version.now, c.name.now)) ≡ false)
+    × ((name version : List ℕ) → IsCandidate es arch path stem name version → lookup rest (directory ++ name ∷ []) ≡ None → is_gt (candidate_cmp (version, name) (c.version.now, c.name.now)) ≡ false)
 
 -- the greater of two candidates, the first where neither is
 abbrev pub better_of : Option Candidate → Option Candidate → Option Candidate

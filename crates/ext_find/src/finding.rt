@@ -114,7 +114,7 @@ fn keep_names<C: Measured>(
     }
 }
 
-// Keeps an item whose stem has none yet.
+// Keeps an item whose stem has none.
 fn keep_item(kept: &mut Kept, item: Option<FoundItem>) -> Result<(), OutOfMemory>
     ensures { OnOk result (KeepsToo kept.old kept.new item) }
 {

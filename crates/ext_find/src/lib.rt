@@ -21,8 +21,6 @@ mod row;
 mod search;
 mod seat;
 mod stem;
-#[cfg(test)]
-mod tests;
 mod usable;
 mod version;
 

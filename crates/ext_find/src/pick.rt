@@ -23,25 +23,25 @@ pub struct Candidate<'a> {
     pub(crate) version: &'a [u8],
 }
 
-// The name of the candidate that no other exceeds. The folder is the directory to which the path leads.
+// The name of the candidate that no other exceeds. The path leads to the directory.
 pub(crate) fn pick<'a, C>(
     alloc: Global,
     base: &'a Tree<C>,
     arch: Arch,
     path: &Path,
-    folder: &[Name],
+    directory: &[Name],
     stem: &[u8],
 ) -> Result<Option<&'a Name>, OutOfMemory>
-    requires { Ends base.now path.now folder.now }
+    requires { Ends base.now path.now directory.now }
     ensures { IfOk result (Picks base.now arch path.now stem.now) }
 {
     // `pairs` says of the base that it is a tree.
     let _entries = base.pairs();
     let start = joined(alloc, stem, b"_")?;
     let mut best = None;
-    let mut rest = base.named(folder, start.as_slice());
+    let mut rest = base.named(directory, start.as_slice());
     'names: loop {
-        match next_name(base, rest, folder) {
+        match next_name(base, rest, directory) {
             None => return Ok(name_of(best)),
             Some(next) => {
                 let found = candidate_at(alloc, base, arch, path, start.as_slice(), &next)?;
@@ -88,8 +88,7 @@ fn exceeds(new: Candidate, old: Candidate) -> bool
         .is_gt()
 }
 
-// The candidate of the name at which an entry of the folder stands; the bytes before its version are the stem and `_`. The
-// folder is the directory to which the path leads.
+// The candidate of the name at which an entry of the directory stands; the bytes before its version are the stem and `_`.
 fn candidate_at<'a, C>(
     alloc: Global,
     base: &Tree<C>,
@@ -99,7 +98,7 @@ fn candidate_at<'a, C>(
     next: &Next<'a, C>,
 ) -> Result<Option<Candidate<'a>>, OutOfMemory>
     requires { Stands base.now next.now }
-    ensures { (folder : List (List ℕ)) (stem : List ℕ) → Ends base.now path.now folder → next.now.entry.now.0 ≡ folder ++ next.now.name.now ∷ [] → start.now ≡ stem ++ 95 ∷ [] → IfOk result (CandidateAt base.now arch path.now stem next.now.name.now) }
+    ensures { (directory : List (List ℕ)) (stem : List ℕ) → Ends base.now path.now directory → next.now.entry.now.0 ≡ directory ++ next.now.name.now ∷ [] → start.now ≡ stem ++ 95 ∷ [] → IfOk result (CandidateAt base.now arch path.now stem next.now.name.now) }
 {
     let name = next.name;
     match version_after(name.bytes(), start, arch) {
@@ -122,7 +121,7 @@ fn leads_at<C>(
     next: &Next<C>,
 ) -> Result<bool, OutOfMemory>
     requires { Stands base.now next.now }
-    ensures { (folder : List (List ℕ)) → Ends base.now path.now folder → next.now.entry.now.0 ≡ folder ++ next.now.name.now ∷ [] → IfOk result (λ leads. IsTrue leads ↔ LeadsToDirectory base.now (path.now ++ next.now.name.now ∷ [])) }
+    ensures { (directory : List (List ℕ)) → Ends base.now path.now directory → next.now.entry.now.0 ≡ directory ++ next.now.name.now ∷ [] → IfOk result (λ leads. IsTrue leads ↔ LeadsToDirectory base.now (path.now ++ next.now.name.now ∷ [])) }
 {
     let _entries = base.pairs();
     let (_path, entry) = next.entry;

@@ -25,7 +25,7 @@ pub enum FindErr {
         /// The first line that is, counted from 1.
         line: u64,
     },
-    /// The shelf did not give the file's bytes; never for want of memory.
+    /// The shelf did not give the file's bytes; never where memory ran out.
     #[error("the host's release file is not given")]
     Shelf(ShelfErr),
 }

@@ -43,13 +43,13 @@ pub(crate) fn next_name<'a, C>(
     }
 }
 
-// How many of the first entries have the name. Those are few, most times, so they are searched near the front.
+// How many of the first entries have the name. Those are few, most times, so they are searched near the first.
 fn count_named<C>(entries: &[(Path, Entry<C>)], depth: usize, name: &Name) -> usize
     ensures within { result ≤ length entries.now }
     ensures point { IsPartitionedBy (has_name depth name.now) entries.now → IsPartitionPoint (λ e. has_name depth name.now e ≡ true) (λ e. has_name depth name.now e ≡ false) entries.now result }
 {
-    let (front, _far) = entries.split_at(reach_of(entries, depth, name));
-    front.partition_point(|entry| has_name(entry, depth, name))
+    let (near, _far) = entries.split_at(reach_of(entries, depth, name));
+    near.partition_point(|entry| has_name(entry, depth, name))
 }
 
 // How many of the first entries to search: no other has the name.

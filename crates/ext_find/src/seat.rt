@@ -48,8 +48,8 @@ pub(crate) fn seat_at<C: Measured>(
         ),
         Ending::DotV => picked(search, path, stem),
         Ending::DotRawV => {
-            let folder = directory_at(search.alloc, search.base, path.names())?;
-            raw_at(path, folder.is_some())
+            let directory = directory_at(search.alloc, search.base, path.names())?;
+            raw_at(path, directory.is_some())
         }
     }
 }
@@ -89,18 +89,18 @@ fn picked<C: Measured>(
     let _entries = search.base.pairs();
     match directory_at(search.alloc, search.base, path.names())? {
         None => Ok(None),
-        Some(folder) => picked_in(search, path, folder, stem),
+        Some(directory) => picked_in(search, path, directory, stem),
     }
 }
 
-// The same; the folder is the directory to which the path leads.
+// The image that is picked of the directory to which the path leads.
 fn picked_in<C: Measured>(
     search: &Search<C>,
     path: &Path,
-    folder: &[Name],
+    directory: &[Name],
     stem: &Name,
 ) -> Result<Option<Seat>, OutOfMemory>
-    requires { Ends search.now.base.now path.now folder.now }
+    requires { Ends search.now.base.now path.now directory.now }
     ensures { IfOk result (PickedAt C.size search.now.base.now search.now.class search.now.arch search.now.hierarchies.now path.now stem.now) }
 {
     let name = pick(
@@ -108,7 +108,7 @@ fn picked_in<C: Measured>(
         search.base,
         search.arch,
         path,
-        folder,
+        directory,
         stem.bytes(),
     )?;
     match name {

@@ -3,25 +3,32 @@ ghost use Rattle.ext_text.specs.Causes.{HasCause, Rose};
 ghost use Rattle.ext_folder.specs.Folder.{counted};
 
 use crate::folder_err::FolderErr;
-use crate::location::location;
+use crate::location::{is_location, location};
+use crate::reader::Reader;
 use ext_disk::Kind;
-use ext_io::{Failed, next_count, read_again};
+use ext_io::{Failed, next_count};
 use ext_text::{Path, Text};
 use std::fs::{Files, Metadata, OpenFile};
-use std::io::{ErrorKind, Seek, SeekFrom};
+use std::io::ErrorKind;
 use std::marker::Model;
 use std::{fs, io};
 
 /// A folder of the system, and how often a call on it failed. Links are followed. A file is opened only where it was found
 /// to be one, since opening a pipe would wait for its other end.
+///
+/// The file that is read stays open until its end was read, or another one is; a read that goes on where the last one ended
+/// asks the system for nothing else.
 #[derive(Drop)]
-pub(crate) struct Folder<R> {
+pub(crate) struct Folder<R: Files> {
     pub(crate) rt: R,
     root: Text,
     faults: u64,
+    // Where the last call that looked found a file.
+    found: Option<String>,
+    reader: Option<Reader<R>>,
 }
 
-impl<R> Model for Folder<R> {
+impl<R: Files> Model for Folder<R> {
     ghost use Rattle.ext_folder.specs.Folder.{FolderView};
 
     ghost Value = { FolderView };
@@ -37,6 +44,8 @@ impl<R: Files> Folder<R> {
             rt,
             root,
             faults: 0,
+            found: None,
+            reader: None,
         }
     }
 
@@ -114,18 +123,74 @@ impl<R: Files> Folder<R> {
         }
     }
 
-    /// Reads bytes of the file at a path, from the byte `at` on, and gives how many. At or past the end, by the file's size,
-    /// nothing is asked for: a file system knows a largest offset, and refuses to go past it.
-    pub(crate) fn read(&self, path: &Path, at: u64, buf: &mut [u8]) -> Result<usize, FolderErr>
-        ensures { IfOk result (λ count. count ≤ length buf.new) }
+    /// What stands at a path, as at its location.
+    pub(crate) fn look(&mut self, path: &Path) -> Result<Option<Kind>, FolderErr>
+        ensures { self.new ≡ self.old }
     {
         let location = self.location(path)?;
-        if at >= self.file(location.as_str())?.len() {
-            return Ok(0);
+        let kind = self.kind(location.as_str())?;
+        self.found = match kind {
+            Some(Kind::File(_size)) => Some(location),
+            Some(Kind::Dir) | None => None,
+        };
+        Ok(kind)
+    }
+
+    /// Whether a location is that of a path.
+    pub(crate) fn is_location(&self, location: &str, path: &Path) -> bool {
+        is_location(location, &self.root, path)
+    }
+
+    /// Reads bytes of the file at a path, from the byte `at` on, and gives how many. At or past the end, by the file's size,
+    /// nothing is asked for: a file system knows a largest offset, and refuses to go past it.
+    pub(crate) fn read(&mut self, path: &Path, at: u64, buf: &mut [u8]) -> Result<usize, FolderErr>
+        ensures same { self.new ≡ self.old }
+        ensures within { IfOk result (λ count. count ≤ length buf.new) }
+    {
+        let found = self.found.take();
+        let mut reader = match self.reader.take() {
+            Some(reader) if reader.is_next(at) && self.is_location(reader.location(), path) =>
+                reader,
+            _ => match self.opened(path, at, found)? {
+                Some(reader) => reader,
+                None => return Ok(0),
+            },
+        };
+        let count = reader.read(buf)?;
+        if count > 0 {
+            self.reader = Some(reader);
         }
-        let mut file = fs::open(&self.rt, location.as_str())?;
-        file.seek(SeekFrom::Start(at))?;
-        Ok(read_again(&mut file, buf)?)
+        Ok(count)
+    }
+
+    // The file at a path, open at its byte `at`; `None` where it ends before. At its first byte it is not looked for where the
+    // call before found it.
+    fn opened(
+        &self,
+        path: &Path,
+        at: u64,
+        found: Option<String>,
+    ) -> Result<Option<Reader<R>>, FolderErr> {
+        match found {
+            Some(found) if at == 0 && self.is_location(found.as_str(), path) => {
+                Ok(Some(Reader::open(&self.rt, found, at)?))
+            }
+            _ => {
+                let location = self.location(path)?;
+                if at >= self.file(location.as_str())?.len() {
+                    return Ok(None);
+                }
+                Ok(Some(Reader::open(&self.rt, location, at)?))
+            }
+        }
+    }
+
+    /// Closes what is open for reading, and forgets where a file was found: a path may lead elsewhere from now on.
+    pub(crate) fn forget(&mut self)
+        ensures { self.new ≡ self.old }
+    {
+        self.found = None;
+        self.reader = None;
     }
 
     /// Waits until what was written to the entry at a location is on the disk: a file's bytes and length, a folder's names.

@@ -15,13 +15,16 @@ use std::marker::Model;
 /// A folder of the system as a depot, which has the files in it and below it. It tells nothing of them.
 ///
 /// Links are followed. An entry that is neither a file nor a folder is a fault, and so is a link that leads nowhere.
-/// Everything that the system refuses is one, and so is want of memory.
+/// Everything that the system refuses is one, and so is a failed allocation.
+///
+/// The file that is read stays open until its end was read, or another one is: who reads it piece after piece reads one file,
+/// also where another one is put in its place meanwhile.
 #[derive(Drop)]
-pub struct FolderDepot<R> {
+pub struct FolderDepot<R: Files> {
     folder: Folder<R>,
 }
 
-impl<R> Model for FolderDepot<R> {
+impl<R: Files> Model for FolderDepot<R> {
     ghost use Rattle.ext_folder.specs.Folder.{FolderView};
 
     ghost Value = { FolderView };
@@ -40,9 +43,10 @@ impl<R: Files> FolderDepot<R> {
     }
 
     // The size of the file at the path, if one stands there.
-    fn file_size(&self, path: &Path) -> Result<Option<u64>, FolderErr> {
-        let location = self.folder.location(path)?;
-        match self.folder.kind(location.as_str())? {
+    fn file_size(&mut self, path: &Path) -> Result<Option<u64>, FolderErr>
+        ensures { self.new ≡ self.old }
+    {
+        match self.folder.look(path)? {
             Some(Kind::File(size)) => Ok(Some(size)),
             Some(Kind::Dir) | None => Ok(None),
         }

@@ -19,10 +19,12 @@ use std::marker::Model;
 ///
 /// Links are followed, but `rename` and `remove` act on the entry itself; a link to a folder is a fault there. An entry
 /// that is neither a file nor a folder is a fault everywhere, and so is a link that leads nowhere. Everything that the
-/// system refuses is one, and so is want of memory, but in `list`.
+/// system refuses is one, and so is a failed allocation, but in `list`.
 ///
-/// The file that was made or appended to last stays open until it is synced, or until another one is made or appended to.
-/// It is used again only where its path still leads to it, so that no answer comes to differ.
+/// The file that was made or appended to last stays open until it is synced, or until another one is made or appended to;
+/// and the file that is read, until its end was read or another one is. Where something was renamed or removed meanwhile, a
+/// file that stayed open is used again only where its path still leads to it: so no call of the disk changes what another one
+/// comes to. What others do to the folder meanwhile is not looked for.
 #[derive(Drop)]
 pub struct FolderDisk<R: Files> {
     folder: Folder<R>,
@@ -46,11 +48,6 @@ impl<R: Files> FolderDisk<R> {
             folder: Folder::new(rt, root),
             last: None,
         }
-    }
-
-    fn try_kind(&self, path: &Path) -> Result<Option<Kind>, FolderErr> {
-        let location = self.folder.location(path)?;
-        self.folder.kind(location.as_str())
     }
 
     fn try_make_dir(&self, path: &Path) -> Result<(), FolderErr> {
@@ -80,11 +77,13 @@ impl<R: Files> FolderDisk<R> {
     fn take_writer(&mut self, path: &Path) -> Result<Writer<R>, FolderErr>
         ensures { self.new ≡ self.old }
     {
-        let location = self.folder.location(path)?;
-        let found = self.folder.file(location.as_str())?;
-        match self.last.take() {
-            Some(last) if last.is_at(location.as_str(), &found) => Ok(last),
-            _ => Writer::open(&self.folder.rt, location),
+        match self.take_last(path)? {
+            Some(last) => Ok(last),
+            None => {
+                let location = self.folder.location(path)?;
+                self.folder.file(location.as_str())?;
+                Writer::open(&self.folder.rt, location)
+            }
         }
     }
 
@@ -92,14 +91,35 @@ impl<R: Files> FolderDisk<R> {
     fn try_sync_file(&mut self, path: &Path) -> Result<(), FolderErr>
         ensures { self.new ≡ self.old }
     {
-        let location = self.folder.location(path)?;
-        let found = self.folder.file(location.as_str())?;
-        match self.last.take() {
-            Some(last) if last.is_at(location.as_str(), &found) => last.sync(),
-            other => {
-                self.last = other;
+        match self.take_last(path)? {
+            Some(last) => last.sync(),
+            None => {
+                let location = self.folder.location(path)?;
+                self.folder.file(location.as_str())?;
                 self.folder.sync(location.as_str())
             }
+        }
+    }
+
+    // The file that stayed open, where the path leads to it. Another one stays open.
+    fn take_last(&mut self, path: &Path) -> Result<Option<Writer<R>>, FolderErr>
+        ensures { self.new ≡ self.old }
+    {
+        match self.last.take() {
+            Some(last) if self.folder.is_location(last.location(), path) => self.still_led_to(last),
+            other => {
+                self.last = other;
+                Ok(None)
+            }
+        }
+    }
+
+    // The file that stayed open, where its location leads to it also after what was renamed or removed.
+    fn still_led_to(&self, last: Writer<R>) -> Result<Option<Writer<R>>, FolderErr> {
+        if last.is_sure() || last.is_same(&self.folder.file(last.location())?)? {
+            Ok(Some(last))
+        } else {
+            Ok(None)
         }
     }
 
@@ -117,6 +137,7 @@ impl<R: Files> FolderDisk<R> {
         let to = self.folder.location_below_root(to)?;
         self.folder.file(from.as_str())?;
         self.folder.need_no_folder(to.as_str())?;
+        self.may_lead_elsewhere();
         fs::rename(&self.folder.rt, from.as_str(), to.as_str())?;
         self.close_at(from.as_str());
         self.close_at(to.as_str());
@@ -127,6 +148,7 @@ impl<R: Files> FolderDisk<R> {
         ensures { self.new ≡ self.old }
     {
         let location = self.folder.location_below_root(path)?;
+        self.may_lead_elsewhere();
         match self.folder.kind(location.as_str())? {
             Some(Kind::Dir) => fs::remove_dir(&self.folder.rt, location.as_str())?,
             Some(Kind::File(_size)) => fs::remove_file(&self.folder.rt, location.as_str())?,
@@ -134,6 +156,17 @@ impl<R: Files> FolderDisk<R> {
         }
         self.close_at(location.as_str());
         Ok(())
+    }
+
+    // Something is to be renamed or removed, so any path may lead elsewhere afterwards, by links too.
+    fn may_lead_elsewhere(&mut self)
+        ensures { self.new ≡ self.old }
+    {
+        self.folder.forget();
+        self.last = match self.last.take() {
+            Some(last) => Some(last.unsure()),
+            None => None,
+        };
     }
 
     // Closes the file that stayed open, where it was opened at the location or below it.
@@ -179,7 +212,7 @@ impl<R: Files> Disk for FolderDisk<R> {
         ensures cause { HasCause result self.old.faults self.new.faults }
         ensures exact { self.new ≡ counted self.old (is_ok result) }
     {
-        let kind = self.try_kind(path);
+        let kind = self.folder.look(path);
         self.folder.settle(kind)
     }
 

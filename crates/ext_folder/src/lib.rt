@@ -12,6 +12,7 @@ mod folder_disk;
 mod folder_err;
 mod listing;
 mod location;
+mod reader;
 mod writer;
 
 pub use folder_depot::FolderDepot;

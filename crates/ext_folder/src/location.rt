@@ -1,5 +1,5 @@
 use crate::folder_err::FolderErr;
-use ext_text::{OutOfMemory, Path, Text};
+use ext_text::{Name, OutOfMemory, Path, Text};
 
 /// The system's path of what stands at a path below a root. An empty root names no folder, and neither does any path
 /// below it: the system finds nothing at the empty path.
@@ -21,6 +21,34 @@ fn joined(root: &Text, path: &Path) -> Result<Vec<u8>, OutOfMemory> {
         path.append_to(&mut bytes)?;
     }
     Ok(bytes)
+}
+
+/// Whether a location is that of a path below a root.
+pub(crate) fn is_location(location: &str, root: &Text, path: &Path) -> bool {
+    match location.as_bytes().strip_prefix(root.bytes()) {
+        Some(rest) => are_below(rest, path.names()),
+        None => false,
+    }
+}
+
+// Whether a text is that of names, each after a slash.
+fn are_below(text: &[u8], names: &[Name]) -> bool {
+    let mut rest = text;
+    for name in names {
+        match after_name(rest, name) {
+            Some(after) => rest = after,
+            None => return false,
+        }
+    }
+    rest.is_empty()
+}
+
+// What follows a slash and a name at the start of a text.
+fn after_name<'a>(text: &'a [u8], name: &Name) -> Option<&'a [u8]> {
+    match text.strip_prefix(b"/".as_slice()) {
+        Some(rest) => rest.strip_prefix(name.bytes()),
+        None => None,
+    }
 }
 
 /// Whether a location is another one, or lies below it.

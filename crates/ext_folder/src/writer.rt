@@ -12,8 +12,8 @@ use std::os::unix::fs::MetadataExt;
 pub(crate) struct Writer<R: Files> {
     location: String,
     file: R::File,
-    device: u64,
-    number: u64,
+    // Whether nothing was renamed or removed since it was opened.
+    sure: bool,
 }
 
 impl<R: Files> Writer<R> {
@@ -37,20 +37,38 @@ impl<R: Files> Writer<R> {
         let mut how = OpenOptions::new();
         how.append(true).create_new(is_new);
         let file = how.open(rt, location.as_str())?;
-        let found = file.metadata()?;
         Ok(Writer {
             location,
             file,
-            device: found.dev(),
-            number: found.ino(),
+            sure: true,
         })
     }
 
-    /// Whether this is the file that was found at the location: opening it anew would open the same.
-    pub(crate) fn is_at(&self, location: &str, found: &Metadata) -> bool {
-        self.location.as_str() == location
-            && self.device == found.dev()
-            && self.number == found.ino()
+    /// The location at which it was opened.
+    pub(crate) fn location(&self) -> &str {
+        self.location.as_str()
+    }
+
+    /// Whether its location leads to it for sure.
+    pub(crate) fn is_sure(&self) -> bool {
+        self.sure
+    }
+
+    /// The same file, to which its location may lead no more.
+    pub(crate) fn unsure(self) -> Writer<R> {
+        Writer {
+            sure: false,
+            ..self
+        }
+    }
+
+    /// Whether this is the file that was found: opening it anew would open the same.
+    ///
+    /// # Errors
+    /// The system refused.
+    pub(crate) fn is_same(&self, found: &Metadata) -> Result<bool, FolderErr> {
+        let own = self.file.metadata()?;
+        Ok(own.dev() == found.dev() && own.ino() == found.ino())
     }
 
     /// Whether it was opened at the location or below it.

@@ -204,9 +204,9 @@ sizes_of-pasts (past ∷ pasts) may =
 
 -- ---- which files are served
 
-slice_get-front : {X : Type 0} (front : List X) (x : X) (xs : List X) → slice_get (front ++ x ∷ xs) (length front) ≡ Some x
-slice_get-front [] x xs = refl
-slice_get-front (f ∷ front) x xs = slice_get-front front x xs
+slice_get-after : {X : Type 0} (seen : List X) (x : X) (xs : List X) → slice_get (seen ++ x ∷ xs) (length seen) ≡ Some x
+slice_get-after [] x xs = refl
+slice_get-after (f ∷ seen) x xs = slice_get-after seen x xs
 
 entry_served : (whole : Entries HeldFile) (path : List (List ℕ)) (e : Entry HeldFile) → find path_cmp path whole ≡ Some e → ((held : HeldFile) → HasFile whole held → IsServed held) → AllByRecursion IsServed (files_in e)
 entry_served whole path (Dir mode) stands each = tt
@@ -215,13 +215,13 @@ entry_served whole path (File mode held) stands each = (each held (record { path
 entry_served whole path (Link target) stands each = tt
 entry_served whole path Hide stands each = tt
 
-files_served : (front es : Entries HeldFile) → IsTrue (is_sorted path_cmp (front ++ es)) → ((held : HeldFile) → HasFile (front ++ es) held → IsServed held) → AllByRecursion IsServed (files_of es)
-files_served front [] sorted each = tt
-files_served front (x ∷ es) sorted each =
-    let whole : (front ++ x ∷ []) ++ es ≡ front ++ x ∷ es = append_assoc front (x ∷ []) es in
+files_served : (seen es : Entries HeldFile) → IsTrue (is_sorted path_cmp (seen ++ es)) → ((held : HeldFile) → HasFile (seen ++ es) held → IsServed held) → AllByRecursion IsServed (files_of es)
+files_served seen [] sorted each = tt
+files_served seen (x ∷ es) sorted each =
+    let whole : (seen ++ x ∷ []) ++ es ≡ seen ++ x ∷ es = append_assoc seen (x ∷ []) es in
     all_append IsServed (files_in x.1) (files_of es)
-    (entry_served (front ++ x ∷ es) x.0 x.1 (find_there path_cmp paths_total (front ++ x ∷ es) (length front) x sorted (slice_get-front front x es)) each)
-    (files_served (front ++ x ∷ []) es (subst (λ l. IsTrue (is_sorted path_cmp l)) (sym whole) sorted) (λ held has. each held (subst (λ l. HasFile l held) whole has)))
+    (entry_served (seen ++ x ∷ es) x.0 x.1 (find_there path_cmp paths_total (seen ++ x ∷ es) (length seen) x sorted (slice_get-after seen x es)) each)
+    (files_served (seen ++ x ∷ []) es (subst (λ l. IsTrue (is_sorted path_cmp l)) (sym whole) sorted) (λ held has. each held (subst (λ l. HasFile l held) whole has)))
 
 -- the files of a tree among some that are served
 pub tree_served : (trees : List (Entries HeldFile)) (es pairs : Entries HeldFile) → AreServed trees → Contains trees es → IsTreeWithin es → pairs ≡ es → AllByRecursion IsServed (files_of pairs)

@@ -24,4 +24,3 @@ pub mod CheckingLemmas
 pub mod OpenedLemmas
 pub mod ChangesLemmas
 pub mod ForCallers
-pub mod PlansLemmas

@@ -156,7 +156,7 @@ few_says T left d e (Err (NotInDepot path)) finished few = few
 few_says T left d e (Err Unfinished) finished few = absurd finished
 few_says T left d e (Err (Limit which)) finished few = tt
 
--- nothing was done for want of memory
+-- nothing was done, since memory ran out
 pub cleans_nothing : (T : Type 0) (left : List (List ℕ) → Bool) (s : DiskState) (r : Result T StoreErr) → r ≡ Err OutOfMemory → Cleans left r s s
 cleans_nothing T left s r is =
     told_itself (λ d e. CleansSays left r d.places e.places) (λ d. subst (λ x. CleansSays left x d.places d.places) (sym is) (few_same left d.places)) s.told

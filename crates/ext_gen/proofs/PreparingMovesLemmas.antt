@@ -75,7 +75,7 @@ works_settled p most r s t one two =
     works_then (is_prefix p) (is_at p) most 0 most r s t (omega arith) one
     (works_wider nowhere (is_prefix p) nowhere (is_at p) 0 0 s t (omega arith) (λ q out. refl) (λ q out. refl) two)
 
--- nothing was done yet
+-- nothing was done
 pub works_nothing : (p : List (List ℕ)) (most : ℕ) (s : DiskState) → Works (is_prefix p) (is_at p) most s s
 works_nothing p most s =
     works_wider (is_prefix p) (is_prefix p) (is_at p) (is_at p) 0 most s s (omega arith) (λ q out. out) (λ q out. out) (works_itself (is_prefix p) (is_at p) s)

@@ -37,7 +37,7 @@ OneGeneration = (t : Tree) (a b : Option Generation) → Points t a → Points t
 
 -- a broken store points to nothing, not even to none
 abbrev pub BrokenPointsToNothing : Type 0
-BrokenPointsToNothing = (t : Tree) (line : ℕ) (a : Option Generation) → IsBroken t line → Points t a → ⊥
+BrokenPointsToNothing = (t : Tree) (line : ℕ) (a : Option Generation) → IsBroken t line → ¬ (Points t a)
 
 -- a store is broken in one line
 abbrev pub OneBrokenLine : Type 0

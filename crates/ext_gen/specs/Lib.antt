@@ -13,4 +13,3 @@ pub mod PreparingCauses
 pub mod Preparing
 pub mod PreparingWork
 pub mod Laws
-pub mod Plans

@@ -15,8 +15,6 @@ mod opening;
 mod prepared;
 mod preparing;
 mod settling;
-#[cfg(test)]
-mod tests;
 
 pub use checking::check;
 pub use committing::commit;

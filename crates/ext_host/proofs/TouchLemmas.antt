@@ -20,7 +20,7 @@ all_kept P f (x ∷ xs) all =
       | false ↦ all_kept P f xs all.1
     ]
 
--- the same of a value of each
+-- and what holds of a value of each holds of the values of those that are kept
 all_values : {X Y : Type 0} (g : X → Y) (P : Y → Type 0) (f : X → Bool) (xs : List X) → AllByRecursion P (map g xs) → AllByRecursion P (map g (filter f xs))
 all_values g P f [] all = tt
 all_values g P f (x ∷ xs) all =

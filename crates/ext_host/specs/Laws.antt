@@ -21,7 +21,7 @@ DrawnFromItself = (host : Host) → IsDrawnFrom host host
 abbrev pub DrawnThrough : Type 0
 DrawnThrough = (a b c : Host) → IsDrawnFrom a b → IsDrawnFrom b c → IsDrawnFrom a c
 
--- the same of trees; and trees are drawn from others where each of them is
+-- trees are drawn from those from which trees are drawn that they are drawn from; and from others where each of them is
 abbrev pub TreesDrawnThrough : Type 0
 TreesDrawnThrough = (a b c : List (Entries HeldFile)) → AreDrawnFrom a b → AreDrawnFrom b c → AreDrawnFrom a c
 

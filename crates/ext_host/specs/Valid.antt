@@ -62,13 +62,13 @@ pub record IsWithinLimits (tree : HostTree) : Type 0 where
 
 -- where a class is merged: at least one name, in the order of versions
 pub record AreMerged (names : List (List ℕ)) : Type 0 where
-  pub some : 0 < length names
+  pub non_empty : 0 < length names
   pub order : AreAscending order_of names
 
 -- the hierarchies of a class: 1 to 16 names, in the order of their bytes
 pub record AreHierarchies (names : List (List ℕ)) : Type 0 where
-  pub some : 0 < length names
-  pub few : length names ≤ 16
+  pub non_empty : 0 < length names
+  pub at_most_16 : length names ≤ 16
   pub order : AreAscending bytes_cmp names
 
 -- an attachment of an image below the root, with the added paths in path order, the root not among them

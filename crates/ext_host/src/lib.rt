@@ -25,8 +25,6 @@ pub mod samples;
 mod shelf;
 mod stamped;
 mod stamping;
-#[cfg(test)]
-mod tests;
 mod touch;
 
 pub use attachment::Attachment;

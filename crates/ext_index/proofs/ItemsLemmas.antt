@@ -49,7 +49,7 @@ all_unmapped P (x ∷ xs) all = (all.0, all_unmapped P xs all.1)
 
 -- ---- look-ups in path order
 
--- behind the first path, a look-up is one in the rest
+-- after the first path, a look-up is one in the rest
 later : (e : List (List ℕ) × Entry HeldFile) (es : Entries HeldFile) (q : List (List ℕ)) → path_cmp e.0 q ≡ Less → lookup (e ∷ es) q ≡ lookup es q
 later e es q less = ap (λ r. cond (is_eq r) (Some e.1) (lookup es q)) (paths_total.antisymm q e.0 ∙ ap ordering_reverse less)
 
@@ -111,7 +111,7 @@ are_whole (e ∷ es) path mode held found =
 
 -- ---- items that are those of entries
 
--- where the first is no file, an item is found behind it
+-- where the first is no file, an item is found after it
 skipped : (e : List (List ℕ) × Entry HeldFile) (es : Entries HeldFile) → ((mode : ℕ) (held : HeldFile) → ¬ (e.1 ≡ File mode held)) → (item : Item) → Found (e ∷ es) item → Found es item
 skipped e es other item f = (
   f.0,

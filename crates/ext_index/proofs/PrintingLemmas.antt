@@ -28,7 +28,7 @@ five before xs ys zs vs ws = four (before ++ lines_text xs) ys zs vs ws ∙ both
 pub one_line : (line : List ℕ) → line ++ 10 ∷ [] ≡ lines_text (line ∷ [])
 one_line line = sym (append-nil (line ++ 10 ∷ []))
 
--- the hierarchies of both classes, behind their number
+-- the hierarchies of both classes, after their number
 pub classes_put : (H : List ℕ → Type 0) (before : List ℕ) (n : ℕ) (xs ys : List (List ℕ)) (host : Host) → n ≡ length host.sysext_hier + length host.confext_hier → xs ≡ host.sysext_hier → ys ≡ host.confext_hier
     → H (((before ++ (number_line (codes "hierarchies") n ++ 10 ∷ [])) ++ lines_text (map (hierarchy_line Sysext) xs)) ++ lines_text (map (hierarchy_line Confext) ys))
     → H (before ++ lines_text (hierarchy_lines host))
@@ -45,9 +45,9 @@ pub index_put : (H : List ℕ → Type 0) (before : List ℕ) (generation : ℕ)
     → H (before ++ index_text true generation host)
 index_put H before generation host tree n pasts same count past held =
     let number = number_line (codes "past") n in
-    let front = (before ++ lines_text (machine_lines host)) ++ lines_text (section_lines generation tree) in
+    let first_lines = (before ++ lines_text (machine_lines host)) ++ lines_text (section_lines generation tree) in
     subst H
-    ((λ i. ((front ++ one_line number i) ++ lines_text (flat_map (past_lines generation) pasts)) ++ one_line (codes "end") i)
+    ((λ i. ((first_lines ++ one_line number i) ++ lines_text (flat_map (past_lines generation) pasts)) ++ one_line (codes "end") i)
     ∙ five before (machine_lines host) (section_lines generation tree) (number ∷ []) (flat_map (past_lines generation) pasts) (codes "end" ∷ [])
     ∙ (λ i. before ++ lines_text (machine_lines host ++ (section_lines generation (same i) ++ (number_line (codes "past") (count i) ∷ (flat_map (past_lines generation) (past i) ++ codes "end" ∷ []))))))
     held

@@ -73,12 +73,12 @@ pub wrong_now : (two : Bool) (g : ℕ) (host : Host) (tree : HostTree) (before :
     → IsFirstWrong (hierarchies_in host) tree (take n tree.kept) → before ≡ take n host.kept
     → a ≡ at_most_64_bits (length (head_lines two host)) → b ≡ at_most_64_bits (length (lines_to_kept tree before)) → s ≡ at_most_64_bits (a + b) → t ≡ at_most_64_bits (s + 1)
     → (line : ℕ) × IsWrongAt two g host line × (t ≡ at_most_64_bits line)
-wrong_now two g host tree before n a b s t same wrong front head kept sum more =
+wrong_now two g host tree before n a b s t same wrong parted head kept sum more =
     let lines = lines_to_kept (present host) (take n host.kept) in (
       length (head_lines two host ++ lines) + 1,
       inl (record { before = take n host.kept; wrong = subst (λ x. IsFirstWrong (hierarchies_in host) x (take n x.kept)) same wrong; counted = refl }),
       two_counts (length (head_lines two host)) (length lines) (length (head_lines two host ++ lines)) a b s t
-          (length-append (head_lines two host) lines) head (kept ∙ (λ i. at_most_64_bits (length (lines_to_kept (same i) (front i))))) sum more,
+          (length-append (head_lines two host) lines) head (kept ∙ (λ i. at_most_64_bits (length (lines_to_kept (same i) (parted i))))) sum more,
     )
 
 -- and where it is one of a past tree
@@ -87,15 +87,15 @@ pub wrong_past : (two : Bool) (g : ℕ) (host : Host) (tree : HostTree) (past : 
     → tree ≡ past_tree past → IsFirstWrong (hierarchies_in host) tree (take n tree.kept)
     → t ≡ at_most_64_bits (length (lines_to_past two g host trees past ++ lines_to_kept (past_tree past) (take n past.kept)) + 1)
     → (line : ℕ) × IsWrongAt two g host line × (t ≡ at_most_64_bits line)
-wrong_past two g host tree past pasts trees at n t same within is front now right of_past wrong counted = (
+wrong_past two g host tree past pasts trees at n t same within is parted now right of_past wrong counted = (
   length (lines_to_past two g host trees past ++ lines_to_kept (past_tree past) (take n past.kept)) + 1,
   inr (record {
     now = now;
     trees = trees;
     tree = past;
     more = drop (suc at) host.past;
-    parted = sym same ∙ parted_at pasts at past within is ∙ (λ i. sym front i ++ past ∷ drop (suc at) (same i));
-    right = subst (AllByRecursion (λ p. AreRight (hierarchies_in host) (past_tree p))) (sym (front ∙ ap (take at) same)) right;
+    parted = sym same ∙ parted_at pasts at past within is ∙ (λ i. sym parted i ++ past ∷ drop (suc at) (same i));
+    right = subst (AllByRecursion (λ p. AreRight (hierarchies_in host) (past_tree p))) (sym (parted ∙ ap (take at) same)) right;
     before = take n past.kept;
     wrong = subst (λ x. IsFirstWrong (hierarchies_in host) x (take n x.kept)) of_past wrong;
     counted = refl;

@@ -23,7 +23,7 @@ use Rattle.ext_index.specs.ValidIndex.{most_index_bytes}
 abbrev pub AreRight : Hierarchies → HostTree → Type 0
 AreRight hierarchies tree = AllByRecursion (HasItems (base_at hierarchies tree)) tree.kept
 
--- the first that doesn't, behind those before it
+-- the first that doesn't, after those before it
 pub record IsFirstWrong (hierarchies : Hierarchies) (tree : HostTree) (before : List Manifest) : Type 0 where
   pub wrong : Manifest
   pub after : List Manifest
@@ -45,7 +45,7 @@ lines_to_kept tree before =
 abbrev pub head_lines : Bool → Host → List (List ℕ)
 head_lines two host = if two then machine_lines host else (header_line false ∷ host_line host.arch host.scope ∷ [])
 
--- those before the sections of a past tree, behind the past trees before it
+-- those before the sections of a past tree, with the past trees before it
 abbrev pub lines_to_past : Bool → ℕ → Host → List Past → Past → List (List ℕ)
 lines_to_past two g host before past =
     head_lines two host

@@ -36,7 +36,7 @@ fn file_at<'a>(tree: &'a Tree<Held>, path: &Path) -> Option<&'a Held>
     }
 }
 
-// Whether the items are that of a file and those of the entries behind it.
+// Whether the items are that of a file and those of the entries after it.
 fn are_file_and_items(
     items: &[Item],
     path: &Path,
@@ -72,7 +72,7 @@ fn are_items(items: &[Item], entries: &[(Path, Entry<Held>)]) -> bool
     rest.is_empty()
 }
 
-// The items behind that of an entry, if it is a file; `None` exactly where they begin otherwise.
+// The items after that of an entry, if it is a file; `None` exactly where they begin otherwise.
 fn after_item<'a>(items: &'a [Item], entry: &(Path, Entry<Held>)) -> Option<&'a [Item]>
     ensures { MatchOption result ((rest : List Item) → ¬ (items.now ≡ item_of entry.now ++ rest)) (λ rest. items.now ≡ item_of entry.now ++ rest.now) }
 {
@@ -82,7 +82,7 @@ fn after_item<'a>(items: &'a [Item], entry: &(Path, Entry<Held>)) -> Option<&'a 
     }
 }
 
-// The items behind that of a file.
+// The items after that of a file.
 fn after_file<'a>(items: &'a [Item], path: &Path, held: &Held) -> Option<&'a [Item]>
     ensures { MatchOption result
         ((rest : List Item) → ¬ (items.now ≡ (record { path = path.now; digest = held.now.stamp.digest }) ∷ rest))

@@ -11,8 +11,6 @@ pub mod laws;
 mod printing;
 mod reading;
 mod sections;
-#[cfg(test)]
-mod tests;
 mod writing;
 mod wrong;
 

@@ -4,7 +4,7 @@ use Rattle.ext_io.specs.Device.{next_count}
 
 -- what contracts see of a source in memory
 pub record SourceView : Type 0 where
-  -- the bytes that were not read yet
+  -- the bytes that are left to read
   pub left : List ℕ
   -- the most bytes that a call gives
   pub piece : ℕ

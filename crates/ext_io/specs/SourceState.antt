@@ -2,7 +2,7 @@
 use Rattle.std.specs.Prelude.{ℕ, List, Option}
 
 pub record SourceState : Type 0 where
-  -- the bytes that were not read yet, where the source tells them
+  -- the bytes that are left to read, where the source tells them
   pub left : Option (List ℕ)
   -- how often a call failed
   pub faults : ℕ

@@ -7,7 +7,7 @@ use crate::failed::Failed;
 
 /// Where bytes are read from, each byte once and in their order.
 pub trait Source {
-    /// The bytes that were not read yet, where the source tells them, and how often a call failed.
+    /// The bytes that are left to read, where the source tells them, and how often a call failed.
     ghost state: { Self → SourceState };
 
     /// Reads some of the bytes into the first places of a buffer that has room for one at least, and gives how many they

@@ -142,8 +142,8 @@ module _ (g : ℕ) (e s : SoFar) (p : Parts) where
   abbrev pub before_attached : Reading
   before_attached = at_part (with_parts s (record p { attached = [] })) parts.Attached
 
-  abbrev pub behind_attached : List Attachment → Reading
-  behind_attached attached = at_part (state_with attached) parts.Kept
+  abbrev pub after_attached : List Attachment → Reading
+  after_attached attached = at_part (state_with attached) parts.Kept
 
   abbrev pub counted_attachments : List Attachment → List (List ℕ)
   counted_attachments attached = number_line (codes "attached") (length attached) ∷ flat_map attachment_lines attached
@@ -152,7 +152,7 @@ module _ (g : ℕ) (e s : SoFar) (p : Parts) where
     pub items : List Attachment
     pub rest : List (List ℕ)
     pub text : lines ≡ counted_attachments items ++ rest
-    pub run : ToEnd g e (behind_attached items) rest
+    pub run : ToEnd g e (after_attached items) rest
     pub formed : AllByRecursion IsWellFormedAttachment items
     pub valid : AreAttachments items
 
@@ -176,7 +176,7 @@ module _ (g : ℕ) (e s : SoFar) (p : Parts) where
   listed (a ∷ attached) valid formed few = (record { valid = valid.0; formed = formed.0; few = few.0 }, listed attached valid.1 formed.1 few.1)
 
   pub attached_run : (attached : List Attachment) (rest : List (List ℕ)) → AreAttachments attached → AllByRecursion IsWellFormedAttachment attached → length attached ≤ most_count → AllByRecursion (λ (a : Attachment). length a.added ≤ most_count) attached
-      → ToEnd g e (behind_attached attached) rest → ToEnd g e before_attached (counted_attachments attached ++ rest)
+      → ToEnd g e (after_attached attached) rest → ToEnd g e before_attached (counted_attachments attached ++ rest)
   attached_run attached rest valid formed few each run =
       let end = subst (λ (as' : List Attachment). ToEnd g e (attached_state as' zero) rest) (sym (after_snoc [] attached)) run in
       let all = again g e snoc AttachmentJoins attachment_lines attached_state closes [] attached rest (joins bytes_cmp (λ (a : Attachment). a.name) IsListedAttachment [] attached valid.order (listed attached valid.each formed each)) end in

@@ -56,14 +56,14 @@ module _ (g : ℕ) (e : SoFar) where
   pub classes_run : (s : SoFar) (xs ys rest : List (List ℕ)) → s.sysext_hier ≡ [] → s.confext_hier ≡ [] → 0 < length xs → 0 < length ys → AreAscending bytes_cmp xs → AreAscending bytes_cmp ys → length xs ≤ 16 → length ys ≤ 16
       → AllByRecursion (λ name. ¬ Contains ys name) xs → AllByRecursion IsName xs → AllByRecursion IsName ys → ToEnd g e (at_part (with_classes s xs ys) parts.Sysext) rest → Leads s (length xs + length ys) (class_lines xs ys ++ rest)
   classes_run s xs ys rest first second some_x some_y up_x up_y few_x few_y apart names_x names_y run =
-      let front : s.sysext_hier ++ xs ≡ xs = λ i. first i ++ xs in
+      let no_first : s.sysext_hier ++ xs ≡ xs = λ i. first i ++ xs in
       let back : s.confext_hier ++ ys ≡ ys = λ i. second i ++ ys in
       let middle = with_classes s xs [] in
       let none : middle.confext_hier ≡ [] = append-nil s.confext_hier ∙ second in
-      let behind : middle.confext_hier ++ ys ≡ ys = λ i. none i ++ ys in
+      let no_second : middle.confext_hier ++ ys ≡ ys = λ i. none i ++ ys in
       let whole : with_classes s xs ys ≡ with_classes middle [] ys = λ i. record s { sysext_hier = sym (append-nil (s.sysext_hier ++ xs)) i; confext_hier = sym (append-nil s.confext_hier) i ++ ys } in
-      let confext = confext_classes middle ys rest (subst (λ (ns : List (List ℕ)). 0 < length ns) (sym front) some_x) (subst (AreAscending bytes_cmp) (sym behind) up_y) (subst (λ (ns : List (List ℕ)). length ns ≤ 16) (sym behind) few_y)
-      (subst (λ (ns : List (List ℕ)). AllByRecursion (λ name. ¬ Contains (middle.confext_hier ++ ys) name) ns) (sym front) (subst (λ (ns : List (List ℕ)). AllByRecursion (λ name. ¬ Contains ns name) xs) (sym behind) apart)) names_y
+      let confext = confext_classes middle ys rest (subst (λ (ns : List (List ℕ)). 0 < length ns) (sym no_first) some_x) (subst (AreAscending bytes_cmp) (sym no_second) up_y) (subst (λ (ns : List (List ℕ)). length ns ≤ 16) (sym no_second) few_y)
+      (subst (λ (ns : List (List ℕ)). AllByRecursion (λ name. ¬ Contains (middle.confext_hier ++ ys) name) ns) (sym no_first) (subst (λ (ns : List (List ℕ)). AllByRecursion (λ name. ¬ Contains ns name) xs) (sym no_second) apart)) names_y
       (subst (λ z. ToEnd g e (at_part z parts.Sysext) rest) whole run) in
-      let sysext = sysext_classes s xs ys (map (hierarchy_line Confext) ys ++ rest) second some_y (subst (AreAscending bytes_cmp) (sym front) up_x) (subst (λ (ns : List (List ℕ)). length ns ≤ 16) (sym front) few_x) names_x confext in
+      let sysext = sysext_classes s xs ys (map (hierarchy_line Confext) ys ++ rest) second some_y (subst (AreAscending bytes_cmp) (sym no_first) up_x) (subst (λ (ns : List (List ℕ)). length ns ≤ 16) (sym no_first) few_x) names_x confext in
       subst (Leads s (length xs + length ys)) (sym (append_assoc (map (hierarchy_line Sysext) xs) (map (hierarchy_line Confext) ys) rest)) sysext

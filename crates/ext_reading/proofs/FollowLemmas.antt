@@ -1,4 +1,4 @@
--- Lists to which each item was added behind the last one: they ascend, and an ascending list is made so.
+-- Lists to which each item was added after the last one: they ascend, and an ascending list is made so.
 use Rattle.std.proofs.Common.{◌≡◌, ℕ, suc, ◌-◌, true, false, not, ◌||◌, List, [], ◌∷◌, ◌++◌, length, Some, IsTrue, refl, sym, ap, ◌∙◌, subst, arith, append_assoc, append-nil}
 use Rattle.std.specs.Prelude.{map, slice_get}
 use Rattle.std.proofs.lemmas.Bool.{and_parts, and_from, not-true, true≢false, false_from_ne_true}
@@ -27,7 +27,7 @@ token_total = then_total (on_total rank nat_cmp_total) (then_total (on_total val
 pub order_total : IsTotalOrder order_of
 order_total = then_total (on_total tokens (lists_total token_total)) bytes_total
 
--- ---- one item behind others
+-- ---- one item after others
 
 abbrev pub snoc : {X : Type 0} → List X → X → List X
 snoc xs x = xs ++ x ∷ []
@@ -38,9 +38,9 @@ after_snoc xs (x ∷ items) = after_snoc (xs ++ x ∷ []) items ∙ append_assoc
 
 -- the last item of a list, if it has some
 pub record EndsIn {X : Type 0} (xs : List X) : Type 0 where
-  pub front : List X
+  pub first_ones : List X
   pub last : X
-  pub parted : xs ≡ front ++ last ∷ []
+  pub parted : xs ≡ first_ones ++ last ∷ []
   pub found : last_of xs ≡ Some last
 
 last-cons : {X : Type 0} (x y : X) (xs : List X) → last_of (x ∷ y ∷ xs) ≡ last_of (y ∷ xs)
@@ -50,10 +50,10 @@ last-cons x y xs =
     ap (slice_get (x ∷ y ∷ xs)) long ∙ sym (ap (slice_get (y ∷ xs)) short)
 
 pub ends_in : {X : Type 0} (x : X) (xs : List X) → EndsIn (x ∷ xs)
-ends_in x [] = record { front = []; last = x; parted = refl; found = refl }
+ends_in x [] = record { first_ones = []; last = x; parted = refl; found = refl }
 ends_in x (y ∷ xs) =
     let rest = ends_in y xs in
-    record { front = x ∷ rest.front; last = rest.last; parted = (λ i. x ∷ rest.parted i); found = last-cons x y xs ∙ rest.found }
+    record { first_ones = x ∷ rest.first_ones; last = rest.last; parted = (λ i. x ∷ rest.parted i); found = last-cons x y xs ∙ rest.found }
 
 module _ {X K : Type 0} (R : K → K → Ordering) (key : X → K) where
   -- what follows in an order
@@ -63,18 +63,18 @@ module _ {X K : Type 0} (R : K → K → Ordering) (key : X → K) where
     ascending_more (y ∷ ys) x up follows =
         let end = ends_in y ys in
         let less = is_less _ (subst (λ o. IsTrue (comes_after R key o (key x))) end.found follows) in
-        let fronts : map key (y ∷ ys) ≡ map key end.front ++ key end.last ∷ [] = ap (map key) end.parted ∙ map-append key end.front (end.last ∷ []) in
-        let longer = ascending_next R trans (map key end.front) (key end.last) (key x) (subst (AreAscending R) fronts up) less in
-        subst (AreAscending R) ((λ i. sym fronts i ++ key x ∷ []) ∙ sym (map-append key (y ∷ ys) (x ∷ []))) longer
+        let keys_parted : map key (y ∷ ys) ≡ map key end.first_ones ++ key end.last ∷ [] = ap (map key) end.parted ∙ map-append key end.first_ones (end.last ∷ []) in
+        let longer = ascending_next R trans (map key end.first_ones) (key end.last) (key x) (subst (AreAscending R) keys_parted up) less in
+        subst (AreAscending R) ((λ i. sym keys_parted i ++ key x ∷ []) ∙ sym (map-append key (y ∷ ys) (x ∷ []))) longer
 
   -- and what stands in one follows
   pub ascending_follows : (xs : List X) (x : X) (more : List X) → AreAscending R (map key (xs ++ x ∷ more)) → IsTrue (may_follow R key xs (key x))
   ascending_follows [] x more up = refl
   ascending_follows (y ∷ ys) x more up =
       let end = ends_in y ys in
-      let shape : map key ((y ∷ ys) ++ x ∷ more) ≡ map key end.front ++ key end.last ∷ key x ∷ map key more =
-      ap (λ (zs : List X). map key (zs ++ x ∷ more)) end.parted ∙ ap (map key) (append_assoc end.front (end.last ∷ []) (x ∷ more)) ∙ map-append key end.front (end.last ∷ x ∷ more) in
-      let less = next_less (map key end.front) (key end.last) (key x) (map key more) (subst (AreAscending R) shape up) in
+      let shape : map key ((y ∷ ys) ++ x ∷ more) ≡ map key end.first_ones ++ key end.last ∷ key x ∷ map key more =
+      ap (λ (zs : List X). map key (zs ++ x ∷ more)) end.parted ∙ ap (map key) (append_assoc end.first_ones (end.last ∷ []) (x ∷ more)) ∙ map-append key end.first_ones (end.last ∷ x ∷ more) in
+      let less = next_less (map key end.first_ones) (key end.last) (key x) (map key more) (subst (AreAscending R) shape up) in
       subst (λ o. IsTrue (comes_after R key o (key x))) (sym end.found) (ap is_lt less)
     where
       next_less : (ks : List K) (a b : K) (more : List K) → AreAscending R (ks ++ a ∷ b ∷ more) → R a b ≡ Less
@@ -116,26 +116,26 @@ unrelated q r less out =
 no_prefix : (q r : List (List ℕ)) → IsTrue (not (are_related q r)) → ¬ (is_prefix q r ≡ true)
 no_prefix q r apart prefix = true≢false (sym (λ i. prefix i || is_prefix r q) ∙ not-true _ apart)
 
-last_all : {X Y : Type 0} (P : Y → Type 0) (f : X → Y) (front : List X) (last : X) → AllByRecursion P (map f (front ++ last ∷ [])) → P (f last)
+last_all : {X Y : Type 0} (P : Y → Type 0) (f : X → Y) (first_ones : List X) (last : X) → AllByRecursion P (map f (first_ones ++ last ∷ [])) → P (f last)
 last_all P f [] last all = all.0
-last_all P f (x ∷ front) last all = last_all P f front last all.1
+last_all P f (x ∷ first_ones) last all = last_all P f first_ones last all.1
 
-last_each : {X : Type 0} (P : X → Type 0) (front : List X) (last : X) → AllByRecursion P (front ++ last ∷ []) → P last
+last_each : {X : Type 0} (P : X → Type 0) (first_ones : List X) (last : X) → AllByRecursion P (first_ones ++ last ∷ []) → P last
 last_each P [] last all = all.0
-last_each P (x ∷ front) last all = last_each P front last all.1
+last_each P (x ∷ first_ones) last all = last_each P first_ones last all.1
 
 not_greater : (q r : List (List ℕ)) → path_cmp q r ≡ Less → is_gt (path_cmp q r) ≡ false
 not_greater q r less = ap is_gt less
 
--- what comes behind manifests, the last of which is no prefix of it, is related to none of them
-all_unrelated : (front : List Manifest) (last m : Manifest) → AreAscending path_cmp (map path_of (front ++ last ∷ [])) → AreApart (front ++ last ∷ []) → path_cmp last.path m.path ≡ Less → ¬ (is_prefix last.path m.path ≡ true)
-    → AllByRecursion (λ q. Unrelated q m) (front ++ last ∷ [])
+-- what comes after manifests, the last of which is no prefix of it, is related to none of them
+all_unrelated : (first_ones : List Manifest) (last m : Manifest) → AreAscending path_cmp (map path_of (first_ones ++ last ∷ [])) → AreApart (first_ones ++ last ∷ []) → path_cmp last.path m.path ≡ Less → ¬ (is_prefix last.path m.path ≡ true)
+    → AllByRecursion (λ q. Unrelated q m) (first_ones ++ last ∷ [])
 all_unrelated [] last m up apart less out = (unrelated last.path m.path less out, tt)
-all_unrelated (q ∷ front) last m up apart less out =
-    let before : path_cmp q.path last.path ≡ Less = last_all (λ r. path_cmp q.path r ≡ Less) path_of front last up.0 in
-    let other = no_prefix q.path last.path (last_each (Unrelated q) front last apart.0) in (
+all_unrelated (q ∷ first_ones) last m up apart less out =
+    let before : path_cmp q.path last.path ≡ Less = last_all (λ r. path_cmp q.path r ≡ Less) path_of first_ones last up.0 in
+    let other = no_prefix q.path last.path (last_each (Unrelated q) first_ones last apart.0) in (
       unrelated q.path m.path (paths_total.trans q.path last.path m.path before less) (λ prefix. other (convex q.path last.path m.path (not_greater q.path last.path before) (not_greater last.path m.path less) prefix)),
-      all_unrelated front last m up.1 apart.1 less out,
+      all_unrelated first_ones last m up.1 apart.1 less out,
     )
 
 apart_push : (ms : List Manifest) (m : Manifest) → AreApart ms → AllByRecursion (λ q. Unrelated q m) ms → AreApart (ms ++ m ∷ [])
@@ -149,7 +149,7 @@ apart_more (x ∷ xs) m up apart follows =
     let test = and_parts _ _ (subst (λ o. IsTrue (comes_apart path_of o m.path)) end.found follows) in
     let less = is_less _ test.0 in
     let out : ¬ (is_prefix end.last.path m.path ≡ true) = λ prefix. true≢false (sym prefix ∙ not-true _ test.1) in
-    let all = all_unrelated end.front end.last m (subst (λ ms. AreAscending path_cmp (map path_of ms)) end.parted up) (subst AreApart end.parted apart) less out in
+    let all = all_unrelated end.first_ones end.last m (subst (λ ms. AreAscending path_cmp (map path_of ms)) end.parted up) (subst AreApart end.parted apart) less out in
     apart_push (x ∷ xs) m apart (subst (AllByRecursion (λ q. Unrelated q m)) (sym end.parted) all)
 
 -- a manifest that may follow in path order, apart from those before it, may follow in path order
@@ -166,13 +166,13 @@ apart_follows [] m more up apart = refl
 apart_follows (x ∷ xs) m more up apart =
     let end = ends_in x xs in
     let less = subst (λ o. IsTrue (comes_after path_cmp path_of o m.path)) end.found (ascending_follows path_cmp path_of (x ∷ xs) m more up) in
-    let shape : (x ∷ xs) ++ m ∷ more ≡ end.front ++ end.last ∷ m ∷ more = (λ i. end.parted i ++ m ∷ more) ∙ append_assoc end.front (end.last ∷ []) (m ∷ more) in
-    let other = no_prefix end.last.path m.path (next_apart end.front end.last m more (subst AreApart shape apart)) in
+    let shape : (x ∷ xs) ++ m ∷ more ≡ end.first_ones ++ end.last ∷ m ∷ more = (λ i. end.parted i ++ m ∷ more) ∙ append_assoc end.first_ones (end.last ∷ []) (m ∷ more) in
+    let other = no_prefix end.last.path m.path (next_apart end.first_ones end.last m more (subst AreApart shape apart)) in
     subst (λ o. IsTrue (comes_apart path_of o m.path)) (sym end.found) (and_from _ _ less (ap not (false_from_ne_true _ other)))
   where
-    next_apart : (front : List Manifest) (a b : Manifest) (more : List Manifest) → AreApart (front ++ a ∷ b ∷ more) → Unrelated a b
+    next_apart : (first_ones : List Manifest) (a b : Manifest) (more : List Manifest) → AreApart (first_ones ++ a ∷ b ∷ more) → Unrelated a b
     next_apart [] a b more apart = apart.0.0
-    next_apart (q ∷ front) a b more apart = next_apart front a b more apart.1
+    next_apart (q ∷ first_ones) a b more apart = next_apart first_ones a b more apart.1
 
 module _ (Valid : Manifest → Type 0) where
   abbrev pub MayJoinApart : List Manifest → Manifest → Type 0

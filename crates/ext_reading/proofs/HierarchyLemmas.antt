@@ -141,12 +141,12 @@ module _ (g : ℕ) (e : SoFar) where
   classes_read (suc more) s lines are run =
       let first = first_line_of g e (at s (stages.Hierarchy more)) lines (λ z. cc) run in
       elim first.step [
-        | inl f ↦ behind_sysext s more lines first.line first.rest f.0 first.text f.3 f.2 (classes_read more (with_sysext_hier s f.0) first.rest (sysext_more s more f.0 are f.1 f.2) (subst (λ r. ToEnd g e r first.rest) f.4 first.run))
-        | inr f ↦ behind_confext s more lines first.line first.rest f.0 first.text f.3 f.2 (classes_read more (with_confext_hier s f.0) first.rest (confext_more s more f.0 are f.1 f.2) (subst (λ r. ToEnd g e r first.rest) f.4 first.run))
+        | inl f ↦ after_sysext s more lines first.line first.rest f.0 first.text f.3 f.2 (classes_read more (with_sysext_hier s f.0) first.rest (sysext_more s more f.0 are f.1 f.2) (subst (λ r. ToEnd g e r first.rest) f.4 first.run))
+        | inr f ↦ after_confext s more lines first.line first.rest f.0 first.text f.3 f.2 (classes_read more (with_confext_hier s f.0) first.rest (confext_more s more f.0 are f.1 f.2) (subst (λ r. ToEnd g e r first.rest) f.4 first.run))
       ]
     where
-      behind_sysext : (s : SoFar) (more : ℕ) (lines : List (List ℕ)) (line : List ℕ) (rest : List (List ℕ)) (name : List ℕ) → lines ≡ line ∷ rest → line ≡ hierarchy_line Sysext name → MaySysext s more name → ClassesRead (with_sysext_hier s name) more rest → ClassesRead s (suc more) lines
-      behind_sysext s more lines line rest name text is may r =
+      after_sysext : (s : SoFar) (more : ℕ) (lines : List (List ℕ)) (line : List ℕ) (rest : List (List ℕ)) (name : List ℕ) → lines ≡ line ∷ rest → line ≡ hierarchy_line Sysext name → MaySysext s more name → ClassesRead (with_sysext_hier s name) more rest → ClassesRead s (suc more) lines
+      after_sysext s more lines line rest name text is may r =
           let shape = append_assoc s.sysext_hier (name ∷ []) r.sysext in
           record {
             sysext = name ∷ r.sysext;
@@ -160,8 +160,8 @@ module _ (g : ℕ) (e : SoFar) where
             some = λ _. let both = r.some may.last in (subst (λ (ns : List (List ℕ)). 0 < length ns) shape both.0, both.1);
           }
 
-      behind_confext : (s : SoFar) (more : ℕ) (lines : List (List ℕ)) (line : List ℕ) (rest : List (List ℕ)) (name : List ℕ) → lines ≡ line ∷ rest → line ≡ hierarchy_line Confext name → MayConfext s more name → ClassesRead (with_confext_hier s name) more rest → ClassesRead s (suc more) lines
-      behind_confext s more lines line rest name text is may r =
+      after_confext : (s : SoFar) (more : ℕ) (lines : List (List ℕ)) (line : List ℕ) (rest : List (List ℕ)) (name : List ℕ) → lines ≡ line ∷ rest → line ≡ hierarchy_line Confext name → MayConfext s more name → ClassesRead (with_confext_hier s name) more rest → ClassesRead s (suc more) lines
+      after_confext s more lines line rest name text is may r =
           let long = length-append s.confext_hier (name ∷ []) in
           let none = r.late (omega arith) in
           let all = more_confext s name r.sysext r.confext ∙ ap (λ (xs : List (List ℕ)). with_classes s xs (name ∷ r.confext)) none in

@@ -21,7 +21,7 @@ use Rattle.ext_reading.specs.declared.state.Stage.TheVariants as stages
 use Rattle.ext_reading.proofs.ClassRunLemmas.{classes_run}
 use Rattle.ext_reading.proofs.FewLemmas.{few_of_lines, few_of_pasts, lines_below_bytes}
 use Rattle.ext_reading.proofs.HierarchyLemmas.{with_classes}
-use Rattle.ext_reading.proofs.ListedPartLemmas.{AreKeptIn, ArePastsIn, IsListedIn, behind_pasts, behind_tree, host_behind_pasts, pasts_run, tree_leads, two_behind_pasts}
+use Rattle.ext_reading.proofs.ListedPartLemmas.{AreKeptIn, ArePastsIn, IsListedIn, after_pasts, after_tree, host_after_pasts, pasts_run, tree_leads, two_after_pasts}
 use Rattle.ext_reading.proofs.ListedRowLemmas.{none_noted}
 use Rattle.ext_reading.proofs.ListingLemmas.{begun}
 use Rattle.ext_reading.proofs.PartsLemmas.{AreFew}
@@ -77,8 +77,8 @@ says_2 g host last formed listed short =
     let trees = trees_of host in
     let s0 = begun true host.arch host.scope in
     let s1 = with_classes s0 host.sysext_hier host.confext_hier in
-    let s2 = host_done (behind_tree g s1 (present host)) in
-    let e = behind_pasts g s2 host.past in
+    let s2 = host_done (after_tree g s1 (present host)) in
+    let e = after_pasts g s2 host.past in
     let kept : AreKeptIn g trees = record { kept = listed.homes.kept; agree = listed.homes.agree } in
     let lengths = short_2 g host short in
     let rest = flat_map both_trees host.past in
@@ -102,11 +102,11 @@ says_2 g host last formed listed short =
     let sections = leads.runs e _ (then_past s2 (length host.past), (length host.past, omega arith, refl, refl), pasts) in
     let sysext = listed.hierarchies.sysext in
     let confext = listed.hierarchies.confext in
-    let classes = classes_run g e s0 host.sysext_hier host.confext_hier _ refl refl sysext.some confext.some sysext.order confext.order sysext.few confext.few listed.hierarchies.apart formed.sysext_hier formed.confext_hier sections in
-    let some_sysext = sysext.some in
-    let some_confext = confext.some in
-    let few_sysext = sysext.few in
-    let few_confext = confext.few in
+    let classes = classes_run g e s0 host.sysext_hier host.confext_hier _ refl refl sysext.non_empty confext.non_empty sysext.order confext.order sysext.at_most_16 confext.at_most_16 listed.hierarchies.apart formed.sysext_hier formed.confext_hier sections in
+    let some_sysext = sysext.non_empty in
+    let some_confext = confext.non_empty in
+    let few_sysext = sysext.at_most_16 in
+    let few_confext = confext.at_most_16 in
     let count = length host.sysext_hier + length host.confext_hier in
     record {
       so_far = e;
@@ -119,8 +119,8 @@ says_2 g host last formed listed short =
           (then_hierarchies s0 count, (count, omega arith, omega arith, refl, refl), classes),
         ),
       );
-      is = host_behind_pasts g s2 host.past;
-      number = two_behind_pasts g s2 host.past;
+      is = host_after_pasts g s2 host.past;
+      number = two_after_pasts g s2 host.past;
     }
 
 -- ---- text 1
@@ -132,7 +132,7 @@ says_1 : (g : ℕ) (host : Host) → g ≤ 4294967295 → IsWellFormed host → 
 says_1 g host last formed listed of_1 short =
     let trees = trees_of host in
     let s1 = with_defaults (begun false host.arch host.scope) in
-    let e = host_done (behind_tree g s1 (present host)) in
+    let e = host_done (after_tree g s1 (present host)) in
     let kept : AreKeptIn g trees = record { kept = listed.homes.kept; agree = listed.homes.agree } in
     let rest = flat_map both_trees host.past in
     let hierarchies : hierarchies_in host ≡ hierarchies_so_far s1 = λ i. record { sysext = of_1.sysext_hier i; confext = of_1.confext_hier i } in

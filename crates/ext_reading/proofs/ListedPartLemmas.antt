@@ -19,14 +19,14 @@ use Rattle.ext_reading.specs.declared.state.Whose.TheVariants as whose
 use Rattle.ext_reading.proofs.FollowLemmas.{ascending_follows}
 use Rattle.ext_reading.proofs.ListedRowLemmas.{AgreeIn, AreOfFiles, files_in_tree, listed_rows, rows_agree, rows_back, rows_have_lines}
 use Rattle.ext_reading.proofs.MergedLemmas.{with_parts}
-use Rattle.ext_reading.proofs.PartsLemmas.{AreFew, IsPartsOf, behind, parts_run, tree_with}
+use Rattle.ext_reading.proofs.PartsLemmas.{AreFew, IsPartsOf, so_far_after, parts_run, tree_with}
 use Rattle.ext_reading.proofs.PastLemmas.{generation_of}
 use Rattle.ext_reading.proofs.RowLemmas.{noted_all}
 use Rattle.ext_reading.proofs.SectionLemmas.{ToEnd}
 
--- what has been read behind the parts of a tree
-abbrev pub behind_tree : ℕ → SoFar → HostTree → SoFar
-behind_tree g s tree = record s {
+-- what has been read after the parts of a tree
+abbrev pub after_tree : ℕ → SoFar → HostTree → SoFar
+after_tree g s tree = record s {
   homes = noted_all (noted_all s.homes (listed_rows g tree.root)) (listed_rows g tree.lower);
   parts = record {
     sysext = tree.sysext;
@@ -52,10 +52,10 @@ pub record IsListedIn (g : ℕ) (trees : List (Entries HeldFile)) (s : SoFar) (t
   pub root : Contains trees tree.root
   pub lower : Contains trees tree.lower
 
--- its lines lead on, and the homes that are noted behind it are those of the trees' files
+-- its lines lead on, and the homes that are noted after it are those of the trees' files
 pub record TreeLeads (g : ℕ) (trees : List (Entries HeldFile)) (s : SoFar) (tree : HostTree) : Type 0 where
-  pub of : AreOfFiles trees (behind_tree g s tree).homes
-  pub runs : (e : SoFar) (rest : List (List ℕ)) → ToEnd g e (after_parts (behind_tree g s tree) s.whose) rest → ToEnd g e (at_part (with_parts s no_parts) parts.Sysext) (section_lines g tree ++ rest)
+  pub of : AreOfFiles trees (after_tree g s tree).homes
+  pub runs : (e : SoFar) (rest : List (List ℕ)) → ToEnd g e (after_parts (after_tree g s tree) s.whose) rest → ToEnd g e (at_part (with_parts s no_parts) parts.Sysext) (section_lines g tree ++ rest)
 
 pub tree_leads : (g : ℕ) (trees : List (Entries HeldFile)) (s : SoFar) (tree : HostTree) → g ≤ 4294967295 → AreKeptIn g trees → AreOfFiles trees s.homes → IsListedIn g trees s tree → TreeLeads g trees s tree
 tree_leads g trees s tree last kept of is =
@@ -68,7 +68,7 @@ tree_leads g trees s tree last kept of is =
     let root_same = rows_back g trees tree.root root_files in
     let lower_same = rows_back g trees tree.lower lower_files in
     let same : tree_with tree roots lowers ≡ tree = λ i. record tree { root = root_same i; lower = lower_same i } in
-    let behind_same : behind s tree roots lowers ≡ behind_tree g s tree = λ i. record s {
+    let after_same : so_far_after s tree roots lowers ≡ after_tree g s tree = λ i. record s {
       homes = noted_all (noted_all s.homes roots) lowers;
       parts = record {
         sysext = tree.sysext;
@@ -92,31 +92,31 @@ tree_leads g trees s tree last kept of is =
       of = second.1;
       runs = λ e rest run.
           subst (λ (t : HostTree). ToEnd g e (at_part (with_parts s no_parts) parts.Sysext) (section_lines g t ++ rest)) same
-          (parts_run g e s tree roots lowers rest are is.few (subst (λ z. ToEnd g e (after_parts z s.whose) rest) (sym behind_same) run));
+          (parts_run g e s tree roots lowers rest are is.few (subst (λ z. ToEnd g e (after_parts z s.whose) rest) (sym after_same) run));
     }
 
 -- ---- past trees
 
--- what has been read behind one of them
-abbrev behind_one : ℕ → SoFar → ℕ → Past → SoFar
-behind_one g s more past = past_done (behind_tree g (record s { whose = whose.Past past.generation more }) (past_tree past)) past.generation
+-- what has been read after one of them
+abbrev after_one : ℕ → SoFar → ℕ → Past → SoFar
+after_one g s more past = past_done (after_tree g (record s { whose = whose.Past past.generation more }) (past_tree past)) past.generation
 
--- and behind all
-abbrev pub behind_pasts : ℕ → SoFar → List Past → SoFar
-behind_pasts g s [] = with_parts s no_parts
-behind_pasts g s (past ∷ pasts) = behind_pasts g (behind_one g s (length pasts) past) pasts
+-- and after all
+abbrev pub after_pasts : ℕ → SoFar → List Past → SoFar
+after_pasts g s [] = with_parts s no_parts
+after_pasts g s (past ∷ pasts) = after_pasts g (after_one g s (length pasts) past) pasts
 
 -- the host is the same with these past trees
-pub host_behind_pasts : (g : ℕ) (s : SoFar) (pasts : List Past) → host_of (behind_pasts g s pasts) ≡ record (host_of s) { past = s.past ++ pasts }
-host_behind_pasts g s [] = λ i. record (host_of s) { past = sym (append-nil s.past) i }
-host_behind_pasts g s (past ∷ pasts) =
-    host_behind_pasts g (behind_one g s (length pasts) past) pasts ∙ (λ i. record (host_of s) { past = append_assoc s.past (past ∷ []) pasts i })
+pub host_after_pasts : (g : ℕ) (s : SoFar) (pasts : List Past) → host_of (after_pasts g s pasts) ≡ record (host_of s) { past = s.past ++ pasts }
+host_after_pasts g s [] = λ i. record (host_of s) { past = sym (append-nil s.past) i }
+host_after_pasts g s (past ∷ pasts) =
+    host_after_pasts g (after_one g s (length pasts) past) pasts ∙ (λ i. record (host_of s) { past = append_assoc s.past (past ∷ []) pasts i })
 
-pub two_behind_pasts : (g : ℕ) (s : SoFar) (pasts : List Past) → (behind_pasts g s pasts).two ≡ s.two
-two_behind_pasts g s [] = refl
-two_behind_pasts g s (past ∷ pasts) = two_behind_pasts g (behind_one g s (length pasts) past) pasts
+pub two_after_pasts : (g : ℕ) (s : SoFar) (pasts : List Past) → (after_pasts g s pasts).two ≡ s.two
+two_after_pasts g s [] = refl
+two_after_pasts g s (past ∷ pasts) = two_after_pasts g (after_one g s (length pasts) past) pasts
 
--- past trees that an index lists behind those that were read
+-- past trees that an index lists after those that were read
 pub record ArePastsIn (g : ℕ) (trees : List (Entries HeldFile)) (s : SoFar) (pasts : List Past) : Type 0 where
   pub each : AllByRecursion (λ (past : Past). IsListedIn g trees s (past_tree past)) pasts
   pub before : AllByRecursion (λ (past : Past). (0 < past.generation) × (past.generation < g)) pasts
@@ -130,13 +130,13 @@ same_hierarchies g trees s t (past ∷ pasts) same each = (
   same_hierarchies g trees s t pasts same each.1,
 )
 
-pub pasts_run : (g : ℕ) (e : SoFar) (trees : List (Entries HeldFile)) (s : SoFar) (pasts : List Past) (rest : List (List ℕ)) → g ≤ 4294967295 → AreKeptIn g trees → AreOfFiles trees s.homes → ArePastsIn g trees s pasts → ToEnd g e (at (behind_pasts g s pasts) stages.End) rest
+pub pasts_run : (g : ℕ) (e : SoFar) (trees : List (Entries HeldFile)) (s : SoFar) (pasts : List Past) (rest : List (List ℕ)) → g ≤ 4294967295 → AreKeptIn g trees → AreOfFiles trees s.homes → ArePastsIn g trees s pasts → ToEnd g e (at (after_pasts g s pasts) stages.End) rest
     → ToEnd g e (then_past (with_parts s no_parts) (length pasts)) (flat_map (past_lines g) pasts ++ rest)
 pasts_run g e trees s [] rest last kept of are run = run
 pasts_run g e trees s (past ∷ pasts) rest last kept of are run =
     let more = length pasts in
     let t = record s { whose = whose.Past past.generation more } in
-    let next = behind_one g s more past in
+    let next = after_one g s more past in
     let shape = append_assoc s.past (past ∷ []) pasts in
     let long = length-append s.past (past ∷ pasts) in
     let few = are.few in

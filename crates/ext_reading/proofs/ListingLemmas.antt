@@ -27,7 +27,7 @@ use Rattle.ext_reading.specs.declared.state.Stage.TheVariants as stages
 use Rattle.ext_reading.proofs.DefaultLemmas.{defaults_are_classes}
 use Rattle.ext_reading.proofs.HierarchyLemmas.{AreClasses, class_lines, classes_read, with_classes}
 use Rattle.ext_reading.proofs.HomeLemmas.{TreesAgree, TreesHaveLines, files_agree, files_are_kept}
-use Rattle.ext_reading.proofs.PartsLemmas.{behind, parts_read}
+use Rattle.ext_reading.proofs.PartsLemmas.{so_far_after, parts_read}
 use Rattle.ext_reading.proofs.PastLemmas.{pasts_read}
 use Rattle.ext_reading.proofs.RowLemmas.{Row, rows_of}
 use Rattle.ext_reading.proofs.SectionLemmas.{ToEnd, first_line_of}
@@ -84,12 +84,12 @@ homes_of g host rows same lines agree = record {
 -- hierarchies of both classes, of each some
 classes_of : (s : SoFar) → AreClasses s → 0 < length s.sysext_hier → 0 < length s.confext_hier → AreOfClasses (record { sysext = s.sysext_hier; confext = s.confext_hier })
 classes_of s are some other = record {
-  sysext = record { some = some; few = are.sysext_few; order = are.sysext_order };
-  confext = record { some = other; few = are.confext_few; order = are.confext_order };
+  sysext = record { non_empty = some; at_most_16 = are.sysext_few; order = are.sysext_order };
+  confext = record { non_empty = other; at_most_16 = are.confext_few; order = are.confext_order };
   apart = are.apart;
 }
 
--- what has been read behind the line of the machine
+-- what has been read after the line of the machine
 abbrev pub begun : Bool → Arch → Scope → SoFar
 begun two arch scope = record start.so_far { two = two; arch = arch; scope = scope }
 
@@ -126,7 +126,7 @@ read_2 g e arch scope lines other run =
     let some = classes.some (omega arith) in
     let s4 = with_classes s classes.sysext classes.confext in
     let now = parts_read g e s4 classes.rest classes.run in
-    let s5 = host_done (behind s4 now.tree now.roots now.lowers) in
+    let s5 = host_done (so_far_after s4 now.tree now.roots now.lowers) in
     let six = first_line_of g e (at s5 stages.Past) now.rest (λ z. cc) now.run in
     let past = pasts_read g e six.step.0 s5 six.rest (omega arith) tt (subst (λ r. ToEnd g e r six.rest) six.step.3 six.run) in
     let end = end_read g e past.next past.rest past.run in
@@ -157,7 +157,7 @@ read_1 g e arch scope lines other run =
     let s = with_defaults (begun false arch scope) in
     let classes = defaults_are_classes (begun false arch scope) in
     let now = parts_read g e s lines run in
-    let s5 = host_done (behind s now.tree now.roots now.lowers) in
+    let s5 = host_done (so_far_after s now.tree now.roots now.lowers) in
     let end = end_read g e s5 now.rest now.run in
     let host = host_with arch scope (default_hierarchies Sysext) (default_hierarchies Confext) now.tree now.roots now.lowers [] in
     record {

@@ -113,8 +113,8 @@ module _ (g : ℕ) (e s : SoFar) (p : Parts) where
   abbrev pub before_kept : Reading
   before_kept = at_part (with_parts s (record p { kept = [] })) parts.Kept
 
-  abbrev pub behind_kept : List Manifest → Reading
-  behind_kept kept = at_part (state_with kept) parts.Root
+  abbrev pub after_kept : List Manifest → Reading
+  after_kept kept = at_part (state_with kept) parts.Root
 
   abbrev pub counted_manifests : List Manifest → List (List ℕ)
   counted_manifests kept = number_line (codes "kept") (length kept) ∷ flat_map manifest_lines kept
@@ -123,7 +123,7 @@ module _ (g : ℕ) (e s : SoFar) (p : Parts) where
     pub items : List Manifest
     pub rest : List (List ℕ)
     pub text : lines ≡ counted_manifests items ++ rest
-    pub run : ToEnd g e (behind_kept items) rest
+    pub run : ToEnd g e (after_kept items) rest
     pub formed : AllByRecursion IsWellFormedManifest items
     pub valid : AllByRecursion IsManifest items
     pub below : AllByRecursion (λ (m : Manifest). AllByRecursion (λ (i : Item). i.path ≡ [] → ⊥) m.items) items
@@ -148,7 +148,7 @@ module _ (g : ℕ) (e s : SoFar) (p : Parts) where
         apart = chain.1;
       }
 
-  pub kept_run : (kept : List Manifest) (rest : List (List ℕ)) → AreAscending path_cmp (map path_of kept) → AreApart kept → AllByRecursion IsListedManifest kept → length kept ≤ most_count → ToEnd g e (behind_kept kept) rest → ToEnd g e before_kept (counted_manifests kept ++ rest)
+  pub kept_run : (kept : List Manifest) (rest : List (List ℕ)) → AreAscending path_cmp (map path_of kept) → AreApart kept → AllByRecursion IsListedManifest kept → length kept ≤ most_count → ToEnd g e (after_kept kept) rest → ToEnd g e before_kept (counted_manifests kept ++ rest)
   kept_run kept rest order apart each few run =
       let end = subst (λ (ms : List Manifest). ToEnd g e (kept_state ms zero) rest) (sym (after_snoc [] kept)) run in
       let all = again g e snoc ManifestJoins manifest_lines kept_state closes [] kept rest (joins_apart IsListedManifest [] kept order apart each) end in

@@ -59,7 +59,7 @@ module _ (g : ℕ) (e : SoFar) where
           run = subst (λ r. ToEnd g e r all.rest) (ap (λ (ns : List (List ℕ)). state ns zero) (after_snoc [] all.items) ∙ ends all.items) all.run;
           formed = chain.1;
           merged = record {
-            some = let count = all.count in omega arith;
+            non_empty = let count = all.count in omega arith;
             order = subst (AreAscending order_of) (map_same all.items) chain.0;
           };
         }
@@ -79,7 +79,7 @@ module _ (g : ℕ) (e : SoFar) where
     abbrev sysext_state : List (List ℕ) → ℕ → Reading
     sysext_state names n = then_sysext (with_parts s no_parts) n names
 
-    -- what is read behind the system extensions
+    -- what is read after the system extensions
     abbrev pub with_first : Option (List (List ℕ)) → Reading
     with_first names = at_part (with_parts s (record no_parts { sysext = names })) parts.Confext
 
@@ -115,7 +115,7 @@ module _ (g : ℕ) (e : SoFar) where
             let first = first_line_of g e (with_first None) lines (λ z. cc) run in
             subst (ToEnd g e (at_part (with_parts s no_parts) parts.Sysext)) (sym first.text) (first.next, inr first.step, first.run)
     sysext_run (Some names) rest merged formed few run =
-        (sysext_state [] (length names), inl (length names, merged.some, few, refl, refl), names_run (codes "sysext") sysext_state with_first (λ ns. refl) sysext_closes names rest merged formed run)
+        (sysext_state [] (length names), inl (length names, merged.non_empty, few, refl, refl), names_run (codes "sysext") sysext_state with_first (λ ns. refl) sysext_closes names rest merged formed run)
 
     -- ---- configuration extensions
 
@@ -123,7 +123,7 @@ module _ (g : ℕ) (e : SoFar) where
       abbrev confext_state : List (List ℕ) → ℕ → Reading
       confext_state names n = then_confext (with_parts s (record no_parts { sysext = sysext })) n names
 
-      -- what is read behind the configuration extensions
+      -- what is read after the configuration extensions
       abbrev pub with_second : Option (List (List ℕ)) → Reading
       with_second names = at_part (with_parts s (record no_parts { sysext = sysext; confext = names })) parts.Attached
 
@@ -159,4 +159,4 @@ module _ (g : ℕ) (e : SoFar) where
               let first = first_line_of g e (with_second None) lines (λ z. cc) run in
               subst (ToEnd g e (with_first sysext)) (sym first.text) (first.next, inr first.step, first.run)
       confext_run (Some names) rest merged formed few run =
-          (confext_state [] (length names), inl (length names, merged.some, few, refl, refl), names_run (codes "confext") confext_state with_second (λ ns. refl) confext_closes names rest merged formed run)
+          (confext_state [] (length names), inl (length names, merged.non_empty, few, refl, refl), names_run (codes "confext") confext_state with_second (λ ns. refl) confext_closes names rest merged formed run)

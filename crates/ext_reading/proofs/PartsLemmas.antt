@@ -84,9 +84,9 @@ regrouped a b c d f h rest = sym (simp append_assoc)
 abbrev pub tree_with : HostTree → List Row → List Row → HostTree
 tree_with tree roots lowers = record tree { root = rows_of roots; lower = rows_of lowers }
 
--- what has been read behind the parts
-abbrev pub behind : SoFar → HostTree → List Row → List Row → SoFar
-behind s tree roots lowers = record s {
+-- what has been read after the parts
+abbrev pub so_far_after : SoFar → HostTree → List Row → List Row → SoFar
+so_far_after s tree roots lowers = record s {
   homes = noted_all (noted_all s.homes roots) lowers;
   parts = record {
     sysext = tree.sysext;
@@ -114,7 +114,7 @@ pub record PartsRead (g : ℕ) (e s : SoFar) (lines : List (List ℕ)) : Type 0 
   pub lowers : List Row
   pub rest : List (List ℕ)
   pub text : lines ≡ section_lines g (tree_with tree roots lowers) ++ rest
-  pub run : ToEnd g e (after_parts (behind s tree roots lowers) s.whose) rest
+  pub run : ToEnd g e (after_parts (so_far_after s tree roots lowers) s.whose) rest
   pub are : IsPartsOf g s tree roots lowers
 
 -- the tree of merged names, attachments and manifests, with no entries
@@ -204,8 +204,8 @@ listed_manifests [] valid formed some few = tt
 listed_manifests (m ∷ kept) valid formed some few =
     (record { valid = valid.0; formed = formed.0; items = listed_items m.items formed.0.items some.0; few = few.0 }, listed_manifests kept valid.1 formed.1 some.1 few.1)
 
--- the lines of parts that may stand lead on to what is read behind them
-pub parts_run : (g : ℕ) (e s : SoFar) (tree : HostTree) (roots lowers : List Row) (rest : List (List ℕ)) → IsPartsOf g s tree roots lowers → AreFew tree → ToEnd g e (after_parts (behind s tree roots lowers) s.whose) rest
+-- the lines of parts that may stand lead on to what is read after them
+pub parts_run : (g : ℕ) (e s : SoFar) (tree : HostTree) (roots lowers : List Row) (rest : List (List ℕ)) → IsPartsOf g s tree roots lowers → AreFew tree → ToEnd g e (after_parts (so_far_after s tree roots lowers) s.whose) rest
     → ToEnd g e (at_part (with_parts s no_parts) parts.Sysext) (section_lines g (tree_with tree roots lowers) ++ rest)
 parts_run g e s tree roots lowers rest are few run =
     let listed = are.listed in

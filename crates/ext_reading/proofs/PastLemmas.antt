@@ -19,7 +19,7 @@ use Rattle.ext_reading.specs.declared.state.Whose.TheVariants as whose
 use Rattle.ext_reading.proofs.FollowLemmas.{ascending_more}
 use Rattle.ext_reading.proofs.HomeLemmas.{TreesAgree, TreesHaveLines}
 use Rattle.ext_reading.proofs.MergedLemmas.{with_parts}
-use Rattle.ext_reading.proofs.PartsLemmas.{behind, parts_read, tree_with}
+use Rattle.ext_reading.proofs.PartsLemmas.{so_far_after, parts_read, tree_with}
 use Rattle.ext_reading.proofs.RowLemmas.{Row, rows_of}
 use Rattle.ext_reading.proofs.SectionLemmas.{ToEnd, first_line_of}
 
@@ -34,9 +34,9 @@ trees_in past = past.root ∷ past.lower ∷ []
 abbrev pub past_with : ℕ → HostTree → List Row → List Row → Past
 past_with n tree roots lowers = record { generation = n; root = rows_of roots; lower = rows_of lowers; sysext = tree.sysext; confext = tree.confext; attached = tree.attached; kept = tree.kept }
 
--- what has been read behind a past tree
-abbrev pub behind_past : SoFar → ℕ → ℕ → HostTree → List Row → List Row → SoFar
-behind_past s n more tree roots lowers = past_done (behind (record s { whose = whose.Past n more }) tree roots lowers) n
+-- what has been read after a past tree
+abbrev pub after_past : SoFar → ℕ → ℕ → HostTree → List Row → List Row → SoFar
+after_past s n more tree roots lowers = past_done (so_far_after (record s { whose = whose.Past n more }) tree roots lowers) n
 
 module _ (g : ℕ) (e : SoFar) where
   pub record PastsRead (s : SoFar) (n : ℕ) (lines : List (List ℕ)) : Type 0 where
@@ -86,7 +86,7 @@ module _ (g : ℕ) (e : SoFar) where
       let past = past_with n p.tree p.roots p.lowers in
       let long = length-append s.past (past ∷ []) in
       let room = may.few in
-      let next = pasts_read more (behind_past s n more p.tree p.roots p.lowers) p.rest (omega arith) (ascending_more nat_cmp generation_of nat_cmp_total.trans s.past past order may.order) p.run in
+      let next = pasts_read more (after_past s n more p.tree p.roots p.lowers) p.rest (omega arith) (ascending_more nat_cmp generation_of nat_cmp_total.trans s.past past order may.order) p.run in
       let shape = append_assoc s.past (past ∷ []) next.items in
       record {
         items = past ∷ next.items;

@@ -84,7 +84,7 @@ module _ (g : ℕ) (e : SoFar) where
   root_closes : (s : SoFar) (n : ℕ) (x : Row) (rest : List (List ℕ)) → MayRoot s x → ToEnd g e (then_root (with_root s x) n) rest → ToEnd g e (then_root s (suc n)) (row_lines x ++ rest)
   root_closes s n x rest may run = (then_root (with_root s x) n, (x, may.0, may.1, may.2, refl, refl), run)
 
-  -- what is read behind them
+  -- what is read after them
   abbrev pub with_roots : SoFar → List Row → SoFar
   with_roots s xs = record s { homes = noted_all s.homes xs; parts = record s.parts { root = s.parts.root ++ rows_of xs; bytes = s.parts.bytes + all_bytes (rows_of xs) } }
 
@@ -199,7 +199,7 @@ module _ (g : ℕ) (e : SoFar) where
   lower_closes : (s : SoFar) (n : ℕ) (x : Row) (rest : List (List ℕ)) → MayLower s x → ToEnd g e (then_lower (with_lower s x) n) rest → ToEnd g e (then_lower s (suc n)) (row_lines x ++ rest)
   lower_closes s n x rest may run = (then_lower (with_lower s x) n, (x, may.0, may.1, may.2, may.3, refl, refl), run)
 
-  -- what is read behind them
+  -- what is read after them
   abbrev pub with_lowers : SoFar → List Row → SoFar
   with_lowers s xs = record s { homes = noted_all s.homes xs; parts = record s.parts { lower = s.parts.lower ++ rows_of xs; bytes = s.parts.bytes + all_bytes (rows_of xs) } }
 

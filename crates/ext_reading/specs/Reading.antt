@@ -17,7 +17,7 @@ abbrev pub Takes : ℕ → Reading → List ℕ → Option Reading → Type 0
 Takes g r line None = (t : Reading) → ¬ Steps g r line t
 Takes g r line (Some t) = Steps g r line t
 
--- the same of a reading that a line changes
+-- whether a line may stand where so much was read; if so, what was read goes on by it, else it is anything
 abbrev pub Reads : ℕ → Reading → Reading → List ℕ → Bool → Type 0
 Reads g r t line false = Takes g r line None
 Reads g r t line true = Takes g r line (Some t)

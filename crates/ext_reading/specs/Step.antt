@@ -199,7 +199,7 @@ PartStepsAt g s (parts.LowerEntry more) line t =
 
 -- ---- past trees
 
--- there is room for one more, of this generation, behind those before it
+-- there is room for one more, of this generation, after those before it
 pub record MayBePast (s : SoFar) (n : ℕ) : Type 0 where
   pub few : length s.past < most_past
   pub order : IsTrue (may_follow nat_cmp (λ (p : Past). p.generation) s.past n)

@@ -158,7 +158,7 @@ fn may_be_sysext(so_far: &SoFar, more: u64, name: &Name) -> bool
         && more > 0
 }
 
-// Whether a hierarchy of configuration extensions may stand next. It is the last one of both classes only behind one of
+// Whether a hierarchy of configuration extensions may stand next. It is the last one of both classes only after one of
 // system extensions.
 fn may_be_confext(so_far: &SoFar, more: u64, name: &Name) -> bool
     ensures { IsTrue result ↔ MayConfext so_far.now more name.now }

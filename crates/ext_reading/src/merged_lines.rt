@@ -1,4 +1,4 @@
-// The lines of merged names, and the line behind them.
+// The lines of merged names, and the line after them.
 ghost use Rattle.std.specs.Prelude.{◌≡◌, ◌≢◌, ◌<◌, ◌≤◌, [], ℕ, codes, IfOk};
 ghost use Rattle.ext_reading.specs.Reading.{Takes};
 ghost use Rattle.ext_reading.specs.State.{at_part};

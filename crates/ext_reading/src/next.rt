@@ -81,7 +81,7 @@ pub(crate) fn then_attached(so_far: SoFar, count: u64) -> Reading
     at_part(so_far, PartStage::Attachment { more: count - 1 })
 }
 
-/// Where so many paths of an attachment follow, and behind it so many attachments.
+/// Where so many paths of an attachment follow, and after it so many attachments.
 pub(crate) fn then_added(
     mut so_far: SoFar,
     more: u64,
@@ -114,7 +114,7 @@ pub(crate) fn then_kept(so_far: SoFar, count: u64) -> Reading
     at_part(so_far, PartStage::Manifest { more: count - 1 })
 }
 
-/// Where so many items of a manifest follow, and behind it so many manifests.
+/// Where so many items of a manifest follow, and after it so many manifests.
 pub(crate) fn then_items(
     mut so_far: SoFar,
     more: u64,

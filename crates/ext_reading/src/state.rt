@@ -47,11 +47,11 @@ pub(crate) struct Parts {
 pub(crate) enum Whose {
     /// Those of the host.
     Host,
-    /// Those of the tree of this past generation, behind which so many more follow.
+    /// Those of the tree of this past generation, after which so many more follow.
     Past { generation: u32, more: u64 },
 }
 
-/// Which line stands next. A count of more lines is that of those behind it.
+/// Which line stands next. A count of more lines is that of those after it.
 #[derive(Drop)]
 pub(crate) enum Stage {
     Header,

@@ -18,7 +18,7 @@ use std::mem;
 
 /// Reads a line; says whether it may stand next. Where it may not, or there was no memory, what was read is of no use.
 ///
-/// Most lines are those of entries behind which others follow: such an entry is added where it is, and what was read stays
+/// Most lines are those of entries after which others follow: such an entry is added where it is, and what was read stays
 /// there.
 pub(crate) fn read_line(
     alloc: Global,
@@ -47,7 +47,7 @@ pub(crate) fn read_line(
     }
 }
 
-// Reads a line behind which another stage may begin.
+// Reads a line after which another stage may begin.
 fn read_last(
     alloc: Global,
     generation: u32,

@@ -22,24 +22,24 @@ pub after_once : (word xs ys : List ℕ) → worded word xs ≡ worded word ys �
 after_once word xs ys e = ap (drop 1) (split_same word word (32 ∷ xs) (32 ∷ ys) refl e).1
 
 -- what follows a prefix and then a space
-pub behind_prefix : (found : Option (Bor (List ℕ))) (line word rest : List ℕ) → line ≡ word ++ rest
+pub found_after_prefix : (found : Option (Bor (List ℕ))) (line word rest : List ℕ) → line ≡ word ++ rest
     → MatchOption found ((r : List ℕ) → rest ≢ 32 ∷ r) (λ r. rest ≡ 32 ∷ r.now)
     → MatchOption found ((r : List ℕ) → line ≢ worded word r) (λ r. line ≡ worded word r.now)
-behind_prefix None line word rest is none = λ r e. none r (split_same word word rest (32 ∷ r) refl (sym is ∙ e)).1
-behind_prefix (Some x) line word rest is some = is ∙ ap (λ xs. word ++ xs) some
+found_after_prefix None line word rest is none = λ r e. none r (split_same word word rest (32 ∷ r) refl (sym is ∙ e)).1
+found_after_prefix (Some x) line word rest is some = is ∙ ap (λ xs. word ++ xs) some
 
--- what a reader finds behind the word it finds on the line
-pub behind_word : {A : Type 0} (P : A → Type 0) (text : A → List ℕ) (found : Option A) (line word rest : List ℕ) → line ≡ worded word rest
+-- what a reader finds after the word it finds on the line
+pub found_after_word : {A : Type 0} (P : A → Type 0) (text : A → List ℕ) (found : Option A) (line word rest : List ℕ) → line ≡ worded word rest
     → MatchOption found ((x : A) → P x → rest ≢ text x) (λ x. P x × (rest ≡ text x))
     → MatchOption found ((x : A) → P x → line ≢ worded word (text x)) (λ x. P x × (line ≡ worded word (text x)))
-behind_word P text None line word rest is none = λ x has e. none x has (after_once word rest (text x) (sym is ∙ e))
-behind_word P text (Some x) line word rest is some = (some.0, is ∙ ap (worded word) some.1)
+found_after_word P text None line word rest is none = λ x has e. none x has (after_once word rest (text x) (sym is ∙ e))
+found_after_word P text (Some x) line word rest is some = (some.0, is ∙ ap (worded word) some.1)
 
-pub name_behind : {E : Type 0} (P : List ℕ → Type 0) (r : Result (Option (List ℕ)) E) (line word rest : List ℕ) → line ≡ worded word rest
+pub name_after : {E : Type 0} (P : List ℕ → Type 0) (r : Result (Option (List ℕ)) E) (line word rest : List ℕ) → line ≡ worded word rest
     → IfOk r (λ found. MatchOption found ((x : List ℕ) → P x → rest ≢ x) (λ x. P x × (rest ≡ x)))
     → IfOk r (λ found. MatchOption found ((x : List ℕ) → P x → line ≢ worded word x) (λ x. P x × (line ≡ worded word x)))
-name_behind P (Err e) line word rest is reads = tt
-name_behind P (Ok found) line word rest is reads = behind_word P (λ x. x) found line word rest is reads
+name_after P (Err e) line word rest is reads = tt
+name_after P (Ok found) line word rest is reads = found_after_word P (λ x. x) found line word rest is reads
 
 -- what a reader of paths finds, as one fact of the path
 path_found : (found : Option (List (List ℕ))) (rest : List ℕ)
@@ -48,11 +48,11 @@ path_found : (found : Option (List (List ℕ))) (rest : List ℕ)
 path_found None rest none = λ p is e. none p is.within is.non_empty e
 path_found (Some p) rest some = (record { within = some.0; non_empty = some.1 }, some.2)
 
-pub path_behind : {E : Type 0} (r : Result (Option (List (List ℕ))) E) (line word rest : List ℕ) → line ≡ worded word rest
+pub path_after : {E : Type 0} (r : Result (Option (List (List ℕ))) E) (line word rest : List ℕ) → line ≡ worded word rest
     → IfOk r (λ found. MatchOption found ((p : List (List ℕ)) → IsPath p → 0 < length p → rest ≢ path_text p) (λ p. IsPath p × (0 < length p) × (rest ≡ path_text p)))
     → IfOk r (λ found. MatchOption found ((p : List (List ℕ)) → IsLinePath p → line ≢ worded word (path_text p)) (λ p. IsLinePath p × (line ≡ worded word (path_text p))))
-path_behind (Err e) line word rest is reads = tt
-path_behind (Ok found) line word rest is reads = behind_word IsLinePath path_text found line word rest is (path_found found rest reads)
+path_after (Err e) line word rest is reads = tt
+path_after (Ok found) line word rest is reads = found_after_word IsLinePath path_text found line word rest is (path_found found rest reads)
 
 -- ---- the names of architectures hold no space
 

@@ -9,8 +9,6 @@ mod homed;
 mod line;
 mod out;
 mod printing;
-#[cfg(test)]
-mod tests;
 
 pub use homed::{Homed, kept_entry};
 pub use line::{

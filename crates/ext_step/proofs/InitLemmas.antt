@@ -88,13 +88,13 @@ hierarchies_in_order : (names ordered : List (List ℕ)) → 0 < length names �
 hierarchies_in_order names ordered some few apart is =
     let long = length_permutation names ordered is.same in
     record {
-      some = omega arith;
-      few = omega arith;
+      non_empty = omega arith;
+      at_most_16 = omega arith;
       order = ascending ordered (far_apart ordered is.order) (IsDistinct-IsPermutation eq eq_flips names ordered is.same apart);
     }
 
 listed_in_order : (names ordered : List (List ℕ)) → IsHierarchyList names → IsInOrder names ordered → valid.AreHierarchies ordered
-listed_in_order names ordered are is = hierarchies_in_order names ordered are.some are.few (distinct names are.distinct) is
+listed_in_order names ordered are is = hierarchies_in_order names ordered are.non_empty are.at_most_16 (distinct names are.distinct) is
 
 abbrev opt : List ℕ
 opt = codes "opt"

@@ -47,7 +47,7 @@ PartWants host path part intent =
 
 -- something that is no directory stands at a proper prefix of the path
 pub record IsUnder (es : Entries HeldFile) (path at : List (List ℕ)) : Type 0 where
-  pub above : IsTrue (is_proper_prefix at path)
+  pub proper_prefix : IsTrue (is_proper_prefix at path)
   pub stands : IsTrue (is_non_directory_at (lookup es at))
 
 -- each path of the host and of the depot stays within the limits

@@ -34,7 +34,7 @@ WantsOf seen depot Check intent = intent ≡ Checks
 WantsOf seen depot Layer intent = ⊥
 WantsOf seen depot Migrate intent = intent ≡ migrate_intent seen.host seen.newest
 
--- both tell the same of each file of the host
+-- of each file of the host both tell one thing
 abbrev pub TellAlike : Host → (HeldFile → Told) → (HeldFile → Told) → Type 0
 TellAlike host told other = (held : HeldFile) → IsFileOf (trees_of host) held → told held ≡ other held
 

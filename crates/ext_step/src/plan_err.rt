@@ -9,7 +9,7 @@ pub enum PlanErr {
     /// The depot had a fault.
     #[error("depot fault")]
     DepotFault,
-    /// The shelf did not give the bytes of a file of the host; never for want of memory.
+    /// The shelf did not give the bytes of a file of the host; never where memory ran out.
     #[error("a file of the host is not given")]
     Shelf(ShelfErr),
     /// An allocation failed.

@@ -226,7 +226,7 @@ always : {A : Type 0} (o : Option A) (P : A → Type 0) → ((a : A) → P a) �
 always None P gives = tt
 always (Some a) P gives = gives a
 
--- a fault, or want of memory, before anything was removed
+-- a fault, or a failed allocation, before anything was removed
 pub clears_fault : (T : Type 0) (reach : List (List ℕ) → Bool) (b : ℕ) (old new : DiskState) → Rests old new → Clears reach (failed T DiskFault) b b old new
 clears_fault T reach b old new rests = clears_rests reach (failed T DiskFault) b old new rests (omega arith) (always old.told (λ d. Unit {0}) (λ d. tt))
 
@@ -401,49 +401,49 @@ any_append f (x ∷ xs) ys = ap (λ b. f x || b) (any_append f xs ys) ∙ sym (o
     or_assoc false b c = refl
 
 -- a name among others: what is below the ones before it, or at and below it, is below any of them
-below_first : (dir : List (List ℕ)) (front back names : List (List ℕ)) (n : List ℕ) → names ≡ front ++ n ∷ back → (q : List (List ℕ)) → is_below_any dir front q ≡ true → is_below_any dir names q ≡ true
-below_first dir front back names n is q hit =
-    ap (λ l. is_below_any dir l q) is ∙ any_append (λ m. is_prefix (dir ++ m ∷ []) q) front (n ∷ back) ∙ or_left _ _ hit
+below_first : (dir : List (List ℕ)) (cleared back names : List (List ℕ)) (n : List ℕ) → names ≡ cleared ++ n ∷ back → (q : List (List ℕ)) → is_below_any dir cleared q ≡ true → is_below_any dir names q ≡ true
+below_first dir cleared back names n is q hit =
+    ap (λ l. is_below_any dir l q) is ∙ any_append (λ m. is_prefix (dir ++ m ∷ []) q) cleared (n ∷ back) ∙ or_left _ _ hit
 
-below_next : (dir : List (List ℕ)) (front back names : List (List ℕ)) (n : List ℕ) → names ≡ front ++ n ∷ back → (q : List (List ℕ)) → is_prefix (dir ++ n ∷ []) q ≡ true → is_below_any dir names q ≡ true
-below_next dir front back names n is q hit =
-    ap (λ l. is_below_any dir l q) is ∙ any_append (λ m. is_prefix (dir ++ m ∷ []) q) front (n ∷ back)
-    ∙ or_right (is_below_any dir front q) _ (or_left _ (is_below_any dir back q) hit)
+below_next : (dir : List (List ℕ)) (cleared back names : List (List ℕ)) (n : List ℕ) → names ≡ cleared ++ n ∷ back → (q : List (List ℕ)) → is_prefix (dir ++ n ∷ []) q ≡ true → is_below_any dir names q ≡ true
+below_next dir cleared back names n is q hit =
+    ap (λ l. is_below_any dir l q) is ∙ any_append (λ m. is_prefix (dir ++ m ∷ []) q) cleared (n ∷ back)
+    ∙ or_right (is_below_any dir cleared q) _ (or_left _ (is_below_any dir back q) hit)
 
-below_either : (dir : List (List ℕ)) (front : List (List ℕ)) (n : List ℕ) (q : List (List ℕ)) → is_below_any dir (front ++ n ∷ []) q ≡ true
-    → (is_below_any dir front q ≡ true) ⊎ (is_prefix (dir ++ n ∷ []) q ≡ true)
-below_either dir front n q hit =
-    or_cases (is_below_any dir front q) (is_prefix (dir ++ n ∷ []) q)
-    (sym (any_append (λ m. is_prefix (dir ++ m ∷ []) q) front (n ∷ []) ∙ ap (λ b. is_below_any dir front q || b) (or_none (is_prefix (dir ++ n ∷ []) q))) ∙ hit)
+below_either : (dir : List (List ℕ)) (cleared : List (List ℕ)) (n : List ℕ) (q : List (List ℕ)) → is_below_any dir (cleared ++ n ∷ []) q ≡ true
+    → (is_below_any dir cleared q ≡ true) ⊎ (is_prefix (dir ++ n ∷ []) q ≡ true)
+below_either dir cleared n q hit =
+    or_cases (is_below_any dir cleared q) (is_prefix (dir ++ n ∷ []) q)
+    (sym (any_append (λ m. is_prefix (dir ++ m ∷ []) q) cleared (n ∷ []) ∙ ap (λ b. is_below_any dir cleared q || b) (or_none (is_prefix (dir ++ n ∷ []) q))) ∙ hit)
 
 -- one name more is done
-pub clears_next : (T : Type 0) (t u : T) (dir p : List (List ℕ)) (front : List (List ℕ)) (n : List ℕ) (before mid after : ℕ) (a b c : DiskState) → p ≡ dir ++ n ∷ []
-    → Clears (is_below_any dir front) (done T t) before mid a b → Clears (is_prefix p) (done T u) mid after b c → Clears (is_below_any dir (front ++ n ∷ [])) (done T t) before after a c
-clears_next T t u dir p front n before mid after a b c is one two =
+pub clears_next : (T : Type 0) (t u : T) (dir p : List (List ℕ)) (cleared : List (List ℕ)) (n : List ℕ) (before mid after : ℕ) (a b c : DiskState) → p ≡ dir ++ n ∷ []
+    → Clears (is_below_any dir cleared) (done T t) before mid a b → Clears (is_prefix p) (done T u) mid after b c → Clears (is_below_any dir (cleared ++ n ∷ [])) (done T t) before after a c
+clears_next T t u dir p cleared n before mid after a b c is one two =
     let at_name : Clears (is_prefix (dir ++ n ∷ [])) (done T u) mid after b c = subst (λ x. Clears (is_prefix x) (done T u) mid after b c) is two in
-    let both : Clears (is_below_any dir (front ++ n ∷ [])) (done T u) before after a c =
-    clears_then T (is_below_any dir front) (is_prefix (dir ++ n ∷ [])) (is_below_any dir (front ++ n ∷ [])) t (done T u) before mid after a b c
-    (below_first dir front [] (front ++ n ∷ []) n refl) (below_next dir front [] (front ++ n ∷ []) n refl) (λ ok q. below_either dir front n q) one at_name in
+    let both : Clears (is_below_any dir (cleared ++ n ∷ [])) (done T u) before after a c =
+    clears_then T (is_below_any dir cleared) (is_prefix (dir ++ n ∷ [])) (is_below_any dir (cleared ++ n ∷ [])) t (done T u) before mid after a b c
+    (below_first dir cleared [] (cleared ++ n ∷ []) n refl) (below_next dir cleared [] (cleared ++ n ∷ []) n refl) (λ ok q. below_either dir cleared n q) one at_name in
     record {
       spares = both.spares;
-      told = told_map (ClearsTold (is_below_any dir (front ++ n ∷ [])) (done T u) before after) (ClearsTold (is_below_any dir (front ++ n ∷ [])) (done T t) before after)
+      told = told_map (ClearsTold (is_below_any dir (cleared ++ n ∷ [])) (done T u) before after) (ClearsTold (is_below_any dir (cleared ++ n ∷ [])) (done T t) before after)
           (λ d e x. record { gone = x.gone; are = x.are; counts = x.counts; ends = x.ends; appended = x.appended }) a.told c.told both.told;
     }
 
 -- at a name it stops
-pub clears_stops : (T U : Type 0) (t : T) (e : CleanErr) (dir p : List (List ℕ)) (front back names : List (List ℕ)) (n : List ℕ) (before mid after : ℕ) (a b c : DiskState)
-    → p ≡ dir ++ n ∷ [] → names ≡ front ++ n ∷ back
-    → Clears (is_below_any dir front) (done T t) before mid a b → Clears (is_prefix p) (failed U e) mid after b c → Clears (is_below_any dir names) (failed U e) before after a c
-clears_stops T U t e dir p front back names n before mid after a b c is split one two =
+pub clears_stops : (T U : Type 0) (t : T) (e : CleanErr) (dir p : List (List ℕ)) (cleared back names : List (List ℕ)) (n : List ℕ) (before mid after : ℕ) (a b c : DiskState)
+    → p ≡ dir ++ n ∷ [] → names ≡ cleared ++ n ∷ back
+    → Clears (is_below_any dir cleared) (done T t) before mid a b → Clears (is_prefix p) (failed U e) mid after b c → Clears (is_below_any dir names) (failed U e) before after a c
+clears_stops T U t e dir p cleared back names n before mid after a b c is split one two =
     let at_name : Clears (is_prefix (dir ++ n ∷ [])) (failed U e) mid after b c = subst (λ x. Clears (is_prefix x) (failed U e) mid after b c) is two in
-    clears_then T (is_below_any dir front) (is_prefix (dir ++ n ∷ [])) (is_below_any dir names) t (failed U e) before mid after a b c
-    (below_first dir front back names n split) (below_next dir front back names n split) (λ ok. absurd (false≢true ok)) one at_name
+    clears_then T (is_below_any dir cleared) (is_prefix (dir ++ n ∷ [])) (is_below_any dir names) t (failed U e) before mid after a b c
+    (below_first dir cleared back names n split) (below_next dir cleared back names n split) (λ ok. absurd (false≢true ok)) one at_name
 
 -- before a name there was no memory for its path
-pub clears_before : (T U : Type 0) (t : T) (dir : List (List ℕ)) (front back names : List (List ℕ)) (n : List ℕ) (before mid : ℕ) (a b : DiskState) → names ≡ front ++ n ∷ back → Rests b b
-    → Clears (is_below_any dir front) (done T t) before mid a b → Clears (is_below_any dir names) (failed U OutOfMemory) before mid a b
-clears_before T U t dir front back names n before mid a b split rests one =
-    clears_stops T U t OutOfMemory dir (dir ++ n ∷ []) front back names n before mid mid a b b refl split one (clears_starved U (is_prefix (dir ++ n ∷ [])) mid b b rests)
+pub clears_before : (T U : Type 0) (t : T) (dir : List (List ℕ)) (cleared back names : List (List ℕ)) (n : List ℕ) (before mid : ℕ) (a b : DiskState) → names ≡ cleared ++ n ∷ back → Rests b b
+    → Clears (is_below_any dir cleared) (done T t) before mid a b → Clears (is_below_any dir names) (failed U OutOfMemory) before mid a b
+clears_before T U t dir cleared back names n before mid a b split rests one =
+    clears_stops T U t OutOfMemory dir (dir ++ n ∷ []) cleared back names n before mid mid a b b refl split one (clears_starved U (is_prefix (dir ++ n ∷ [])) mid b b rests)
 
 -- ---- what is known of a path by its kind
 

@@ -74,7 +74,7 @@ SamePiece (stored xs) untold at n = Unit {0}
 SamePiece missing theirs at n = Unit {0}
 SamePiece untold theirs at n = Unit {0}
 
--- the same of the files whole, which have this size
+-- whether two files of this size have the same bytes
 abbrev pub SameWhole : shelf.Told → shelf.Told → ℕ → Bool → Type 0
 SameWhole (stored xs) (stored ys) size same = length xs ≡ size → length ys ≡ size → MatchBool same (xs ≡ ys) (xs ≢ ys)
 SameWhole (stored xs) missing size same = Unit {0}

@@ -17,7 +17,7 @@ told_stays a b (Here bytes) rests = refl
 told_stays a b (Kept home) rests = ap (λ o. told_at o (home_path home.generation home.file)) rests.told
 told_stays a b (Depot path) rests = refl
 
--- a disk that rests tells the same of each held file; and the shelf keeps the reference to it
+-- what a disk tells of each held file stays while it rests; and the shelf keeps the reference to it
 pub shelf_stays : {S N : Type 0} (state : S → DiskState) (name : S → N)
     → IsStays {S = S} (λ a b. Rests (state a) (state b) × (name b ≡ name a)) (λ _ held. is_served held.body) (λ s held. body_told (state s) held.body)
 shelf_stays state name = record {

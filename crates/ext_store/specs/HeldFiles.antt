@@ -83,7 +83,7 @@ PieceCause old new told held at OutOfMemory = Unit {0}
 PieceCause old new told held at Fault = Rose old new
 PieceCause old new told held at (Damaged home listed found) = IsKeptAs held home listed × (found ≡ None) × EndsBy told at
 
--- ---- the same of a kept file, and of bytes that were read of it
+-- ---- a kept file, and bytes that were read of it
 
 -- why a file that is kept at the home with this stamp is not given
 abbrev pub KeptCause : DiskState → DiskState → Home → Stamp → ShelfErr → Type 0

@@ -18,8 +18,6 @@ mod names;
 mod paths;
 mod reading;
 mod removal;
-#[cfg(test)]
-mod tests;
 mod writing;
 
 pub use comparing::is_same_as_kept;

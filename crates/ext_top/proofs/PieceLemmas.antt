@@ -75,7 +75,7 @@ piece_done told size at count piece k l next is_count writes = λ bytes is long.
 
 -- ---- pieces one after another
 
--- what rests tells the same of a file
+-- what a disk tells of a file stays while it rests
 pub told_rests : (d e : DiskState) (body : Body) → Rests d e → body_told e body ≡ body_told d body
 told_rests d e (Here bytes) rests = refl
 told_rests d e (Kept home) rests = ap (λ o. told_at o (home_path home.generation home.file)) rests.told

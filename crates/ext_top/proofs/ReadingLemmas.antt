@@ -76,7 +76,7 @@ pub unread_applies : (P : State → Outcome → Type 0) (from : Option Generatio
     → BothTold (AppliesTold P from (Err error)) old.told new.told
 unread_applies P from old new error same disk cause = rested_told P from (Err error) old.told new.told same disk (λ d told s is firmly. unread_ends (P s) from old new error s d is told firmly cause)
 
--- the same of a command that may do more
+-- a cause of a command that only reads the store is one of a command that may do more
 pub rest_cause : (from : Option Generation) (old new : DiskState) (before after : DepotState) (error : ApplyErr) → RestCause from old new error → ApplyCause from old new before after error
 rest_cause from old new before after DiskFault cause = cause
 rest_cause from old new before after DepotFault cause = absurd cause

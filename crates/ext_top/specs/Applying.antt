@@ -111,7 +111,7 @@ ApplyCause opened old new before after (Damaged home listed found) = IsDamage op
 ApplyCause opened old new before after Unfinished = IsCrowded opened old
 ApplyCause opened old new before after OutOfMemory = Unit {0}
 
--- the same of one that only reads the store
+-- why a command that only reads the store was not carried out
 abbrev pub RestCause : Option Generation → DiskState → DiskState → ApplyErr → Type 0
 RestCause opened old new DiskFault = Rose old.faults new.faults
 RestCause opened old new DepotFault = ⊥
@@ -119,7 +119,7 @@ RestCause opened old new (Damaged home listed found) = IsDamage opened old home 
 RestCause opened old new Unfinished = ⊥
 RestCause opened old new OutOfMemory = Unit {0}
 
--- the same of one of which it was not found what it wants: only the host's files and the depot were read
+-- why it was not found what a command wants: only the host's files and the depot were read
 abbrev pub SeeCause : Option Generation → DiskState → DiskState → DepotState → DepotState → ApplyErr → Type 0
 SeeCause opened old new before after DiskFault = Rose old.faults new.faults
 SeeCause opened old new before after DepotFault = Rose before.faults after.faults

@@ -231,7 +231,7 @@ StoreCause old new (BadStore (bad.Damaged home listed found)) = IfSome old.disk.
 StoreCause old new Unfinished = IfSome old.disk.told IsCrowdedNow
 StoreCause old new TooLong = ⊥
 
--- the same of a store that was opened so
+-- why a run over a store that was opened so ended
 abbrev pub OpenedCause : Option Generation → StoreSide → StoreSide → Status → Type 0
 OpenedCause opened old new Done = Unit {0}
 OpenedCause opened old new (Refused refusal) = Unit {0}

@@ -99,7 +99,7 @@ Met Checks from old new depot refusal after = (after ≡ from) × (refusal ≡ N
 Met (Shows held) from old new depot refusal after = (after ≡ from) × (refusal ≡ None) × IsListed (body_told old held.body) held.stamp
 Met (Refuses why) from old new depot refusal after = (after ≡ from) × (refusal ≡ Some why)
 
--- the same of what the command wants
+-- what was met of some intent that the command may have
 abbrev pub HasMet : (Intent → Type 0) → Option Generation → DiskState → DiskState → DepotState → Option Refusal → Option Generation → Type 0
 HasMet W from old new depot refusal after = (intent : Intent) × W intent × Met intent from old new depot refusal after
 

@@ -19,8 +19,6 @@ mod replying;
 mod running;
 mod status;
 mod stop;
-#[cfg(test)]
-mod tests;
 
 pub use applied::{Applied, Reply};
 pub use apply_err::ApplyErr;

@@ -64,7 +64,7 @@ long_answers T es u p standing Limit tree stand long = absurd long
 -- what is joined is the graft
 joined_graft : {C : Type 0} (es u : Entries C) (p : List (List ℕ)) (standing : ℕ) → IsTree es → IsTree u → IsPath p → StandsBelow es p standing → Fits p u → IsGraft es p u (joined p es (added p standing u))
 joined_graft es u p standing tree part path stand fits = record {
-  tree = tree_grafted es u (joined p es (added p standing u)) p tree part path (omega (arith, stand.short)) (open_above es p standing tree stand) fits (sorted_joined es u p standing tree part stand) (λ q. joined_grafted es u p q standing tree stand);
+  tree = tree_grafted es u (joined p es (added p standing u)) p tree part path (omega (arith, stand.not_all)) (open_above es p standing tree stand) fits (sorted_joined es u p standing tree part stand) (λ q. joined_grafted es u p q standing tree stand);
   each = λ q. joined_grafted es u p q standing tree stand;
 }
 

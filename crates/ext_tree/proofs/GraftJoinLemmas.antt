@@ -132,10 +132,10 @@ joined_grafted {C = C} es u p q standing tree stand =
     ]
   where
     short : standing < length p
-    short = stand.short
+    short = stand.not_all
 
     some : 0 < length p
-    some = omega (arith, stand.short)
+    some = omega (arith, stand.not_all)
 
     no_root : (p : List (List ℕ)) → 0 < length p → is_prefix p [] ≡ false
     no_root [] some = absurd (omega arith)

@@ -56,12 +56,12 @@ before_made es p q standing tree stand there less =
           let none : lookup es (take (suc standing) p) ≡ None = stand.absent (suc standing) (omega arith) proper in
           false≢true (sym (ap is_some none) ∙ first_there proper in_first)
       | inr whole ↦
-          let all : take (suc standing) p ≡ p = prefix_whole (take (suc standing) p) p (take_prefix (suc standing) p) (omega (arith, first_long, stand.short)) in
+          let all : take (suc standing) p ≡ p = prefix_whole (take (suc standing) p) p (take_prefix (suc standing) p) (omega (arith, first_long, stand.not_all)) in
           prefix_order q p (subst (λ f. is_prefix f q ≡ true) all in_first) less
     ])
   where
     first_long : length (take (suc standing) p) ≡ suc standing
-    first_long = omega (arith, length-take (suc standing) p, stand.short)
+    first_long = omega (arith, length-take (suc standing) p, stand.not_all)
 
     first_there : suc standing < length p → is_prefix (take (suc standing) p) q ≡ true → is_some (lookup es (take (suc standing) p)) ≡ true
     first_there proper in_first =
@@ -74,7 +74,7 @@ pub sorted_joined : {C : Type 0} (es u : Entries C) (p : List (List ℕ)) (stand
 sorted_joined {C = C} es u p standing tree part stand =
     sorted_join path_cmp paths_total (where_key path_cmp less es) (added p standing u ++ where_key path_cmp (is_after p) es)
     (sorted_where less)
-    (sorted_join path_cmp paths_total (added p standing u) (where_key path_cmp (is_after p) es) (sorted_added p standing u stand.short part.sorted part.root) (sorted_where (is_after p)) new_after)
+    (sorted_join path_cmp paths_total (added p standing u) (where_key path_cmp (is_after p) es) (sorted_added p standing u stand.not_all part.sorted part.root) (sorted_where (is_after p)) new_after)
     (λ q r here there. elim (join_found path_cmp r (added p standing u) (where_key path_cmp (is_after p) es) there) [
       | inl new ↦ before_new q r here new
       | inr after ↦
@@ -98,7 +98,7 @@ sorted_joined {C = C} es u p standing tree part stand =
 
     -- what is new begins with the first directory that is made
     begins : (r : List (List ℕ)) → is_some (lookup (added p standing u) r) ≡ true → is_prefix (take (suc standing) p) r ≡ true
-    begins r new = elim (added_there p r standing u stand.short new) [
+    begins r new = elim (added_there p r standing u stand.not_all new) [
       | inl at ↦ prefix_trans (take (suc standing) p) p r (take_prefix (suc standing) p) at
       | inr back ↦
           let whole = (prefix_first r p).0 back.0 in
@@ -114,7 +114,7 @@ sorted_joined {C = C} es u p standing tree part stand =
     new_after r s new there =
         let after = and_parts (is_lt (path_cmp p s)) (not (is_prefix p s)) (kept (is_after p) s there).0 in
         let past : path_cmp p s ≡ Less = is_less _ after.0 in
-        elim (added_there p r standing u stand.short new) [
-          | inl at ↦ less_by r s (λ behind. true≢false (sym (convex p s r (ap is_gt past) (not_past r s behind) at) ∙ not-true (is_prefix p s) after.1))
+        elim (added_there p r standing u stand.not_all new) [
+          | inl at ↦ less_by r s (λ after_s. true≢false (sym (convex p s r (ap is_gt past) (not_past r s after_s) at) ∙ not-true (is_prefix p s) after.1))
           | inr back ↦ prefix_before r p s back.0 past
         ]

@@ -31,7 +31,7 @@ first_prefix j k p low high = prefix_take k (take j p) p (take_prefix j p) (omeg
 
 -- where nothing stands at one more name, nothing stands at more of them
 pub none_further : {C : Type 0} (es : Entries C) (p : List (List ℕ)) (standing : ℕ) → IsTree es → standing + 1 < length p → ((k : ℕ) → 0 < k → k ≤ standing → is_directory_at (lookup es (take k p)) ≡ true) → lookup es (take (standing + 1) p) ≡ None → StandsBelow es p standing
-none_further {C = C} es p standing tree short there none = record { short = omega arith; there = there; absent = absent }
+none_further {C = C} es p standing tree short there none = record { not_all = omega arith; there = there; absent = absent }
   where
     absent : (k : ℕ) → standing < k → k < length p → lookup es (take k p) ≡ None
     absent k more less = elim (cases_lt (standing + 1) k) [

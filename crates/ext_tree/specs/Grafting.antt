@@ -30,7 +30,7 @@ joined p es new = where_key path_cmp (λ q. is_lt (path_cmp q p)) es ++ (new ++ 
 
 -- at so many first names of the path there are directories, and nothing stands at the longer proper prefixes
 pub record StandsBelow {C : Type 0} (es : Entries C) (p : List (List ℕ)) (standing : ℕ) : Type 0 where
-  pub short : standing < length p
+  pub not_all : standing < length p
   pub there : (k : ℕ) → 0 < k → k ≤ standing → IsTrue (is_directory_at (lookup es (take k p)))
   pub absent : (k : ℕ) → standing < k → k < length p → lookup es (take k p) ≡ None
 

@@ -74,7 +74,7 @@ fn added<C: Held1 + Drop>(
     standing: usize,
     part: &[(Path, Entry<C>)],
 ) -> Result<Vec<(Path, Entry<C>)>, TreeErr>
-    requires short { standing < length path.now }
+    requires not_all { standing < length path.now }
     requires part { IsTree part.now }
     ensures ok { IfOk result (λ new. (new.items ≡ added path.now standing part.now) × Fits path.now part.now) }
     ensures err { IfErr result (IsLongPath (IsTooLong path.now part.now)) }

@@ -13,18 +13,12 @@ mod entry_line;
 mod fields;
 mod following;
 mod graft;
-#[cfg(test)]
-mod graft_tests;
 mod insertion_point;
 pub mod laws;
 mod part;
-#[cfg(test)]
-mod part_tests;
 mod reading;
 mod slices;
 mod stamp;
-#[cfg(test)]
-mod tests;
 mod tree;
 mod writing;
 

@@ -236,6 +236,3 @@ fn push<T: Drop>(items: &mut Vec<T>, item: T) -> Result<(), OutOfMemory>
     items.push(item)?;
     Ok(())
 }
-
-#[cfg(test)]
-mod tests;

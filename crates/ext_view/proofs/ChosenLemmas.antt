@@ -77,13 +77,13 @@ module _ (told : HeldFile → Told) (host : Host) (base : Entries HeldFile) (cla
       ] refl
 
   -- the names of the items are in the order of what was found
-  names_behind : (name : List ℕ) (found_items : List FoundItem) (items : List SurveyItem) → Matched found_items items → below_all order_of name (by_name found_items) ≡ true → AllByRecursion (λ other. order_of name other ≡ Less) (names_of items)
-  names_behind name [] [] each below = tt
-  names_behind name [] (item ∷ items) each below = absurd each
-  names_behind name (f ∷ found_items) [] each below = absurd each
-  names_behind name (f ∷ found_items) (item ∷ items) each below =
+  names_after : (name : List ℕ) (found_items : List FoundItem) (items : List SurveyItem) → Matched found_items items → below_all order_of name (by_name found_items) ≡ true → AllByRecursion (λ other. order_of name other ≡ Less) (names_of items)
+  names_after name [] [] each below = tt
+  names_after name [] (item ∷ items) each below = absurd each
+  names_after name (f ∷ found_items) [] each below = absurd each
+  names_after name (f ∷ found_items) (item ∷ items) each below =
       let parts = and_parts (is_lt (order_of name f.name)) (below_all order_of name (by_name found_items)) below in
-      (subst (λ other. order_of name other ≡ Less) (sym each.0.name) (is_less _ parts.0), names_behind name found_items items each.1 parts.1)
+      (subst (λ other. order_of name other ≡ Less) (sym each.0.name) (is_less _ parts.0), names_after name found_items items each.1 parts.1)
 
   names_ascend : (found_items : List FoundItem) (items : List SurveyItem) → Matched found_items items → is_sorted order_of (by_name found_items) ≡ true → AreAscending order_of (names_of items)
   names_ascend [] [] each sorted = tt
@@ -91,7 +91,7 @@ module _ (told : HeldFile → Told) (host : Host) (base : Entries HeldFile) (cla
   names_ascend (f ∷ found_items) [] each sorted = absurd each
   names_ascend (f ∷ found_items) (item ∷ items) each sorted =
       let parts = and_parts (below_all order_of f.name (by_name found_items)) (is_sorted order_of (by_name found_items)) sorted in (
-        subst (λ name. AllByRecursion (λ other. order_of name other ≡ Less) (names_of items)) (sym each.0.name) (names_behind f.name found_items items each.1 parts.0),
+        subst (λ name. AllByRecursion (λ other. order_of name other ≡ Less) (names_of items)) (sym each.0.name) (names_after f.name found_items items each.1 parts.0),
         names_ascend found_items items each.1 parts.1,
       )
 

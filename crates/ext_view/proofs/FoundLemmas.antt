@@ -22,13 +22,13 @@ use Rattle.ext_view.specs.ImageRelease.{LeadsToRelease}
 use Rattle.ext_view.specs.Judging.{IsSound, WhereImage}
 
 module _ {X : Type 0} where
-  -- what is found in a list is found behind an entry that comes before all
-  found_behind : (e : List ℕ × X) (all es : List (List ℕ × X)) → below_all order_of e.0 es ≡ true → AllByRecursion (λ f. find order_of f.0 all ≡ Some f.1) es → AllByRecursion (λ f. find order_of f.0 (e ∷ all) ≡ Some f.1) es
-  found_behind e all [] below found = tt
-  found_behind e all (f ∷ es) below found =
+  -- what is found in a list is found after an entry that comes before all
+  found_after : (e : List ℕ × X) (all es : List (List ℕ × X)) → below_all order_of e.0 es ≡ true → AllByRecursion (λ f. find order_of f.0 all ≡ Some f.1) es → AllByRecursion (λ f. find order_of f.0 (e ∷ all) ≡ Some f.1) es
+  found_after e all [] below found = tt
+  found_after e all (f ∷ es) below found =
       let parts = and_parts (is_lt (order_of e.0 f.0)) (below_all order_of e.0 es) below in (
         ap (λ o. cond (is_eq o) (Some e.1) (find order_of f.0 all)) (orders_total.antisymm f.0 e.0 ∙ ap ordering_reverse (is_less _ parts.0)) ∙ found.0,
-        found_behind e all es parts.1 found.1,
+        found_after e all es parts.1 found.1,
       )
 
   -- each entry of a list in order is found by its key
@@ -37,7 +37,7 @@ module _ {X : Type 0} where
   found_each (e ∷ es) sorted =
       let parts = and_parts (below_all order_of e.0 es) (is_sorted order_of es) sorted in (
         ap (λ o. cond (is_eq o) (Some e.1) (find order_of e.0 es)) (tied_itself orders_total e.0),
-        found_behind e es es parts.0 (found_each es parts.1),
+        found_after e es es parts.0 (found_each es parts.1),
       )
 
   -- a fact of entries as one of the items that they are made of

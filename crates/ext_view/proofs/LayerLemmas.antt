@@ -29,22 +29,22 @@ use Rattle.ext_view.proofs.InsideLemmas.{found_inside, in_prefix, in_root, none_
 
 -- where a mapped list is split, the list is
 record IsSplit {X Y : Type 0} (f : X → Y) (xs : List X) (above : List Y) (y : Y) : Type 0 where
-  front : List X
-  here : X
-  back : List X
-  whole : xs ≡ front ++ here ∷ back
-  above_is : map f front ≡ above
-  here_is : f here ≡ y
+  uppers : List X
+  layer : X
+  lowers : List X
+  whole : xs ≡ uppers ++ layer ∷ lowers
+  above_is : map f uppers ≡ above
+  layer_is : f layer ≡ y
 
 split_map : {X Y : Type 0} (f : X → Y) (xs : List X) (above : List Y) (y : Y) (below : List Y) → map f xs ≡ above ++ y ∷ below → IsSplit f xs above y
 split_map f [] [] y below is = cc
 split_map f [] (a ∷ above) y below is = cc
-split_map f (x ∷ xs) [] y below is = record { front = []; here = x; back = xs; whole = refl; above_is = refl; here_is = (cc) }
+split_map f (x ∷ xs) [] y below is = record { uppers = []; layer = x; lowers = xs; whole = refl; above_is = refl; layer_is = (cc) }
 split_map f (x ∷ xs) (a ∷ above) y below is =
     let first : f x ≡ a = cc in
     let rest : map f xs ≡ above ++ y ∷ below = cc in
     let s = split_map f xs above y below rest in
-    record { front = x ∷ s.front; here = s.here; back = s.back; whole = ap (λ l. x ∷ l) s.whole; above_is = (λ i. first i ∷ s.above_is i); here_is = s.here_is }
+    record { uppers = x ∷ s.uppers; layer = s.layer; lowers = s.lowers; whole = ap (λ l. x ∷ l) s.whole; above_is = (λ i. first i ∷ s.above_is i); layer_is = s.layer_is }
 
 -- what holds of each of a mapped list
 all_unmapped : {X Y : Type 0} (f : X → Y) (P : Y → Type 0) (xs : List X) → AllByRecursion P (map f xs) → AllByRecursion (λ x. P (f x)) xs
@@ -88,18 +88,18 @@ module _ {C : Type 0} (names : List (List ℕ)) (p : List (List ℕ)) (in_ : is_
   pub visible_whole : (layers : List (Entries C)) (e : Entry C) → AllByRecursion IsTree layers → IsVisible (map (inside names) layers) p e → IsVisible layers p e
   visible_whole layers e trees v =
       let s = split_map (inside names) layers v.above v.layer v.below v.split in
-      let trees_above = (all_split IsTree s.front (s.here ∷ s.back) (subst (AllByRecursion IsTree) s.whole trees)).0 in
+      let trees_above = (all_split IsTree s.uppers (s.layer ∷ s.lowers) (subst (AllByRecursion IsTree) s.whole trees)).0 in
       record {
-        above = s.front;
-        layer = s.here;
-        below = s.back;
+        above = s.uppers;
+        layer = s.layer;
+        below = s.lowers;
         split = s.whole;
         stored = v.stored;
-        stands = sym (found_inside names p s.here in_) ∙ ap (λ es. lookup es p) s.here_is ∙ v.stands;
+        stands = sym (found_inside names p s.layer in_) ∙ ap (λ es. lookup es p) s.layer_is ∙ v.stands;
         no_hide = v.no_hide;
         shown = v.shown;
-        open_ = all_two IsTree (λ es. CutsOff (inside names es) p → ⊥) (λ es. CutsOff es p → ⊥) (λ es tree open_ cuts. open_ (cut_inside es tree.root cuts)) s.front trees_above
-            (all_unmapped (inside names) (λ es. CutsOff es p → ⊥) s.front (subst (AllByRecursion (λ es. CutsOff es p → ⊥)) (sym s.above_is) v.open_));
+        open_ = all_two IsTree (λ es. CutsOff (inside names es) p → ⊥) (λ es. CutsOff es p → ⊥) (λ es tree open_ cuts. open_ (cut_inside es tree.root cuts)) s.uppers trees_above
+            (all_unmapped (inside names) (λ es. CutsOff es p → ⊥) s.uppers (subst (AllByRecursion (λ es. CutsOff es p → ⊥)) (sym s.above_is) v.open_));
       }
 
   pub visible_inside : (layers : List (Entries C)) (e : Entry C) → IsVisible layers p e → IsVisible (map (inside names) layers) p e
@@ -119,7 +119,7 @@ module _ {C : Type 0} (names : List (List ℕ)) (p : List (List ℕ)) (in_ : is_
 visible_nowhere : {C : Type 0} (names : List (List ℕ)) (p : List (List ℕ)) → is_in names p ≡ false → (layers : List (Entries C)) (e : Entry C) → IsVisible (map (inside names) layers) p e → ⊥
 visible_nowhere names p out layers e v =
     let s = split_map (inside names) layers v.above v.layer v.below v.split in
-    false≢true (sym (ap is_some (none_inside names p s.here out)) ∙ ap (λ es. is_some (lookup es p)) s.here_is ∙ ap is_some v.stands)
+    false≢true (sym (ap is_some (none_inside names p s.layer out)) ∙ ap (λ es. is_some (lookup es p)) s.layer_is ∙ ap is_some v.stands)
 
 -- ---- the view
 
@@ -130,8 +130,8 @@ images_of base names [] (layer ∷ parts) are = absurd are
 images_of base names (item ∷ items) [] are = absurd are
 images_of base names (item ∷ items) (layer ∷ parts) are =
     let rest = images_of base names items parts are.1 in
-    let here = are.0 in
-    (part here.0 base ∷ rest.0, ((here.0, here.1, refl), rest.1), (λ i. here.2 i ∷ rest.2 i))
+    let layer = are.0 in
+    (part layer.0 base ∷ rest.0, ((layer.0, layer.1, refl), rest.1), (λ i. layer.2 i ∷ rest.2 i))
 
 trees_of : (base : Entries HeldFile) (items : List SurveyItem) (images : List (Entries HeldFile)) → IsTree base → AreImagesOf base items images → AllByRecursion IsTree images
 trees_of base [] [] tree are = tt

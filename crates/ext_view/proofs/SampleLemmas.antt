@@ -46,8 +46,8 @@ apart name other (suc i, lt, same) = absurd (omega arith)
 
 default_classes : AreOfClasses (record { sysext = default_hierarchies Sysext; confext = default_hierarchies Confext })
 default_classes = record {
-  sysext = record { some = omega arith; few = omega arith; order = ((refl, tt), (tt, tt)) };
-  confext = record { some = omega arith; few = omega arith; order = (tt, tt) };
+  sysext = record { non_empty = omega arith; at_most_16 = omega arith; order = ((refl, tt), (tt, tt)) };
+  confext = record { non_empty = omega arith; at_most_16 = omega arith; order = (tt, tt) };
   apart = (apart (codes "opt") refl, (apart (codes "usr") refl, tt));
 }
 

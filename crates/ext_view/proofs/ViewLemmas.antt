@@ -236,7 +236,7 @@ module _ (class : Class) (host : Host) (extension : IsExtension class) (base : E
 -- the names of chosen images are those of a merged class
 pub chosen_merged : (base : Entries HeldFile) (items : List SurveyItem) → AreChosen base items → 0 < length items → AreMerged (names_of items)
 chosen_merged base items chosen some = record {
-  some = omega (arith, length-map items (λ (item : SurveyItem). item.name));
+  non_empty = omega (arith, length-map items (λ (item : SurveyItem). item.name));
   order = chosen.order;
 }
 

@@ -20,7 +20,7 @@ LeadsItem base item = Leads base item.place
 abbrev pub IsPartAt : Entries HeldFile → List (List ℕ) → List (List ℕ) → Entries HeldFile → Type 0
 IsPartAt base hierarchies place layer = (end : List (List ℕ)) × Ends base place end × (layer ≡ inside hierarchies (part end base))
 
--- the same of the images of some items, in their order
+-- what the images of some items have there, in their order
 abbrev pub ArePartsOf : Entries HeldFile → List (List ℕ) → List SurveyItem → List (Entries HeldFile) → Type 0
 ArePartsOf base hierarchies items layers = AreMatched (λ item layer. IsPartAt base hierarchies item.place layer) items layers
 

@@ -22,7 +22,7 @@ pub enum ViewErr {
         /// The first line that is, counted from 1.
         line: u64,
     },
-    /// The shelf did not give the bytes of a release file; never for want of memory.
+    /// The shelf did not give the bytes of a release file; never where memory ran out.
     #[error("a release file is not given")]
     Shelf(ShelfErr),
     /// The merged host would pass a limit.

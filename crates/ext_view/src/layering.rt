@@ -39,7 +39,7 @@ pub(crate) fn merged(
     requires valid { IsValidHost host.now }
     requires base { IsBaseTree host.now base }
     requires chosen { AreChosen base items.now }
-    requires some { 0 < length items.now }
+    requires non_empty { 0 < length items.now }
     ensures gives { GivesHost host.now class base items.now result }
     ensures next { IfOk result (IsNext host.now) }
 {

@@ -8,8 +8,6 @@
 pub mod laws;
 mod parts;
 mod resolving;
-#[cfg(test)]
-mod tests;
 mod walking;
 
 pub use resolving::{end_of_path, end_of_text, resolve};

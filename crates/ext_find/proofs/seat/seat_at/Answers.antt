@@ -32,12 +32,12 @@ returns-in-DotV g c =
     (ap (is_mask_at g.C.Measured.size) c.requires.stands.there ∙ sym c.is_mask.ensures ∙ c.if-is_mask.false) (ap ending_of (sym c.bytes.ensures.same) ∙ sym c.in-DotV.ensures))
     (rw c.requires.stem at c.picked.ensures)
 
-pub returns-in_ok-folder-in-DotRawV : goal.returns-in_ok-folder-in-DotRawV
-returns-in_ok-folder-in-DotRawV g c =
+pub returns-in_ok-directory-in-DotRawV : goal.returns-in_ok-directory-in-DotRawV
+returns-in_ok-directory-in-DotRawV g c =
     if_ok (IsRawAt c.args.next.now.entry.now.0 c.is_some.result)
     (SeatAt g.C.Measured.size c.args.search.now.base.now c.args.search.now.class c.args.search.now.arch c.args.search.now.hierarchies.now c.args.next.now.entry.now.0 c.args.next.now.name.now) c.raw_at-in-DotRawV.result
     (seat_raw_v g.C.Measured.size c.args.search.now.base.now c.args.search.now.class c.args.search.now.arch c.args.search.now.hierarchies.now c.args.next.now.entry.now.0 c.args.next.now.name.now
     (ap (is_mask_at g.C.Measured.size) c.requires.stands.there ∙ sym c.is_mask.ensures ∙ c.if-is_mask.false) (ap ending_of (sym c.bytes.ensures.same) ∙ sym c.in-DotRawV.ensures) c.is_some.result
     (subst (λ b. IsTrue b ↔ LeadsToDirectory c.args.search.now.base.now c.args.next.now.entry.now.0) (sym c.is_some.ensures)
-    (directory_some c.args.search.now.base.now c.args.next.now.entry.now.0 c.in_ok-folder-in-DotRawV.folder (rw c.names-in-DotRawV.ensures.same at c.in_ok-folder-in-DotRawV.ensures))))
+    (directory_some c.args.search.now.base.now c.args.next.now.entry.now.0 c.in_ok-directory-in-DotRawV.directory (rw c.names-in-DotRawV.ensures.same at c.in_ok-directory-in-DotRawV.ensures))))
     c.raw_at-in-DotRawV.ensures

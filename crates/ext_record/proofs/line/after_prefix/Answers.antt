@@ -6,5 +6,5 @@ use Rattle.ext_record.proofs.line.after_prefix.Goals as goal
 
 pub returns-else-eq : goal.returns-else-eq
 returns-else-eq c = λ rest e.
-    let front = c.split_at.ensures.front ∙ ap (take (length c.args.prefix.now)) e ∙ take-append_seam c.args.prefix.now rest in
-    other_text c.split_at.result.0.now c.args.prefix.now c.if-eq.ensures front
+    let begins = c.split_at.ensures.front ∙ ap (take (length c.args.prefix.now)) e ∙ take-append_seam c.args.prefix.now rest in
+    other_text c.split_at.result.0.now c.args.prefix.now c.if-eq.ensures begins

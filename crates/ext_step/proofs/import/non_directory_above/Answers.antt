@@ -5,7 +5,7 @@ use Rattle.ext_step.proofs.import.non_directory_above.Goals as goal
 pub returns-then-is_non_directory : goal.returns-then-is_non_directory
 returns-then-is_non_directory c =
     rw c.in_ok-above.ensures (record {
-      above = fewer_proper c.counts.count c.args.path.now (omega (arith, ap length c.names-count-end.ensures.same));
+      proper_prefix = fewer_proper c.counts.count c.args.path.now (omega (arith, ap length c.names-count-end.ensures.same));
       stands = cc (c.is_non_directory.ensures, c.if-is_non_directory.true, c.get.ensures, c.in_ok-above.ensures);
     })
 

@@ -15,7 +15,7 @@ names-preserved g c =
     let first = c.split_at.ensures.front ∙ ap (take (c.names.standing + 1)) c.names-names.ensures.same in
     let directory = ap is_directory_at (sym (ap (lookup c.args.entries.now) first) ∙ sym c.in-Some.ensures) ∙ sym c.is_directory.ensures ∙ c.if-is_directory.true in
     record {
-      short = omega (arith, ap length c.names-names.ensures.same);
+      not_all = omega (arith, ap length c.names-names.ensures.same);
       there = directory_further c.args.entries.now c.args.path.now c.names.standing c.names.invariant.there directory;
     }
 

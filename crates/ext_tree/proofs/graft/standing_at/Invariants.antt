@@ -5,7 +5,7 @@ use Rattle.ext_tree.proofs.graft.standing_at.Given as goal
 
 abbrev pub invariant-names : goal.invariant-names
 invariant-names g l = record {
-  short : l.standing < length l.path;
+  not_all : l.standing < length l.path;
   there : (k : ℕ) → 0 < k → k ≤ l.standing → IsTrue (is_directory_at (lookup l.entries (take k l.path)));
 }
 

@@ -1,2 +1,0 @@
-mod printed;
-mod words;
