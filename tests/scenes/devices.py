@@ -21,13 +21,24 @@ SECONDS = 30
 NOBODY = 65534
 
 
+def sources():
+    """The files that programs are made from."""
+    yield TOP / "crates.txt"
+    for part in "src", "specs", "proofs":
+        for folder in TOP.glob(f"crates/*/{part}"):
+            yield from (path for path in folder.rglob("*") if path.is_file())
+
+
 @functools.cache
 def built():
-    """The program, which is proved and built first where it has to be."""
+    """The program, which is proved and built first where it isn't there, or is older than its sources."""
+    program = CRATE / "out/ext_folder_probe"
+    if program.is_file() and max(path.stat().st_mtime for path in sources()) <= program.stat().st_mtime:
+        return program
     if not shutil.which("rt"):
         raise Skipped("there is no rt")
     subprocess.run(["rt", "run", "--", "disk", "."], cwd=CRATE, stdin=subprocess.DEVNULL, capture_output=True, check=True)
-    return CRATE / "out/ext_folder_probe"
+    return program
 
 
 def become_nobody():
