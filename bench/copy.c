@@ -54,7 +54,7 @@ static uint32_t root_of(int prime, int power) {
         if ((power == 3 ? middle * middle * middle : middle * middle) <= prime) low = middle;
         else high = middle;
     }
-    return (uint32_t)((low - (int)low) * 4294967296.0Q);
+    return (uint32_t)((low - (int)low) * 4294967296.0);
 }
 
 static uint32_t start[8];
