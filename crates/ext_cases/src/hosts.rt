@@ -254,7 +254,7 @@ fn wrong_fit(alloc: Global) -> Result<Option<&'static [u8]>, Fail> {
     for (count, bytes, text, fits) in &FITS {
         let tree = read_tree(alloc, text)?;
         let res = path_of(alloc, *count, *bytes)?;
-        let is_right = match from_depot(alloc, &tree, &res) {
+        let is_right = match from_depot(alloc, tree, &res) {
             Ok(held) => *fits && is_tree(alloc, &held, text)?,
             Err(TreeErr::Path) => !*fits,
             Err(_) => false,
@@ -335,7 +335,7 @@ fn held_files_have_their_bytes(rt: HostRuntime) -> Result<(), Fail> {
     assert!(rt; first.bytes() == b"abc".as_slice() && second.bytes().is_empty());
     assert!(rt; held.stamp().size == 3 && held.stamp().digest == Digest::of(b"abc"));
     let tree = read_tree(alloc, ROOT)?;
-    let depot = from_depot(alloc, &tree, &Path::read(alloc, b"img/a")?)?;
+    let depot = from_depot(alloc, tree, &Path::read(alloc, b"img/a")?)?;
     let path = depot_path(alloc, &depot, &Path::read(alloc, b"usr/bin/tool")?)?;
     assert!(rt; path.ok_or("no path")?.bytes() == b"img/a/usr/bin/tool".as_slice());
     assert_eq!(rt; default_hierarchies(alloc, Class::Sysext)?.len(), 2);

@@ -52,7 +52,7 @@ fn paths(alloc: Global, all: &[&[u8]]) -> Result<Paths, PathErr> {
 fn tree(alloc: Global, text: &[u8]) -> Result<Tree<Held>, Fail> {
     let stamps = read_tree(alloc, text)?;
     let res = path(alloc, b"res")?;
-    Ok(from_depot(alloc, &stamps, &res)?)
+    Ok(from_depot(alloc, stamps, &res)?)
 }
 
 fn empty_host(alloc: Global) -> Result<Host, Fail> {

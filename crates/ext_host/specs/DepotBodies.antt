@@ -60,5 +60,5 @@ FitsErr res es Path = (e : List (List ℕ) × Entry Stamp) × Contains es e × P
 
 -- what `from_depot` gives: the tree, where each file's path fits, or that the path of some file does not
 abbrev pub GivesFromDepot : List (List ℕ) → Entries Stamp → Result (Entries HeldFile) TreeErr → Type 0
-GivesFromDepot res es (Ok copy) = (copy ≡ from_depot res es) × AllByRecursion (Fits res) es
+GivesFromDepot res es (Ok placed) = (placed ≡ from_depot res es) × AllByRecursion (Fits res) es
 GivesFromDepot res es (Err e) = FitsErr res es e

@@ -15,53 +15,52 @@ use std::alloc::Global;
 /// # Errors
 /// `Path` exactly where a file's path below `res` passes the limits of a path; `OutOfMemory` may come at any time, and
 /// nothing else comes.
-pub fn from_depot(alloc: Global, tree: &Tree<Stamp>, res: &Path) -> Result<Tree<Held>, TreeErr>
-    ensures { GivesFromDepot res.now tree.now result }
+pub fn from_depot(alloc: Global, tree: Tree<Stamp>, res: &Path) -> Result<Tree<Held>, TreeErr>
+    ensures { GivesFromDepot res.now tree result }
 {
-    let pairs = pairs_at(alloc, tree.pairs(), res)?;
+    let pairs = pairs_at(alloc, tree.into_pairs(), res)?;
     Ok(Tree::from_pairs(pairs))
 }
 
-// Copies of entries, each file's with a body below `res`.
+// The entries, each file's with a body below `res`.
 fn pairs_at(
     alloc: Global,
-    pairs: &[(Path, Entry<Stamp>)],
+    pairs: Vec<(Path, Entry<Stamp>)>,
     res: &Path,
 ) -> Result<Vec<(Path, Entry<Held>)>, TreeErr>
-    ensures ok { IfOk result (λ copies. (copies.items ≡ from_depot res.now pairs.now) × AllByRecursion (Fits res.now) pairs.now) }
-    ensures err { IfErr result (FitsErr res.now pairs.now) }
+    ensures ok { IfOk result (λ placed. (placed.items ≡ from_depot res.now pairs.items) × AllByRecursion (Fits res.now) pairs.items) }
+    ensures err { IfErr result (FitsErr res.now pairs.items) }
 {
-    let mut copies = grown(Vec::with_capacity(alloc, pairs.len()))?;
+    let mut placed = grown(Vec::with_capacity(alloc, pairs.len()))?;
     for pair in pairs {
-        let copy = pair_at(pair, res)?;
-        grown(copies.push(copy))?;
+        grown(placed.push(pair_at(pair, res)?))?;
     }
-    Ok(copies)
+    Ok(placed)
 }
 
-// A copy of an entry, a file's with a body below `res`.
-fn pair_at(pair: &(Path, Entry<Stamp>), res: &Path) -> Result<(Path, Entry<Held>), TreeErr>
-    ensures ok { IfOk result (λ copy. (copy ≡ pair_in_depot res.now pair.now) × Fits res.now pair.now) }
-    ensures err { IfErr result (HasFileErr res.now pair.now) }
+// The entry, a file's with a body below `res`.
+fn pair_at(pair: (Path, Entry<Stamp>), res: &Path) -> Result<(Path, Entry<Held>), TreeErr>
+    ensures ok { IfOk result (λ placed. (placed ≡ pair_in_depot res.now pair) × Fits res.now pair) }
+    ensures err { IfErr result (HasFileErr res.now pair) }
 {
-    let entry = entry_at(&pair.1, &pair.0, res)?;
-    let path = pair.0.copy()?;
+    let (path, entry) = pair;
+    let entry = entry_at(entry, &path, res)?;
     Ok((path, entry))
 }
 
-// A copy of the path's entry, a file's with a body below `res`.
-fn entry_at(entry: &Entry<Stamp>, path: &Path, res: &Path) -> Result<Entry<Held>, TreeErr>
-    ensures ok { IfOk result (λ copy. (copy ≡ in_depot (res.now ++ path.now) entry.now) × Fits res.now (path.now, entry.now)) }
-    ensures err { IfErr result (HasFileErr res.now (path.now, entry.now)) }
+// The path's entry, a file's with a body below `res`.
+fn entry_at(entry: Entry<Stamp>, path: &Path, res: &Path) -> Result<Entry<Held>, TreeErr>
+    ensures ok { IfOk result (λ placed. (placed ≡ in_depot (res.now ++ path.now) entry) × Fits res.now (path.now, entry)) }
+    ensures err { IfErr result (HasFileErr res.now (path.now, entry)) }
 {
     match entry {
-        Entry::Dir(mode) => Ok(Entry::Dir(*mode)),
-        Entry::Opaque(mode) => Ok(Entry::Opaque(*mode)),
+        Entry::Dir(mode) => Ok(Entry::Dir(mode)),
+        Entry::Opaque(mode) => Ok(Entry::Opaque(mode)),
         Entry::File(mode, stamp) => {
             let path = joined(res, path)?;
-            Ok(Entry::File(*mode, Held::depot(*stamp, path)))
+            Ok(Entry::File(mode, Held::depot(stamp, path)))
         }
-        Entry::Link(target) => Ok(Entry::Link(target.copy()?)),
+        Entry::Link(target) => Ok(Entry::Link(target)),
         Entry::Hide => Ok(Entry::Hide),
     }
 }

@@ -78,7 +78,7 @@ fn import_whole(
     ensures { IfOk result (TextWants host.now resource.now path.now (Whole text.now)) }
 {
     match read_tree(alloc, text.bytes()) {
-        Ok(tree) => import_tree(alloc, host, resource.path(), path, &tree),
+        Ok(tree) => import_tree(alloc, host, resource.path(), path, tree),
         Err(TreeTextErr::OutOfMemory) => Err(OutOfMemory),
         Err(TreeTextErr::BadTree { line }) => {
             let path = Some(resource.tree_text().copy()?);
@@ -93,10 +93,10 @@ fn import_tree(
     host: &Host,
     resource: &Path,
     path: &Path,
-    tree: &Tree<Stamp>,
+    tree: Tree<Stamp>,
 ) -> Result<Intent, OutOfMemory>
     requires { IsValidHost host.now }
-    ensures { IfOk result (TreeWants host.now resource.now path.now tree.now) }
+    ensures { IfOk result (TreeWants host.now resource.now path.now tree) }
 {
     if host.locks(path) {
         let path = read_only_at(host, path)?;
@@ -137,22 +137,22 @@ fn import_open(
     host: &Host,
     resource: &Path,
     path: &Path,
-    tree: &Tree<Stamp>,
+    tree: Tree<Stamp>,
 ) -> Result<Intent, OutOfMemory>
     requires { IsOpen host.now.root path.now }
-    ensures { IfOk result (FittingWants host.now resource.now path.now tree.now) }
+    ensures { IfOk result (FittingWants host.now resource.now path.now tree) }
 {
     match from_depot(alloc, tree, resource) {
-        Ok(part) => import_part(host, path, &part),
+        Ok(part) => import_part(host, path, part),
         Err(TreeErr::OutOfMemory) => Err(OutOfMemory),
         Err(_) => Ok(limit(Which::Path)),
     }
 }
 
 // What it wants, by the tree with its files in the depot.
-fn import_part(host: &Host, path: &Path, part: &Tree<Held>) -> Result<Intent, OutOfMemory>
+fn import_part(host: &Host, path: &Path, part: Tree<Held>) -> Result<Intent, OutOfMemory>
     requires { IsOpen host.now.root path.now }
-    ensures { IfOk result (PartWants host.now path.now part.now) }
+    ensures { IfOk result (PartWants host.now path.now part) }
 {
     let mut next = host.copy()?;
     next.touch(path);

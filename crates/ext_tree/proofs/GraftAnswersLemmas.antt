@@ -1,9 +1,9 @@
 -- What a graft answers: the tree with the part hung into it, or the first of its refusals.
-use Rattle.std.proofs.Common.{◌≡◌, ℕ, ◌+◌, ◌<◌, ◌≤◌, Bool, true, eqb, List, [], ◌∷◌, ◌++◌, length, get_or, take, Result, Ok, Err, is_some, refl, sym, ap, ◌∙◌, subst, map, append_assoc, arith}
+use Rattle.std.proofs.Common.{◌≡◌, ℕ, ◌<◌, ◌≤◌, Bool, true, eqb, List, [], ◌∷◌, ◌++◌, length, Result, Ok, Err, is_some, refl, sym, ap, ◌∙◌, subst, map, append_assoc, arith}
 use Rattle.std.specs.Prelude.{OnErr, OnOk}
 use Rattle.std.specs.List.{AllByRecursion}
 use Rattle.std.proofs.lemmas.Bool.{eqb-true, false≢true}
-use Rattle.std.proofs.lemmas.List.{map-append, take_more}
+use Rattle.std.proofs.lemmas.List.{map-append}
 use Rattle.ext_text.specs.Path.{IsPath, is_proper_prefix}
 use Rattle.ext_text.proofs.ForCallers.{all_append}
 use Rattle.ext_tree.specs.declared.entry.Entry.{Entry}
@@ -18,15 +18,12 @@ use Rattle.ext_tree.proofs.GraftOrderLemmas.{sorted_joined}
 
 -- ---- the part's entries, one after another
 
-pub hung_more : {C : Type 0} (p : List (List ℕ)) (u first old new : Entries C) (i : ℕ) (e : List (List ℕ) × Entry C) → i < length u → e ≡ get_or u i e → old ≡ first ++ map (hung p) (take i u) → new ≡ old ++ hung p e ∷ [] → new ≡ first ++ map (hung p) (take (i + 1) u)
-hung_more p u first old new i e within is so_far push =
-    push ∙ ap (λ es. es ++ hung p e ∷ []) so_far ∙ append_assoc first (map (hung p) (take i u)) (hung p e ∷ [])
-    ∙ ap (λ es. first ++ es) (ap (λ x. map (hung p) (take i u) ++ hung p x ∷ []) is ∙ sym (map-append (hung p) (take i u) (get_or u i e ∷ [])) ∙ ap (map (hung p)) (sym (take_more u i e within)))
+pub hung_more : {C : Type 0} (p : List (List ℕ)) (first old new done : Entries C) (e : List (List ℕ) × Entry C) → old ≡ first ++ map (hung p) done → new ≡ old ++ hung p e ∷ [] → new ≡ first ++ map (hung p) (done ++ e ∷ [])
+hung_more p first old new done e so_far push =
+    push ∙ ap (λ es. es ++ hung p e ∷ []) so_far ∙ append_assoc first (map (hung p) done) (hung p e ∷ []) ∙ ap (λ es. first ++ es) (sym (map-append (hung p) done (e ∷ [])))
 
-pub fits_more : {C : Type 0} (p : List (List ℕ)) (u : Entries C) (i : ℕ) (e : List (List ℕ) × Entry C) → i < length u → e ≡ get_or u i e → AllByRecursion (λ x. IsPath (p ++ x.0)) (take i u) → IsPath (p ++ e.0) → AllByRecursion (λ x. IsPath (p ++ x.0)) (take (i + 1) u)
-fits_more p u i e within is so_far path =
-    subst (AllByRecursion (λ x. IsPath (p ++ x.0))) (sym (take_more u i e within))
-    (all_append (λ x. IsPath (p ++ x.0)) (take i u) (get_or u i e ∷ []) so_far (subst (λ x. IsPath (p ++ x.0)) is path, tt))
+pub fits_more : {C : Type 0} (p : List (List ℕ)) (done : Entries C) (e : List (List ℕ) × Entry C) → AllByRecursion (λ x. IsPath (p ++ x.0)) done → IsPath (p ++ e.0) → AllByRecursion (λ x. IsPath (p ++ x.0)) (done ++ e ∷ [])
+fits_more p done e so_far path = all_append (λ x. IsPath (p ++ x.0)) done (e ∷ []) so_far (path, tt)
 
 -- ---- at the root
 

@@ -1,5 +1,5 @@
 -- How a part is hung into a tree: what stands above the path, name by name, and how many entries there are.
-use Rattle.std.proofs.Common.{◌≡◌, ℕ, suc, ◌+◌, ◌-◌, ◌<◌, ◌≤◌, Bool, true, false, cond, not, ◌&&◌, List, [], ◌∷◌, ◌++◌, length, get_or, take, drop, Some, None, is_some, refl, sym, ap, ◌∙◌, subst, arith, length-append, length-take, length-drop, append_assoc}
+use Rattle.std.proofs.Common.{◌≡◌, ℕ, suc, ◌+◌, ◌-◌, ◌<◌, ◌≤◌, Bool, true, false, cond, not, ◌&&◌, List, [], ◌∷◌, ◌++◌, length, get_or, take, drop, Some, None, is_some, refl, sym, ap, ◌∙◌, subst, arith, length-append, length-take, length-drop, append_assoc, append-nil}
 use mathlib.Core.Logic.{inl, inr}
 use Rattle.std.specs.List.{AllByRecursion, filter, splice}
 use Rattle.std.specs.Ordering.{is_lt, ordering_reverse, eq_by_cmp}
@@ -80,6 +80,11 @@ long_path Exists weaker long = long
 long_path NotDirectory weaker long = long
 long_path Path weaker long = weaker long
 long_path Limit weaker long = long
+
+-- a list whose items were all taken
+pub all_yielded : {X : Type 0} (all done rest : List X) → all ≡ done ++ rest → length rest ≡ 0 → all ≡ done
+all_yielded all done [] split none = split ∙ append-nil done
+all_yielded all done (x ∷ rest) split none = absurd (omega arith)
 
 -- the path of an entry of the part that grows too long
 pub too_long_at : {C : Type 0} (p : List (List ℕ)) (u : Entries C) (i : ℕ) (e : List (List ℕ) × Entry C) → IsTree u → i < length u → e ≡ get_or u i e → ¬ IsPath (p ++ e.0) → IsTooLong p u

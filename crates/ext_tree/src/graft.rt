@@ -10,7 +10,7 @@ ghost use Rattle.ext_tree.specs.Grafting.{AnswersLimit, IsLongPath, StandsTo, ad
 ghost use Rattle.ext_tree.specs.Slices.{is_after};
 ghost use Rattle.ext_tree.specs.Tree.{IsTree, most_entries};
 
-use crate::entry::{Entry, Held1};
+use crate::entry::Entry;
 use crate::insertion_point::entry_of;
 use crate::slices::count_through;
 use crate::tree::{MOST_ENTRIES, Tree, TreeErr};
@@ -21,28 +21,28 @@ use std::alloc::Global;
 // The mode of made directories.
 const MADE: u16 = 0o755;
 
-impl<C: Held1 + Drop> Tree<C> {
+impl<C: Drop> Tree<C> {
     /// Hangs the part into the tree: what stood at and below the path goes, missing parents and the path itself become
-    /// directories of mode 755, and copies of the part's entries stand below it. At the root the tree becomes the part.
+    /// directories of mode 755, and the part's entries stand below it. At the root the tree becomes the part.
     ///
     /// # Errors
     /// The first of these: `NotDirectory` exactly where an entry that is no directory stands at a proper prefix of the
     /// path; `Path` exactly where a path grows past its limits; `Limit` exactly where there would be more than 262,144
     /// entries. `OutOfMemory` may come in place of the last two, and `Exists` never. After any of them the tree is as
     /// before.
-    pub fn graft(&mut self, path: &Path, part: &Tree<C>) -> Result<(), TreeErr>
-        ensures ok { OnOk result (IsGraft self.old path.now part.now self.new) }
-        ensures answers { AnswersGraft self.old path.now part.now result }
+    pub fn graft(&mut self, path: &Path, part: Tree<C>) -> Result<(), TreeErr>
+        ensures ok { OnOk result (IsGraft self.old path.now part self.new) }
+        ensures answers { AnswersGraft self.old path.now part result }
         ensures err { OnErr result (self.new ≡ self.old) }
     {
         if path.names().is_empty() {
-            self.entries = part.copy()?.into_pairs();
+            self.entries = part.into_pairs();
             return Ok(());
         }
         let Some(standing) = standing_at(self.pairs(), path) else {
             return Err(TreeErr::NotDirectory);
         };
-        let new = added(self.allocator(), path, standing, part.pairs())?;
+        let new = added(self.allocator(), path, standing, part.into_pairs())?;
         hang(&mut self.entries, path, new)
     }
 }
@@ -67,21 +67,21 @@ fn standing_at<C>(entries: &[(Path, Entry<C>)], path: &Path) -> Option<usize>
     Some(standing)
 }
 
-// Directories at the path and at its prefixes that do not stand, and copies of the part's entries below the path.
-fn added<C: Held1 + Drop>(
+// Directories at the path and at its prefixes that do not stand, and the part's entries below the path.
+fn added<C: Drop>(
     alloc: Global,
     path: &Path,
     standing: usize,
-    part: &[(Path, Entry<C>)],
+    part: Vec<(Path, Entry<C>)>,
 ) -> Result<Vec<(Path, Entry<C>)>, TreeErr>
     requires not_all { standing < length path.now }
-    requires part { IsTree part.now }
-    ensures ok { IfOk result (λ new. (new.items ≡ added path.now standing part.now) × Fits path.now part.now) }
-    ensures err { IfErr result (IsLongPath (IsTooLong path.now part.now)) }
+    requires part { IsTree part.items }
+    ensures ok { IfOk result (λ new. (new.items ≡ added path.now standing part.items) × Fits path.now part.items) }
+    ensures err { IfErr result (IsLongPath (IsTooLong path.now part.items)) }
 {
     let mut new = Vec::new(alloc);
     push_directories(&mut new, path, standing)?;
-    push_hung(&mut new, alloc, path, part)?;
+    push_hung(&mut new, path, part)?;
     Ok(new)
 }
 
@@ -112,34 +112,29 @@ fn directory_at<C>(path: &Path, count: usize) -> Result<(Path, Entry<C>), OutOfM
     }
 }
 
-// Adds copies of the part's entries, below the path.
-fn push_hung<C: Held1 + Drop>(
+// Adds the part's entries, below the path.
+fn push_hung<C: Drop>(
     new: &mut Vec<(Path, Entry<C>)>,
-    alloc: Global,
     path: &Path,
-    part: &[(Path, Entry<C>)],
+    part: Vec<(Path, Entry<C>)>,
 ) -> Result<(), TreeErr>
-    requires { IsTree part.now }
-    ensures ok { OnOk result ((new.new.items ≡ new.old.items ++ map (hung path.now) part.now) × AllByRecursion (λ e. IsPath (path.now ++ e.0)) part.now) }
-    ensures err { IfErr result (IsLongPath (IsTooLong path.now part.now)) }
+    requires { IsTree part.items }
+    ensures ok { OnOk result ((new.new.items ≡ new.old.items ++ map (hung path.now) part.items) × AllByRecursion (λ e. IsPath (path.now ++ e.0)) part.items) }
+    ensures err { IfErr result (IsLongPath (IsTooLong path.now part.items)) }
 {
     for entry in part {
-        grown(new.push(hung(alloc, path, entry)?))?;
+        grown(new.push(hung(path, entry)?))?;
     }
     Ok(())
 }
 
-// A copy of the entry, below the path.
-fn hung<C: Held1 + Drop>(
-    alloc: Global,
-    path: &Path,
-    entry: &(Path, Entry<C>),
-) -> Result<(Path, Entry<C>), TreeErr>
-    ensures ok { IfOk result (λ new. (new ≡ hung path.now entry.now) × IsPath (path.now ++ entry.now.0)) }
-    ensures err { IfErr result (IsLongPath (¬ IsPath (path.now ++ entry.now.0))) }
+// The entry, below the path.
+fn hung<C: Drop>(path: &Path, entry: (Path, Entry<C>)) -> Result<(Path, Entry<C>), TreeErr>
+    ensures ok { IfOk result (λ new. (new ≡ hung path.now entry) × IsPath (path.now ++ entry.0)) }
+    ensures err { IfErr result (IsLongPath (¬ IsPath (path.now ++ entry.0))) }
 {
     match path.join(&entry.0) {
-        Ok(longer) => Ok((longer, entry.1.copy(alloc)?)),
+        Ok(longer) => Ok((longer, entry.1)),
         Err(PathErr::OutOfMemory) => Err(TreeErr::OutOfMemory),
         Err(_) => Err(TreeErr::Path),
     }

@@ -123,7 +123,7 @@ fn wrong_graft(
 ) -> Result<Option<&'static [u8]>, Fail> {
     for (at, refusal, text) in GRAFTS.as_slice() {
         let mut tree = host.copy()?;
-        let outcome = tree.graft(&path(alloc, at)?, part);
+        let outcome = tree.graft(&path(alloc, at)?, part.copy()?);
         if outcome.err() != *refusal || !is_text(alloc, &tree, text)? {
             return Ok(Some(*at));
         }
@@ -138,7 +138,7 @@ fn a_part_is_hung_or_refused(rt: HostRuntime) -> Result<(), Fail> {
     let part = read_tree(alloc, PART)?;
     assert_eq!(rt; wrong_graft(alloc, &host, &part)?, None);
     let mut deep = read_tree(alloc, EMPTY)?;
-    assert_eq!(rt; deep.graft(&path(alloc, OF_62)?, &part), Ok(()));
+    assert_eq!(rt; deep.graft(&path(alloc, OF_62)?, part), Ok(()));
     assert_eq!(rt; deep.entries(), 64);
     let below_opaque = host.part(&path(alloc, b"o")?)?;
     assert!(rt;

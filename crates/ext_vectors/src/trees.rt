@@ -208,12 +208,14 @@ fn a_full_tree_refuses_one_more(rt: HostRuntime) -> Result<(), Fail> {
         insert(alloc, &mut tree, &numbered(number))??;
     }
     assert_eq!(rt; wrong_limit(alloc, &mut tree, &FULL)?, None);
-    let empty = Tree::new(alloc);
     assert_eq!(rt;
-        tree.graft(&path(alloc, b"x")?, &empty),
+        tree.graft(&path(alloc, b"x")?, Tree::new(alloc)),
         Err(TreeErr::Limit)
     );
-    assert_eq!(rt; tree.graft(&path(alloc, b"000000")?, &empty), Ok(()));
+    assert_eq!(rt;
+        tree.graft(&path(alloc, b"000000")?, Tree::new(alloc)),
+        Ok(())
+    );
     assert_eq!(rt; tree.entries(), 262_144);
     Ok(())
 }

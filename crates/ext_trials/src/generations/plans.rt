@@ -60,10 +60,10 @@ fn imported(alloc: Global, root: Tree<Held>, at: &[u8], text: &[u8]) -> Result<T
 {
     let tree = read_tree(alloc, text)?;
     let files = Path::read(alloc, b"files")?;
-    let part = from_depot(alloc, &tree, &files)?;
+    let part = from_depot(alloc, tree, &files)?;
     let mut new = root;
     let path = Path::read(alloc, at)?;
-    new.graft(&path, &part)?;
+    new.graft(&path, part)?;
     Ok(new)
 }
 

@@ -16,5 +16,5 @@ keeps res p Hide = refl
 
 pub from_pairs-requires : goal.from_pairs-requires
 from_pairs-requires c =
-    let tree = tree_changed_within (λ p e. in_depot (c.args.res.now ++ p) e) (keeps c.args.res.now) c.args.tree.now c.pairs.ensures.tree in
-    subst IsTreeWithin (sym (c.in_ok-pairs.ensures.ok.0 ∙ ap (from_depot c.args.res.now) c.pairs.ensures.same)) tree
+    let tree = tree_changed_within (λ p e. in_depot (c.args.res.now ++ p) e) (keeps c.args.res.now) c.args.tree (subst IsTreeWithin c.into_pairs.ensures.same c.into_pairs.ensures.tree) in
+    subst IsTreeWithin (sym (c.in_ok-pairs.ensures.ok.0 ∙ ap (from_depot c.args.res.now) c.into_pairs.ensures.same)) tree

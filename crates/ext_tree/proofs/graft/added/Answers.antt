@@ -5,6 +5,6 @@ use Rattle.ext_tree.proofs.graft.added.Goals as goal
 
 pub returns-clause-ok : goal.returns-clause-ok
 returns-clause-ok g c = (
-  c.in_ok-push_hung.ensures.ok.0 ∙ ap (λ es. es ++ map (hung c.args.path.now) c.args.part.now) (c.in_ok-push_directories.ensures ∙ ap (λ es. es ++ directories c.args.path.now (suc c.args.standing) (length c.args.path.now - c.args.standing)) c.new-new.ensures.items),
-  all_fit c.args.path.now c.args.part.now c.in_ok-push_hung.ensures.ok.1,
+  c.in_ok-push_hung.ensures.ok.0 ∙ ap (λ es. es ++ map (hung c.args.path.now) c.args.part.items) (c.in_ok-push_directories.ensures ∙ ap (λ es. es ++ directories c.args.path.now (suc c.args.standing) (length c.args.path.now - c.args.standing)) c.new-new.ensures.items),
+  all_fit c.args.path.now c.args.part.items c.in_ok-push_hung.ensures.ok.1,
 )
