@@ -1,5 +1,5 @@
 -- A brought file, compared with the stored ones of its stamp.
-use Rattle.std.proofs.Common.{◌≡◌, ◌≢◌, ℕ, ◌+◌, ◌<◌, ◌≤◌, Bool, true, false, List, [], ◌++◌, length, take, drop, refl, sym, ap, ◌∙◌, subst, arith}
+use Rattle.std.proofs.Common.{◌≡◌, ◌≢◌, ℕ, ◌+◌, ◌≤◌, true, false, List, ◌++◌, length, take, drop, refl, sym, ap, ◌∙◌, subst, arith}
 use Rattle.std.specs.List.{between}
 use Rattle.std.proofs.lemmas.List.{drop-take, take_all, take-append-le}
 use Rattle.std.proofs.lemmas.Slice.{between_is}
@@ -8,7 +8,7 @@ use Rattle.ext_disk.specs.Disk.{DiskState}
 use Rattle.ext_disk.specs.Since.{Rests}
 use Rattle.ext_disk.proofs.ForCallers.{rests_itself, rests_then}
 use Rattle.ext_tree.specs.declared.stamp.Stamp.{Stamp}
-use Rattle.ext_host.specs.Held.{HeldFile, IsStampOf}
+use Rattle.ext_host.specs.Held.{IsStampOf}
 use Rattle.ext_host.specs.Shelf as shelf
 use Rattle.ext_host.specs.Shelf.{untold, missing, stored}
 use Rattle.ext_host.specs.declared.body.Body.{Body}

@@ -1,13 +1,11 @@
 -- The paths of homes and of their folders: which lie below which, and which are the same.
-use Rattle.std.proofs.Common.{◌≡◌, ◌≢◌, ℕ, zero, suc, ◌+◌, ◌-◌, ◌*◌, ◌/◌, ◌%◌, ◌^◌, ◌<◌, ◌≤◌, Bool, true, false, not, List, [], ◌∷◌, ◌++◌, length, take, drop, get_or, refl, sym, ap, ◌∙◌, subst, arith}
-use Rattle.std.specs.Prelude.{decimal}
-use Rattle.std.specs.Ordering.{eq_by_cmp}
+use Rattle.std.proofs.Common.{◌≡◌, ◌≢◌, ℕ, ◌-◌, ◌*◌, ◌/◌, ◌%◌, ◌^◌, ◌<◌, Bool, true, false, not, List, [], ◌∷◌, ◌++◌, length, take, drop, get_or, refl, sym, ap, ◌∙◌, subst, arith}
 use Rattle.std.specs.Str.Parse.{digits_value}
 use Rattle.std.proofs.lemmas.Bool.{false≢true, and_parts}
 use Rattle.std.proofs.lemmas.Fmt.{decimal_is_IsNumeral}
 use Rattle.ext_lines.specs.Hexadecimal.{five_digits, hex_digit}
 use Rattle.ext_lines.proofs.ForCallers.{five_injective}
-use Rattle.ext_text.specs.Path.{is_prefix, path_cmp}
+use Rattle.ext_text.specs.Path.{is_prefix}
 use Rattle.ext_text.proofs.ForCallers.{prefix_first, prefix_self, prefix_whole, same_path}
 use Rattle.ext_store.specs.Names.{generation_name, generation_path, home_folder, home_path}
 use Rattle.ext_store.specs.Writing.{is_at}

@@ -1,17 +1,16 @@
 -- The files that a host keeps: which they are, and how a search finds those of a stamp.
-use Rattle.std.proofs.Common.{◌≡◌, ◌≢◌, ◌⊎◌, ℕ, zero, suc, ◌<◌, ◌≤◌, Bool, true, false, cond, not, ◌&&◌, List, [], ◌∷◌, ◌++◌, length, take, drop, get_or, Option, Some, None, refl, sym, ap, ◌∙◌, subst, inl, inr, arith}
-use Rattle.std.specs.Prelude.{slice_get}
+use Rattle.std.proofs.Common.{◌≡◌, ◌≢◌, ◌⊎◌, ℕ, zero, suc, ◌<◌, ◌≤◌, Bool, true, false, cond, not, List, [], ◌∷◌, length, take, drop, get_or, Some, if◌then◌else◌, refl, sym, ap, ◌∙◌, subst, inl, inr, arith}
 use Rattle.std.specs.Cmp.{IsTotalOrder}
 use Rattle.std.specs.List.{AllByRecursion, AllWithin, Contains, filter, flat_map}
 use Rattle.std.specs.List.Sorted.{IsPartitionedBy, IsPartitionPoint, IsPermutation, IsSorted}
-use Rattle.std.specs.Ordering.{nat_cmp, ordering_then, ordering_reverse, is_eq, is_lt, eq_by_cmp}
+use Rattle.std.specs.Ordering.{ordering_then, ordering_reverse, is_eq, is_lt, eq_by_cmp}
 use Rattle.std.specs.declared.cmp.Ordering.{Ordering}
 use Rattle.std.specs.declared.cmp.Ordering.TheVariants.{Less, Equal, Greater}
 use Rattle.std.specs.Option.{is_some}
 use Rattle.std.proofs.lemmas.Bool.{false≢true, cond-false, not-true}
 use Rattle.std.proofs.lemmas.Option.{slice_get_read}
 use Rattle.std.proofs.lemmas.Cmp.{on_total, then_total, lists_total, nat_cmp_total, alike_right, tied_back}
-use Rattle.std.proofs.lemmas.List.Elements.{Contains-append_cases, Contains-append_left, Contains-append_right, All-contains, All-from_recursion, recursion_from_All, filter_passes, filter_agree}
+use Rattle.std.proofs.lemmas.List.Elements.{Contains-append_cases, Contains-append_left, Contains-append_right, All-contains, All-from_recursion, recursion_from_All}
 use Rattle.std.proofs.lemmas.List.Sorted.{Contains-permutation, IsPermutation-sym, ranks_by, sorted_far}
 use Rattle.ext_text.specs.Order.{paths_total}
 use Rattle.ext_text.specs.Path.{path_cmp}
@@ -20,14 +19,13 @@ use Rattle.ext_tree.specs.declared.entry.Entry.{Entry}
 use Rattle.ext_tree.specs.declared.entry.Entry.TheVariants.{Dir, Opaque, File, Link, Hide}
 use Rattle.ext_tree.specs.declared.stamp.Stamp.{Stamp}
 use Rattle.ext_tree.proofs.ForCallers.{find_there}
-use Rattle.ext_host.specs.Drawn.{HasFile, IsFileOf}
+use Rattle.ext_host.specs.Drawn.{HasFile}
 use Rattle.ext_host.specs.Held.{HeldFile}
 use Rattle.ext_host.specs.declared.body.Body.{Body}
 use Rattle.ext_host.specs.declared.body.Body.TheVariants.{Here, Kept, Depot}
 use Rattle.ext_host.specs.declared.home.Home.{Home}
-use Rattle.ext_homes.specs.Giving.{lists_kept}
 use Rattle.ext_homes.specs.Placed.{home_cmp}
-use Rattle.ext_homes.specs.KeptFiles.{AreInOrder, AreKept, body_kept, entry_kept, file_stamp, has_stamp, home_key_cmp, home_of, is_before, kept_cmp, kept_file, lists_in, stamp_key_cmp, tree_kept, trees_kept}
+use Rattle.ext_homes.specs.KeptFiles.{AreInOrder, AreKept, body_kept, entry_kept, file_stamp, has_stamp, home_key_cmp, home_of, is_before, kept_cmp, kept_file, stamp_key_cmp, tree_kept, trees_kept}
 use Rattle.ext_homes.specs.declared.kept_files.HomeKey.{HomeKey}
 use Rattle.ext_homes.specs.declared.kept_files.KeptFile.{KeptFile}
 use Rattle.ext_homes.specs.declared.kept_files.StampKey.{StampKey}
@@ -78,39 +76,47 @@ only_one : (f g : KeptFile) → Contains (g ∷ []) f → g ≡ f
 only_one f g (zero, lt, is) = is
 only_one f g (suc k, lt, is) = absurd (omega arith)
 
-body_is : (stamp : Stamp) (body : Body) (f : KeptFile) → Contains (body_kept stamp body) f → as_held stamp body ≡ as_held (file_stamp f) (Kept (home_of f))
-body_is stamp (Here bytes) f (k, lt, is) = absurd (omega arith)
-body_is stamp (Kept home) f among = ap (λ (g : KeptFile). as_held (file_stamp g) (Kept (home_of g))) (only_one f (kept_file stamp home) among)
-body_is stamp (Depot path) f (k, lt, is) = absurd (omega arith)
+-- the file of a kept body that is listed
+one_sought : (b : Bool) (f g : KeptFile) → Contains (if b then g ∷ [] else []) f → g ≡ f
+one_sought true f g among = only_one f g among
+one_sought false f g (k, lt, is) = absurd (omega arith)
+
+body_is : (sought : Stamp → Bool) (stamp : Stamp) (body : Body) (f : KeptFile) → Contains (body_kept sought stamp body) f → as_held stamp body ≡ as_held (file_stamp f) (Kept (home_of f))
+body_is sought stamp (Here bytes) f (k, lt, is) = absurd (omega arith)
+body_is sought stamp (Kept home) f among = ap (λ (g : KeptFile). as_held (file_stamp g) (Kept (home_of g))) (one_sought (sought stamp) f (kept_file stamp home) among)
+body_is sought stamp (Depot path) f (k, lt, is) = absurd (omega arith)
 
 -- a file of the list is one of an entry
-entry_is : (e : Entry HeldFile) (f : KeptFile) → Contains (entry_kept e) f → (mode : ℕ) × (e ≡ File mode (as_held (file_stamp f) (Kept (home_of f))))
-entry_is (Dir mode) f (k, lt, is) = absurd (omega arith)
-entry_is (Opaque mode) f (k, lt, is) = absurd (omega arith)
-entry_is (File mode held) f among = (mode, ap (λ (h : HeldFile). File mode h) (body_is held.stamp held.body f among))
-entry_is (Link target) f (k, lt, is) = absurd (omega arith)
-entry_is Hide f (k, lt, is) = absurd (omega arith)
+entry_is : (sought : Stamp → Bool) (e : Entry HeldFile) (f : KeptFile) → Contains (entry_kept sought e) f → (mode : ℕ) × (e ≡ File mode (as_held (file_stamp f) (Kept (home_of f))))
+entry_is sought (Dir mode) f (k, lt, is) = absurd (omega arith)
+entry_is sought (Opaque mode) f (k, lt, is) = absurd (omega arith)
+entry_is sought (File mode held) f among = (mode, ap (λ (h : HeldFile). File mode h) (body_is sought held.stamp held.body f among))
+entry_is sought (Link target) f (k, lt, is) = absurd (omega arith)
+entry_is sought Hide f (k, lt, is) = absurd (omega arith)
 
 -- the files that a tree keeps
-of_tree : (es : Entries HeldFile) (f : KeptFile) → IsTree es → Contains (tree_kept es) f → HasFile es (as_held (file_stamp f) (Kept (home_of f)))
-of_tree es f tree among =
-    let at = in_flat (λ (e : List (List ℕ) × Entry HeldFile). entry_kept e.1) es f among in
-    let is = entry_is at.0.1 f at.2 in
+of_tree : (sought : Stamp → Bool) (es : Entries HeldFile) (f : KeptFile) → IsTree es → Contains (tree_kept sought es) f → HasFile es (as_held (file_stamp f) (Kept (home_of f)))
+of_tree sought es f tree among =
+    let at = in_flat (λ (e : List (List ℕ) × Entry HeldFile). entry_kept sought e.1) es f among in
+    let is = entry_is sought at.0.1 f at.2 in
     record { path = at.0.0; mode = is.0; stands = looked_up es at.0 tree at.1 ∙ ap Some is.1 }
 
-in_tree : (es : Entries HeldFile) (stamp : Stamp) (home : Home) → HasFile es (as_held stamp (Kept home)) → Contains (tree_kept es) (kept_file stamp home)
-in_tree es stamp home file =
+in_tree : (sought : Stamp → Bool) (es : Entries HeldFile) (stamp : Stamp) (home : Home) → sought stamp ≡ true → HasFile es (as_held stamp (Kept home)) → Contains (tree_kept sought es) (kept_file stamp home)
+in_tree sought es stamp home is file =
     let at = some_entry es file.path (File file.mode (as_held stamp (Kept home))) file.stands in
-    flat_in (λ (e : List (List ℕ) × Entry HeldFile). entry_kept e.1) es (at.0, File file.mode (as_held stamp (Kept home))) (kept_file stamp home) at.1 (contains_here (kept_file stamp home) [])
+    let here : Contains (body_kept sought stamp (Kept home)) (kept_file stamp home) = subst (λ b. Contains (if b then kept_file stamp home ∷ [] else []) (kept_file stamp home)) (sym is) (contains_here (kept_file stamp home) []) in
+    flat_in (λ (e : List (List ℕ) × Entry HeldFile). entry_kept sought e.1) es (at.0, File file.mode (as_held stamp (Kept home))) (kept_file stamp home) at.1 here
 
 -- the files that trees keep, in any order
-pub kept_by_trees : (trees : List (Entries HeldFile)) (files sorted : List KeptFile) → AllByRecursion (λ es. IsTree es) trees → files ≡ trees_kept trees → IsPermutation files sorted → AreKept trees sorted
-kept_by_trees trees files sorted are is moved = record {
+pub kept_by_trees : (sought : Stamp → Bool) (trees : List (Entries HeldFile)) (files sorted : List KeptFile) → AllByRecursion (λ es. IsTree es) trees → files ≡ trees_kept sought trees → IsPermutation files sorted
+    → AreKept trees sought sorted
+kept_by_trees sought trees files sorted are is moved = record {
   each = λ stamp home among.
-      let at = in_flat tree_kept trees (kept_file stamp home) (subst (λ l. Contains l (kept_file stamp home)) is (Contains-permutation sorted files (kept_file stamp home) (IsPermutation-sym files sorted moved) among)) in
-      record { tree = at.0; among = at.1; file = of_tree at.0 (kept_file stamp home) (All-contains (λ es. IsTree es) trees at.0 (All-from_recursion (λ es. IsTree es) trees are) at.1) at.2 };
-  all = λ stamp home file.
-      Contains-permutation files sorted (kept_file stamp home) moved (subst (λ l. Contains l (kept_file stamp home)) (sym is) (flat_in tree_kept trees file.tree (kept_file stamp home) file.among (in_tree file.tree stamp home file.file)));
+      let at = in_flat (tree_kept sought) trees (kept_file stamp home) (subst (λ l. Contains l (kept_file stamp home)) is (Contains-permutation sorted files (kept_file stamp home) (IsPermutation-sym files sorted moved) among)) in
+      record { tree = at.0; among = at.1; file = of_tree sought at.0 (kept_file stamp home) (All-contains (λ es. IsTree es) trees at.0 (All-from_recursion (λ es. IsTree es) trees are) at.1) at.2 };
+  all = λ stamp home wanted file.
+      Contains-permutation files sorted (kept_file stamp home) moved
+      (subst (λ l. Contains l (kept_file stamp home)) (sym is) (flat_in (tree_kept sought) trees file.tree (kept_file stamp home) file.among (in_tree sought file.tree stamp home wanted file.file)));
 }
 
 -- ---- orders

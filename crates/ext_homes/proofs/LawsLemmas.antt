@@ -1,5 +1,5 @@
 -- What is placed where all is told.
-use Rattle.std.proofs.Common.{◌≡◌, ◌≢◌, ◌⊎◌, ℕ, ◌+◌, Bool, true, false, List, [], ◌∷◌, ◌++◌, length, Option, Some, None, refl, sym, ap, ◌∙◌, subst, inl, inr}
+use Rattle.std.proofs.Common.{◌≡◌, ◌≢◌, ◌⊎◌, ℕ, ◌+◌, true, false, List, [], ◌∷◌, ◌++◌, length, Option, Some, None, refl, sym, ap, ◌∙◌, subst, inl, inr}
 use Rattle.std.specs.declared.cmp.Ordering.TheVariants.{Less}
 use Rattle.ext_depot.specs.Depot.{DepotState, Files}
 use Rattle.ext_tree.specs.Tree.{Entries}
@@ -14,7 +14,7 @@ use Rattle.ext_host.specs.declared.body.Body.TheVariants.{Here, Kept, Depot}
 use Rattle.ext_host.specs.declared.home.Home.{Home}
 use Rattle.ext_host.specs.declared.host.Host.{Host}
 use Rattle.ext_host.proofs.ForCallers.{one_stamp}
-use Rattle.ext_store.specs.Comparing.{IsCompared, IsSame}
+use Rattle.ext_store.specs.Comparing.{IsCompared}
 use Rattle.ext_store.specs.Copying.{bytes_told, contents_told}
 use Rattle.ext_homes.specs.Laws.{HasBytes, HasNowhere, IsLeastOf}
 use Rattle.ext_homes.specs.Placed.{Stored, ArePlaced, IsBodyPlaced, IsBroughtTo, IsEntryPlaced, IsHostPlaced, IsLeastHome, HasNone, TakesHome, brought_told, home_cmp}

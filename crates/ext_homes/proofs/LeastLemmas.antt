@@ -1,5 +1,5 @@
 -- The search for the least home that has the bytes of a brought file, among the files of its stamp.
-use Rattle.std.proofs.Common.{◌≡◌, ◌≢◌, ◌⊎◌, ℕ, zero, suc, ◌+◌, ◌<◌, ◌≤◌, Bool, true, false, cond, List, [], ◌∷◌, length, take, get_or, Some, None, refl, sym, ap, ◌∙◌, subst, inl, inr, arith}
+use Rattle.std.proofs.Common.{◌≡◌, ◌≢◌, ◌⊎◌, ℕ, zero, suc, ◌+◌, ◌<◌, ◌≤◌, Bool, true, false, cond, List, [], ◌∷◌, length, take, get_or, refl, sym, ap, ◌∙◌, subst, inl, inr, arith}
 use Rattle.std.specs.Cmp.{IsTotalOrder}
 use Rattle.std.specs.FinMap.{nat_cmp-IsAntisymmetric, slice_cmp-IsAntisymmetric}
 use Rattle.std.specs.List.{AllByRecursion, Contains, filter}
@@ -16,7 +16,6 @@ use Rattle.ext_disk.proofs.ForCallers.{rests_itself, rests_then}
 use Rattle.ext_depot.specs.Depot.{DepotState, IsKept}
 use Rattle.ext_tree.specs.declared.stamp.Stamp.{Stamp}
 use Rattle.ext_host.specs.Held.{HeldFile}
-use Rattle.ext_host.specs.Shelf as shelf
 use Rattle.ext_host.specs.Shelf.{IsFound}
 use Rattle.ext_host.specs.declared.body.Body.{Body}
 use Rattle.ext_host.specs.declared.body.Body.TheVariants.{Here, Kept, Depot}
@@ -24,13 +23,13 @@ use Rattle.ext_host.specs.declared.home.Home.{Home}
 use Rattle.ext_store.specs.Comparing.{IsCompared}
 use Rattle.ext_store.specs.Copying.{IsMissing, IsReadStamp}
 use Rattle.ext_store.specs.HeldFiles.{IsListed, told_at}
-use Rattle.ext_store.specs.Names.{IsFileNumber, home_path}
+use Rattle.ext_store.specs.Names.{home_path}
 use Rattle.ext_store.proofs.ForCallers.{kept_itself, kept_then, kept_told, rose_since}
 use Rattle.ext_homes.specs.Brought.{is_brought}
-use Rattle.ext_homes.specs.Comparing.{IsLeast, SameCause, stored_in}
-use Rattle.ext_homes.specs.Giving.{AreNumbered, home_told}
-use Rattle.ext_homes.specs.KeptFiles.{AreInOrder, file_stamp, has_stamp, home_of, kept_file, lists_in, stamp_key, stamp_key_cmp}
-use Rattle.ext_homes.specs.Placed.{Stored, HasNone, IsLeastHome, DifferBefore, brought_told, home_cmp}
+use Rattle.ext_homes.specs.Comparing.{SameCause, stored_in}
+use Rattle.ext_homes.specs.Giving.{home_told}
+use Rattle.ext_homes.specs.KeptFiles.{AreInOrder, has_stamp, home_of, kept_file, lists_in, stamp_key, stamp_key_cmp}
+use Rattle.ext_homes.specs.Placed.{HasNone, IsLeastHome, DifferBefore, brought_told, home_cmp}
 use Rattle.ext_homes.specs.Refused.{HomeCause, IsDamaged, IsFirstIntact}
 use Rattle.ext_homes.specs.declared.errors.HomesErr.{HomesErr}
 use Rattle.ext_homes.specs.declared.errors.HomesErr.TheVariants.{OutOfMemory, DiskFault, DepotFault, Damaged, Mismatch, NotInDepot}

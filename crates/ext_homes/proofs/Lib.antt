@@ -1,4 +1,5 @@
 pub mod BroughtLemmas
+pub mod SoughtLemmas
 pub mod KeptFilesLemmas
 pub mod ComparingLemmas
 pub mod LeastLemmas

@@ -1,6 +1,5 @@
 -- What is placed: the same trees with the same stamps, and where each file is.
-use Rattle.std.proofs.Common.{◌≡◌, ◌≢◌, ◌⊎◌, ℕ, zero, suc, ◌+◌, ◌<◌, ◌≤◌, Bool, true, false, List, [], ◌∷◌, ◌++◌, length, Option, Some, None, refl, sym, ap, ◌∙◌, subst, inl, inr, arith, length-append}
-use Rattle.std.proofs.lemmas.Bool.{false≢true}
+use Rattle.std.proofs.Common.{◌≡◌, ℕ, ◌+◌, List, [], ◌∷◌, length, refl, sym, ap, ◌∙◌, subst}
 use Rattle.ext_depot.specs.Depot.{DepotState}
 use Rattle.ext_tree.specs.Tree.{Entries, IsTreeWithin, is_directory}
 use Rattle.ext_tree.specs.declared.entry.Entry.{Entry}
@@ -10,9 +9,8 @@ use Rattle.ext_host.specs.Held.{HeldFile}
 use Rattle.ext_host.specs.Stamped.{stamped_entry, stamps}
 use Rattle.ext_host.specs.declared.body.Body.{Body}
 use Rattle.ext_host.specs.declared.body.Body.TheVariants.{Here, Kept, Depot}
-use Rattle.ext_host.specs.declared.home.Home.{Home}
 use Rattle.ext_host.proofs.ForCallers.{tree_before_within, tree_changed_within}
-use Rattle.ext_homes.specs.Placed.{Stored, ArePlaced, IsBodyPlaced, IsEntryPlaced, IsFilePlaced}
+use Rattle.ext_homes.specs.Placed.{Stored, ArePlaced, IsBodyPlaced, IsEntryPlaced}
 
 -- ---- the same stamps
 

@@ -1,5 +1,5 @@
 -- The files of a coming host, given their homes one after another: nothing, one file more, and what stops it.
-use Rattle.std.proofs.Common.{◌≡◌, ◌≢◌, ◌⊎◌, ℕ, zero, suc, ◌+◌, ◌^◌, ◌<◌, ◌≤◌, Bool, true, false, cond, List, [], ◌∷◌, ◌++◌, length, Option, Some, None, IfSome, refl, sym, ap, ◌∙◌, subst, inl, inr, arith, append_assoc, append-nil, length-append}
+use Rattle.std.proofs.Common.{◌≡◌, ℕ, zero, suc, ◌+◌, ◌^◌, ◌<◌, ◌≤◌, true, false, cond, List, [], ◌∷◌, ◌++◌, length, Option, Some, None, IfSome, refl, sym, ap, ◌∙◌, subst, arith, append_assoc, append-nil, length-append, set, drop, take, get_or, drop-cons}
 use Rattle.std.specs.List.{AllByRecursion}
 use Rattle.std.proofs.lemmas.List.Concat.{flat_map-append}
 use Rattle.std.proofs.lemmas.List.Sums.{sum_by-append}
@@ -14,7 +14,6 @@ use Rattle.ext_tree.specs.declared.entry.Entry.TheVariants.{Dir, Opaque, File, L
 use Rattle.ext_tree.specs.declared.stamp.Stamp.{Stamp}
 use Rattle.ext_host.specs.Held.{HeldFile}
 use Rattle.ext_host.specs.Valid.{bytes_of}
-use Rattle.ext_host.specs.Shelf as shelf
 use Rattle.ext_host.specs.declared.body.Body.{Body}
 use Rattle.ext_host.specs.declared.body.Body.TheVariants.{Here, Kept, Depot}
 use Rattle.ext_host.specs.declared.home.Home.{Home}
@@ -23,11 +22,11 @@ use Rattle.ext_store.specs.HeldFiles.{node_told, told_at}
 use Rattle.ext_store.specs.Names.{home_path}
 use Rattle.ext_store.specs.Writing.{Holds, IsWritten, Works, WorksTold}
 use Rattle.ext_store.proofs.ForCallers.{holds_map, kept_itself, kept_then, told_then, works_itself, works_then, works_wider}
-use Rattle.ext_homes.specs.Brought.{AreSmall, brought, brought_stamps, bytes_of_all, held_stamps, is_brought}
+use Rattle.ext_homes.specs.Brought.{AreSmall, brought, brought_stamps, bytes_of_all, is_brought}
 use Rattle.ext_homes.specs.Comparing.{stored_in}
 use Rattle.ext_homes.specs.Giving.{AreBefore, home_told}
 use Rattle.ext_homes.specs.KeptFiles.{lists_in}
-use Rattle.ext_homes.specs.Placed.{Stored, AreBothPlaced, ArePlaced, IsBodyPlaced, IsEntryPlaced, IsFilePlaced, IsLeastHome, TakesHome}
+use Rattle.ext_homes.specs.Placed.{Stored, AreBothPlaced, ArePlaced, IsBodyPlaced, IsEntryPlaced, IsFilePlaced}
 use Rattle.ext_homes.specs.Placing.{EntryCause, Placing}
 use Rattle.ext_homes.specs.Refused.{HomeCause, HomesCause, StopsAt}
 use Rattle.ext_homes.specs.Written.{AreWritten, HasHomes, HasOnlyHomes, Writes, is_below}
@@ -36,7 +35,7 @@ use Rattle.ext_homes.specs.declared.errors.HomesErr.TheVariants.{OutOfMemory, Di
 use Rattle.ext_homes.specs.declared.kept_files.KeptFile.{KeptFile}
 use Rattle.ext_homes.proofs.HomePathsLemmas.{other_generation}
 use Rattle.ext_homes.proofs.LeastLemmas.{brought_stays}
-use Rattle.ext_homes.proofs.StoredLemmas.{IsAlike, cause_after, cause_more, cause_since, entries_alike, homes_cause_since, placed_both}
+use Rattle.ext_homes.proofs.StoredLemmas.{Any, IsAlike, all_any, cause_after, cause_since, entries_alike, homes_cause_since, placed_both}
 
 -- ---- nothing is written
 
@@ -140,11 +139,11 @@ told_before n lists most old new small before works stamp home listed =
     go (Some d) (Some e) works = ap node_told (works.now (home_path home.generation home.file) (other_generation home.generation n home.file (before stamp home listed).0 small))
 
 pub alike_before : (n most : ℕ) (files : List KeptFile) (old new : DiskState) → n < 2 ^ 32 → AreBefore n (lists_in files) → Works (is_below n) (is_below n) most old new
-    → IsAlike (stored_in files new) (stored_in files old)
+    → IsAlike Any (stored_in files new) (stored_in files old)
 alike_before n most files old new small before works = record {
-  gives = λ stamp home listed. listed;
-  takes = λ stamp home listed. listed;
-  tells = λ stamp home listed. told_before n (lists_in files) most old new small before works stamp home listed;
+  gives = λ stamp home any listed. listed;
+  takes = λ stamp home any listed. listed;
+  tells = λ stamp home any listed. told_before n (lists_in files) most old new small before works stamp home listed;
 }
 
 -- entries have their homes so far
@@ -176,12 +175,29 @@ placed_then files n next mid count es gs fs hs r s t a b c small before one two 
         written = one.placed.written ++ two.placed.written;
         homes = placed_both (stored_in files r) a n es gs next fs hs one.placed.written two.placed.written one.placed.homes
             (subst (λ i. ArePlaced (stored_in files r) a n gs i hs two.placed.written) here
-            (entries_alike (stored_in files s) (stored_in files r) b a n gs mid hs two.placed.written alike (λ body. brought_stays a b body one.kept) two.placed.homes));
+            (entries_alike Any (stored_in files s) (stored_in files r) b a n gs mid hs two.placed.written alike (λ body. brought_stays a b body one.kept) (all_any gs) two.placed.homes));
         count = let last = two.placed.count in omega (arith, here, length-append one.placed.written two.placed.written);
         few = let left = one.placed.few in let right = two.placed.few in omega (arith, length-append one.placed.written two.placed.written, ap length (brought_both es gs), length-append (brought es) (brought gs));
         told = both_writes n next one.placed.written two.placed.written r s t one.placed.told (subst (λ i. BothTold (Writes n i two.placed.written) s.told t.told) here two.placed.told);
       };
     }
+
+-- ---- an entry in place
+
+pub drop_next : {X : Type 0} (xs : List X) (i : ℕ) (d : X) → i < length xs → drop i xs ≡ get_or xs i d ∷ drop (i + 1) xs
+drop_next xs i d within =
+    let next : suc i ≡ i + 1 = omega arith in
+    subst (λ k. drop i xs ≡ get_or xs i d ∷ drop k xs) next (drop-cons xs i d within)
+
+take_suc : {X : Type 0} (xs : List X) (i : ℕ) (y : X) → i < length xs → take (suc i) (set xs i y) ≡ take i xs ++ y ∷ []
+take_suc [] i y within = absurd (omega arith)
+take_suc (x ∷ xs) zero y within = refl
+take_suc (x ∷ xs) (suc i) y within = ap (λ l. x ∷ l) (take_suc xs i y (omega arith))
+
+pub take_next : {X : Type 0} (xs : List X) (i : ℕ) (y : X) → i < length xs → take (i + 1) (set xs i y) ≡ take i xs ++ y ∷ []
+take_next xs i y within =
+    let next : suc i ≡ i + 1 = omega arith in
+    subst (λ k. take k (set xs i y) ≡ take i xs ++ y ∷ []) next (take_suc xs i y within)
 
 -- ---- a tree
 
@@ -293,8 +309,8 @@ entry_stops files n next count all done later fs p (Link target) err r s t a b c
 entry_stops files n next count all done later fs p Hide err r s t a b c small before split so_far cause = absurd cause
 entry_stops files n next count all done later fs p (File mode held) err r s t a b c small before split so_far cause =
     by_error err
-    (cause_since (stored_in files s) (stored_in files r) b a c r s t held err (alike_before n (bytes_of_all (brought done)) files r s small before so_far.works) (λ body. brought_stays a b body so_far.kept)
-    so_far.works.spares.follows.count so_far.kept.count cause)
+    (cause_since Any (stored_in files s) (stored_in files r) b a c r s t held err (alike_before n (bytes_of_all (brought done)) files r s small before so_far.works) (λ body. brought_stays a b body so_far.kept)
+    so_far.works.spares.follows.count so_far.kept.count (λ brings. tt) cause)
   where
     stops : (Why : HeldFile → Type 0) → Why held → StopsAt (stored_in files r) a n all next Why
     stops Why why = record {
@@ -378,8 +394,8 @@ pub lower_cause : (files : List KeptFile) (n mid : ℕ) (root lower new_root : E
     → PlacedSoFar files n 0 root new_root mid r s a b → HomesCause s t b c (stored_in files s) n lower mid err → HomesCause r t a c (stored_in files r) n (root ++ lower) 0 err
 lower_cause files n mid root lower new_root err r s t a b c small before so_far cause =
     cause_after r t a c (stored_in files r) n root lower 0 mid new_root so_far.placed.written err so_far.placed.count so_far.placed.homes
-    (homes_cause_since (stored_in files s) (stored_in files r) b a c r s t n lower mid err (alike_before n (bytes_of_all (brought root)) files r s small before so_far.works) (λ body. brought_stays a b body so_far.kept)
-    so_far.works.spares.follows.count so_far.kept.count cause)
+    (homes_cause_since Any (stored_in files s) (stored_in files r) b a c r s t n lower mid err (alike_before n (bytes_of_all (brought root)) files r s small before so_far.works) (λ body. brought_stays a b body so_far.kept)
+    (all_any lower) so_far.works.spares.follows.count so_far.kept.count cause)
 
 pub both_placed : (files : List KeptFile) (n mid count : ℕ) (root lower new_root new_lower : Entries HeldFile) (r s t : DiskState) (a b c : DepotState) → n < 2 ^ 32 → AreBefore n (lists_in files)
     → PlacedSoFar files n 0 root new_root mid r s a b → PlacedSoFar files n mid lower new_lower count s t b c
@@ -395,7 +411,7 @@ both_placed files n mid count root lower new_root new_lower r s t a b c small be
         two.placed.written,
         one.placed.homes,
         subst (λ i. ArePlaced (stored_in files r) a n lower i new_lower two.placed.written) one.placed.count
-            (entries_alike (stored_in files s) (stored_in files r) b a n lower mid new_lower two.placed.written alike (λ body. brought_stays a b body one.kept) two.placed.homes),
+            (entries_alike Any (stored_in files s) (stored_in files r) b a n lower mid new_lower two.placed.written alike (λ body. brought_stays a b body one.kept) (all_any lower) two.placed.homes),
         refl,
       );
       count = all.placed.count;

@@ -1,21 +1,21 @@
 -- A brought file written as the file of a number: what stands before, between and after.
-use Rattle.std.proofs.Common.{◌≡◌, ◌≢◌, ◌⊎◌, ℕ, ◌+◌, ◌-◌, ◌%◌, ◌<◌, ◌≤◌, Bool, true, false, List, [], ◌∷◌, length, take, drop, Option, Some, None, IfSome, Result, Ok, Err, refl, sym, ap, ◌∙◌, subst, inl, inr, arith}
+use Rattle.std.proofs.Common.{◌≡◌, ◌≢◌, ◌⊎◌, ℕ, ◌+◌, ◌-◌, ◌%◌, ◌<◌, ◌≤◌, true, false, List, [], ◌∷◌, length, take, drop, Option, Some, None, IfSome, Result, Ok, Err, refl, sym, ap, ◌∙◌, subst, inl, inr, arith}
 use Rattle.std.specs.Prelude.{OnOk}
 use Rattle.std.proofs.lemmas.Bool.{cases_Bool, cases_lt}
 use Rattle.std.specs.Option.{is_some}
 use Rattle.ext_lines.specs.Hexadecimal.{five_digits}
-use Rattle.ext_text.specs.Path.{is_prefix, is_proper_prefix}
+use Rattle.ext_text.specs.Path.{is_prefix}
 use Rattle.ext_text.proofs.ForCallers.{same_path}
-use Rattle.ext_disk.specs.Disk.{Node, folder, file, Places, Told, DiskState, BothTold}
+use Rattle.ext_disk.specs.Disk.{Node, folder, Places, Told, DiskState, BothTold}
 use Rattle.ext_disk.specs.Calls.{IsFree, MayCall, make_dir, make_file}
 use Rattle.ext_disk.specs.Fixed.{IsSpared}
 use Rattle.ext_tree.specs.declared.stamp.Stamp.{Stamp}
 use Rattle.ext_host.specs.Shelf as shelf
-use Rattle.ext_store.specs.Names.{generation_name, generation_path, home_folder, home_path}
+use Rattle.ext_store.specs.Names.{generation_path, home_folder, home_path}
 use Rattle.ext_store.specs.Writing.{is_at, Works, WorksTold, IsMade, IsWritten, Holds}
-use Rattle.ext_store.proofs.ForCallers.{holds_map, holds_then, proper_append, told_map, told_then, works_then, works_wider}
+use Rattle.ext_store.proofs.ForCallers.{holds_map, holds_then, proper_append, works_then, works_wider}
 use Rattle.ext_homes.specs.Written.{is_below, HasOnlyHomes, HasHomes, Writes}
-use Rattle.ext_homes.specs.Writing.{IsOpen, KeepsEarlier, Opens, IsPut, Puts}
+use Rattle.ext_homes.specs.Writing.{IsOpen, Opens, IsPut, Puts}
 use Rattle.ext_homes.proofs.HomePathsLemmas.{apart_from_folder, apart_from_home, home_no_folder, new_folder, not_at, one_home_path, outside, out_of_folder, out_of_home, same_folder}
 
 -- ---- before

@@ -1,5 +1,6 @@
--- The files that a host keeps, as a list in an order for searches: by their stamps, and of one stamp by their homes.
-use Rattle.std.specs.Prelude.{◌≡◌, ◌≢◌, ℕ, Bool, List, [], ◌∷◌}
+-- The files that a host keeps, of stamps that are looked for, as a list in an order for searches: by their stamps, and of one
+-- stamp by their homes.
+use Rattle.std.specs.Prelude.{◌≡◌, ◌≢◌, Bool, true, List, [], ◌∷◌, if◌then◌else◌}
 use Rattle.std.specs.Cmp.Lexicographic.{slice_cmp}
 use Rattle.std.specs.List.{AllByRecursion, Contains, flat_map}
 use Rattle.std.specs.Ordering.{nat_cmp, ordering_then, is_eq, is_lt}
@@ -62,31 +63,31 @@ AreInOrder (f ∷ files) = AllByRecursion (λ g. home_cmp (home_of g) (home_of f
 abbrev pub lists_in : List KeptFile → Stamp → Home → Type 0
 lists_in files stamp home = Contains files (kept_file stamp home)
 
--- these are the files that the trees keep
-pub record AreKept (trees : List (Entries HeldFile)) (files : List KeptFile) : Type 0 where
+-- these are files that the trees keep, and all of them whose stamps are sought
+pub record AreKept (trees : List (Entries HeldFile)) (sought : Stamp → Bool) (files : List KeptFile) : Type 0 where
   pub each : (stamp : Stamp) (home : Home) → lists_in files stamp home → lists_kept trees stamp home
-  pub all : (stamp : Stamp) (home : Home) → lists_kept trees stamp home → lists_in files stamp home
+  pub all : (stamp : Stamp) (home : Home) → sought stamp ≡ true → lists_kept trees stamp home → lists_in files stamp home
 
 -- ---- in the order of trees and entries
 
-abbrev pub body_kept : Stamp → Body → List KeptFile
-body_kept stamp (Here bytes) = []
-body_kept stamp (Kept home) = kept_file stamp home ∷ []
-body_kept stamp (Depot path) = []
+abbrev pub body_kept : (Stamp → Bool) → Stamp → Body → List KeptFile
+body_kept sought stamp (Here bytes) = []
+body_kept sought stamp (Kept home) = if sought stamp then kept_file stamp home ∷ [] else []
+body_kept sought stamp (Depot path) = []
 
-abbrev pub entry_kept : Entry HeldFile → List KeptFile
-entry_kept (Dir mode) = []
-entry_kept (Opaque mode) = []
-entry_kept (File mode held) = body_kept held.stamp held.body
-entry_kept (Link target) = []
-entry_kept Hide = []
+abbrev pub entry_kept : (Stamp → Bool) → Entry HeldFile → List KeptFile
+entry_kept sought (Dir mode) = []
+entry_kept sought (Opaque mode) = []
+entry_kept sought (File mode held) = body_kept sought held.stamp held.body
+entry_kept sought (Link target) = []
+entry_kept sought Hide = []
 
-abbrev pub tree_kept : Entries HeldFile → List KeptFile
-tree_kept es = flat_map (λ e. entry_kept e.1) es
+abbrev pub tree_kept : (Stamp → Bool) → Entries HeldFile → List KeptFile
+tree_kept sought es = flat_map (λ e. entry_kept sought e.1) es
 
 -- root and lower of each past tree
 abbrev pub past_trees : List Past → List (Entries HeldFile)
 past_trees past = flat_map (λ tree. tree.root ∷ tree.lower ∷ []) past
 
-abbrev pub trees_kept : List (Entries HeldFile) → List KeptFile
-trees_kept trees = flat_map tree_kept trees
+abbrev pub trees_kept : (Stamp → Bool) → List (Entries HeldFile) → List KeptFile
+trees_kept sought trees = flat_map (tree_kept sought) trees

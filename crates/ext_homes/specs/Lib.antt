@@ -1,4 +1,5 @@
 pub mod Brought
+pub mod Sought
 pub mod Placed
 pub mod Refused
 pub mod Written

@@ -13,6 +13,7 @@ ghost use Rattle.ext_homes.specs.Giving.{AreHomesBefore, Gives, stored_by, trees
 use crate::errors::HomesErr;
 use crate::kept_files::KeptFiles;
 use crate::placing::place_both;
+use crate::sought::Sought;
 use ext_depot::Depot;
 use ext_disk::Disk;
 use ext_host::Host;
@@ -63,7 +64,8 @@ pub fn give_homes<D: Disk, P: Depot>(
     ensures cause { IfErr result (HomesCause (D.state disk.old) (D.state disk.new) (P.state depot.old) (P.state depot.new)
         (stored_by (option_copied from.entry) (D.state disk.old)) generation (host.root ++ host.lower) 0) }
 {
-    let kept = KeptFiles::of(alloc, from)?;
+    let sought = Sought::of(alloc, &host.root, &host.lower)?;
+    let kept = KeptFiles::of(alloc, from, &sought)?;
     let both = place_both(alloc, disk, depot, &kept, generation, host.root, host.lower)?;
     let files = both.files;
     let host = Host {

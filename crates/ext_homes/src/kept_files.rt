@@ -1,11 +1,14 @@
-// The files that the host before keeps, in the order of their stamps and, of one stamp, of their homes.
+// The files that the host before keeps, of stamps that are looked for, in the order of their stamps and, of one stamp, of
+// their homes.
 ghost use Rattle.std.specs.Prelude.{◌≡◌, ◌++◌, filter, IfOk, OnOk};
 ghost use Rattle.std.specs.List.{AllByRecursion};
 ghost use Rattle.std.specs.Option.{option_copied};
 ghost use Rattle.ext_tree.specs.Tree.{IsTree};
 ghost use Rattle.ext_homes.specs.Giving.{trees_before};
 ghost use Rattle.ext_homes.specs.KeptFiles.{entry_kept, has_stamp, is_before, past_trees, tree_kept, trees_kept};
+ghost use Rattle.ext_homes.specs.Sought.{is_sought};
 
+use crate::sought::Sought;
 use ext_host::{Body, Held, Home, Host, Past};
 use ext_text::{OutOfMemory, Path};
 use ext_tree::{Entry, Stamp, Tree};
@@ -73,7 +76,8 @@ impl KeptFile {
     }
 }
 
-/// The files that a host keeps, of all its trees, ordered for a search. Contracts see them as a list in that order.
+/// The files that a host keeps, of all its trees and of stamps that are looked for, ordered for a search. Contracts see them as
+/// a list in that order.
 #[derive(Debug, Drop)]
 pub(crate) struct KeptFiles {
     pub(crate) files: Vec<KeptFile>,
@@ -95,14 +99,19 @@ impl Model for KeptFiles {
 impl KeptFiles {
     ghost use Rattle.ext_homes.specs.KeptFiles.{AreKept, AreInOrder, stamp_key};
 
-    /// The files that the host before keeps: what is seen, what lies under it, and the past trees. Of no host, none.
+    /// The files that the host before keeps, of stamps that are looked for: of what is seen, of what lies under it, and of the
+    /// past trees. Of no host, none.
     ///
     /// # Errors
     /// `OutOfMemory` alone.
-    pub(crate) fn of(alloc: Global, from: Option<&Host>) -> Result<KeptFiles, OutOfMemory>
-        ensures { IfOk result (AreKept (trees_before (option_copied from.entry))) }
+    pub(crate) fn of(
+        alloc: Global,
+        from: Option<&Host>,
+        sought: &Sought,
+    ) -> Result<KeptFiles, OutOfMemory>
+        ensures { IfOk result (AreKept (trees_before (option_copied from.entry)) (is_sought sought.now)) }
     {
-        let mut files = files_of(alloc, from)?;
+        let mut files = files_of(alloc, from, sought)?;
         files.sort_unstable();
         Ok(KeptFiles { files })
     }
@@ -135,59 +144,76 @@ fn has_stamp(key: &StampKey, file: &KeptFile) -> bool
     file.stamp.cmp(key).is_eq()
 }
 
-// The kept files of a host, in the order of its trees.
-fn files_of(alloc: Global, from: Option<&Host>) -> Result<Vec<KeptFile>, OutOfMemory>
-    ensures files { IfOk result (λ files. files.items ≡ trees_kept (trees_before (option_copied from.entry))) }
+// The kept files of a host that are looked for, in the order of its trees.
+fn files_of(
+    alloc: Global,
+    from: Option<&Host>,
+    sought: &Sought,
+) -> Result<Vec<KeptFile>, OutOfMemory>
+    ensures files { IfOk result (λ files. files.items ≡ trees_kept (is_sought sought.now) (trees_before (option_copied from.entry))) }
     ensures trees { OnOk result (AllByRecursion (λ es. IsTree es) (trees_before (option_copied from.entry))) }
 {
     let mut files = Vec::new(alloc);
     match from {
         None => Ok(files),
         Some(host) => {
-            append_tree(&mut files, &host.root)?;
-            append_tree(&mut files, &host.lower)?;
-            append_past(&mut files, host.past.as_slice())?;
+            append_tree(&mut files, &host.root, sought)?;
+            append_tree(&mut files, &host.lower, sought)?;
+            append_past(&mut files, host.past.as_slice(), sought)?;
             Ok(files)
         }
     }
 }
 
-// Adds the kept files of past trees.
-fn append_past(files: &mut Vec<KeptFile>, past: &[Past]) -> Result<(), OutOfMemory>
-    ensures files { OnOk result (files.new.items ≡ files.old.items ++ trees_kept (past_trees past.now)) }
+// Adds those of past trees.
+fn append_past(files: &mut Vec<KeptFile>, past: &[Past], sought: &Sought) -> Result<(), OutOfMemory>
+    ensures files { OnOk result (files.new.items ≡ files.old.items ++ trees_kept (is_sought sought.now) (past_trees past.now)) }
     ensures trees { OnOk result (AllByRecursion (λ es. IsTree es) (past_trees past.now)) }
 {
     for tree in past {
-        append_tree(files, &tree.root)?;
-        append_tree(files, &tree.lower)?;
+        append_tree(files, &tree.root, sought)?;
+        append_tree(files, &tree.lower, sought)?;
     }
     Ok(())
 }
 
-// Adds the kept files of a tree.
-fn append_tree(files: &mut Vec<KeptFile>, tree: &Tree<Held>) -> Result<(), OutOfMemory>
-    ensures files { OnOk result (files.new.items ≡ files.old.items ++ tree_kept tree.now) }
+// Adds those of a tree.
+fn append_tree(
+    files: &mut Vec<KeptFile>,
+    tree: &Tree<Held>,
+    sought: &Sought,
+) -> Result<(), OutOfMemory>
+    ensures files { OnOk result (files.new.items ≡ files.old.items ++ tree_kept (is_sought sought.now) tree.now) }
     ensures tree { IsTree tree.now }
 {
-    append_pairs(files, tree.pairs())
+    append_pairs(files, tree.pairs(), sought)
 }
 
-// Adds the kept files among entries.
-fn append_pairs(files: &mut Vec<KeptFile>, pairs: &[(Path, Entry<Held>)]) -> Result<(), OutOfMemory>
-    ensures { OnOk result (files.new.items ≡ files.old.items ++ tree_kept pairs.now) }
+// Adds those among entries.
+fn append_pairs(
+    files: &mut Vec<KeptFile>,
+    pairs: &[(Path, Entry<Held>)],
+    sought: &Sought,
+) -> Result<(), OutOfMemory>
+    ensures { OnOk result (files.new.items ≡ files.old.items ++ tree_kept (is_sought sought.now) pairs.now) }
 {
     for pair in pairs {
-        append_entry(files, &pair.1)?;
+        append_entry(files, &pair.1, sought)?;
     }
     Ok(())
 }
 
-// Adds the entry's file, where it is kept.
-fn append_entry(files: &mut Vec<KeptFile>, entry: &Entry<Held>) -> Result<(), OutOfMemory>
-    ensures { OnOk result (files.new.items ≡ files.old.items ++ entry_kept entry.now) }
+// Adds the entry's file, where it is kept and looked for.
+fn append_entry(
+    files: &mut Vec<KeptFile>,
+    entry: &Entry<Held>,
+    sought: &Sought,
+) -> Result<(), OutOfMemory>
+    ensures { OnOk result (files.new.items ≡ files.old.items ++ entry_kept (is_sought sought.now) entry.now) }
 {
     if let Entry::File(_, held) = entry
         && let Body::Kept(home) = held.body()
+        && sought.has(held.stamp())
     {
         files.push(KeptFile::of(held.stamp(), home))?;
     }

@@ -12,6 +12,7 @@ mod giving;
 mod kept_files;
 pub mod laws;
 mod placing;
+mod sought;
 #[cfg(test)]
 mod tests;
 mod writing;

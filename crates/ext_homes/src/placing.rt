@@ -21,7 +21,6 @@ use crate::writing::write_brought;
 use ext_depot::Depot;
 use ext_disk::Disk;
 use ext_host::{Body, Held, Home};
-use ext_lines::grown;
 use ext_text::Path;
 use ext_tree::{Entry, Tree};
 use std::alloc::Global;
@@ -88,103 +87,92 @@ fn place_tree<D: Disk, P: Depot>(
     ensures placed { IfOk result (λ placed. Placing (λ written. ArePlaced (stored_in kept.now (D.state disk.old)) (P.state depot.old) generation tree files.old placed written) generation files.old files.new (brought tree) (D.state disk.old) (D.state disk.new)) }
     ensures cause { IfErr result (HomesCause (D.state disk.old) (D.state disk.new) (P.state depot.old) (P.state depot.new) (stored_in kept.now (D.state disk.old)) generation tree files.old) }
 {
-    let placed = place_pairs(
-        alloc,
-        disk,
-        depot,
-        kept,
-        generation,
-        tree.into_pairs(),
-        files,
-    )?;
-    Ok(Tree::from_pairs(placed))
+    let mut pairs = tree.into_pairs();
+    place_pairs(alloc, disk, depot, kept, generation, &mut pairs, files)?;
+    Ok(Tree::from_pairs(pairs))
 }
 
-// The entries with a home for each file.
+// Gives each file among the entries its home.
 fn place_pairs<D: Disk, P: Depot>(
     alloc: Global,
     disk: &mut D,
     depot: &mut P,
     kept: &KeptFiles,
     generation: u32,
-    pairs: Vec<Pair>,
+    pairs: &mut [Pair],
     files: &mut u32,
-) -> Result<Vec<Pair>, HomesErr>
+) -> Result<(), HomesErr>
     requires before { AreBefore generation (lists_in kept.now) }
-    requires few { files.old + length pairs.items ≤ 262144 }
-    requires sizes { AreSmall pairs.items }
+    requires few { files.old + length pairs.old ≤ 262144 }
+    requires sizes { AreSmall pairs.old }
     requires homes { Holds (HasHomes generation files.old) (D.state disk.old) }
-    ensures works { Works (is_below generation) (is_below generation) (bytes_of_all (brought pairs.items)) (D.state disk.old) (D.state disk.new) }
-    ensures only { Holds (HasOnlyHomes generation (files.old + length (brought pairs.items))) (D.state disk.new) }
+    ensures works { Works (is_below generation) (is_below generation) (bytes_of_all (brought pairs.old)) (D.state disk.old) (D.state disk.new) }
+    ensures only { Holds (HasOnlyHomes generation (files.old + length (brought pairs.old))) (D.state disk.new) }
     ensures kept { IsKept (P.state depot.old) (P.state depot.new) }
-    ensures placed { IfOk result (λ placed. Placing (λ written. ArePlaced (stored_in kept.now (D.state disk.old)) (P.state depot.old) generation pairs.items files.old placed.items written) generation files.old files.new (brought pairs.items) (D.state disk.old) (D.state disk.new)) }
-    ensures cause { IfErr result (HomesCause (D.state disk.old) (D.state disk.new) (P.state depot.old) (P.state depot.new) (stored_in kept.now (D.state disk.old)) generation pairs.items files.old) }
+    ensures placed { OnOk result (Placing (λ written. ArePlaced (stored_in kept.now (D.state disk.old)) (P.state depot.old) generation pairs.old files.old pairs.new written) generation files.old files.new (brought pairs.old) (D.state disk.old) (D.state disk.new)) }
+    ensures cause { IfErr result (HomesCause (D.state disk.old) (D.state disk.new) (P.state depot.old) (P.state depot.new) (stored_in kept.now (D.state disk.old)) generation pairs.old files.old) }
 {
-    let mut placed = Vec::new(alloc);
-    'pairs: for (path, entry) in pairs {
-        let entry = place_entry(alloc, disk, depot, kept, generation, entry, files)?;
-        grown(placed.push((path, entry)))?;
+    'pairs: for pair in pairs.iter_mut() {
+        place_entry(alloc, disk, depot, kept, generation, &mut pair.1, files)?;
     }
-    Ok(placed)
+    Ok(())
 }
 
-// The entry with a home for its file.
+// Gives the entry's file its home.
 fn place_entry<D: Disk, P: Depot>(
     alloc: Global,
     disk: &mut D,
     depot: &mut P,
     kept: &KeptFiles,
     generation: u32,
-    entry: Entry<Held>,
+    entry: &mut Entry<Held>,
     files: &mut u32,
-) -> Result<Entry<Held>, HomesErr>
+) -> Result<(), HomesErr>
     requires numbers { AreNumbered (lists_in kept.now) }
     requires number { files.old < 262144 }
     requires homes { Holds (HasHomes generation files.old) (D.state disk.old) }
-    requires size { bytes_of entry < 2 ^ 63 }
-    ensures works { Works (is_below generation) (is_below generation) (bytes_of_all (brought_stamps entry)) (D.state disk.old) (D.state disk.new) }
-    ensures only { Holds (HasOnlyHomes generation (files.old + length (brought_stamps entry))) (D.state disk.new) }
+    requires size { bytes_of entry.old < 2 ^ 63 }
+    ensures works { Works (is_below generation) (is_below generation) (bytes_of_all (brought_stamps entry.old)) (D.state disk.old) (D.state disk.new) }
+    ensures only { Holds (HasOnlyHomes generation (files.old + length (brought_stamps entry.old))) (D.state disk.new) }
     ensures kept { IsKept (P.state depot.old) (P.state depot.new) }
-    ensures placed { IfOk result (λ placed. Placing (λ written. IsEntryPlaced (stored_in kept.now (D.state disk.old)) (P.state depot.old) generation entry files.old placed written) generation files.old files.new (brought_stamps entry) (D.state disk.old) (D.state disk.new)) }
-    ensures cause { IfErr result (EntryCause (D.state disk.old) (D.state disk.new) (P.state depot.old) (P.state depot.new) (stored_in kept.now (D.state disk.old)) entry) }
+    ensures placed { OnOk result (Placing (λ written. IsEntryPlaced (stored_in kept.now (D.state disk.old)) (P.state depot.old) generation entry.old files.old entry.new written) generation files.old files.new (brought_stamps entry.old) (D.state disk.old) (D.state disk.new)) }
+    ensures cause { IfErr result (EntryCause (D.state disk.old) (D.state disk.new) (P.state depot.old) (P.state depot.new) (stored_in kept.now (D.state disk.old)) entry.old) }
 {
     match entry {
-        Entry::File(mode, held) => {
-            let held = place_held(alloc, disk, depot, kept, generation, held, files)?;
-            Ok(Entry::File(mode, held))
-        }
-        Entry::Dir(mode) => Ok(Entry::Dir(mode)),
-        Entry::Opaque(mode) => Ok(Entry::Opaque(mode)),
-        Entry::Link(target) => Ok(Entry::Link(target)),
-        Entry::Hide => Ok(Entry::Hide),
+        Entry::File(_, held) => place_held(alloc, disk, depot, kept, generation, held, files),
+        Entry::Dir(_) => Ok(()),
+        Entry::Opaque(_) => Ok(()),
+        Entry::Link(_) => Ok(()),
+        Entry::Hide => Ok(()),
     }
 }
 
-// The file with its home: as it is where it is kept.
+// Gives the file its home, where it is brought.
 fn place_held<D: Disk, P: Depot>(
     alloc: Global,
     disk: &mut D,
     depot: &mut P,
     kept: &KeptFiles,
     generation: u32,
-    held: Held,
+    held: &mut Held,
     files: &mut u32,
-) -> Result<Held, HomesErr>
+) -> Result<(), HomesErr>
     requires numbers { AreNumbered (lists_in kept.now) }
     requires number { files.old < 262144 }
     requires homes { Holds (HasHomes generation files.old) (D.state disk.old) }
-    requires size { held.stamp.size < 2 ^ 63 }
-    ensures works { Works (is_below generation) (is_below generation) (bytes_of_all (held_stamps held)) (D.state disk.old) (D.state disk.new) }
-    ensures only { Holds (HasOnlyHomes generation (files.old + length (held_stamps held))) (D.state disk.new) }
+    requires size { held.old.stamp.size < 2 ^ 63 }
+    ensures works { Works (is_below generation) (is_below generation) (bytes_of_all (held_stamps held.old)) (D.state disk.old) (D.state disk.new) }
+    ensures only { Holds (HasOnlyHomes generation (files.old + length (held_stamps held.old))) (D.state disk.new) }
     ensures kept { IsKept (P.state depot.old) (P.state depot.new) }
-    ensures placed { IfOk result (λ placed. Placing (λ written. IsFilePlaced (stored_in kept.now (D.state disk.old)) (P.state depot.old) generation held files.old placed written) generation files.old files.new (held_stamps held) (D.state disk.old) (D.state disk.new)) }
-    ensures cause { IfErr result (HomeCause (D.state disk.old) (D.state disk.new) (P.state depot.old) (P.state depot.new) (stored_in kept.now (D.state disk.old)) held) }
+    ensures placed { OnOk result (Placing (λ written. IsFilePlaced (stored_in kept.now (D.state disk.old)) (P.state depot.old) generation held.old files.old held.new written) generation files.old files.new (held_stamps held.old) (D.state disk.old) (D.state disk.new)) }
+    ensures cause { IfErr result (HomeCause (D.state disk.old) (D.state disk.new) (P.state depot.old) (P.state depot.new) (stored_in kept.now (D.state disk.old)) held.old) }
 {
-    if is_kept(&held) {
-        return Ok(held);
+    if is_kept(held) {
+        return Ok(());
     }
-    let home = place_brought(alloc, disk, depot, kept, generation, &held, files)?;
-    Ok(Held::kept(*held.stamp(), home))
+    let home = place_brought(alloc, disk, depot, kept, generation, held, files)?;
+    *held = Held::kept(*held.stamp(), home);
+    Ok(())
 }
 
 fn is_kept(held: &Held) -> bool

@@ -8,8 +8,11 @@ ghost use Rattle.ext_host.specs.Valid.{bytes_of};
 ghost use Rattle.ext_tree.specs.Tree.{most_entries};
 ghost use Rattle.ext_homes.specs.Brought.{AreSmall};
 ghost use Rattle.ext_homes.specs.Giving.{AreHomesBefore};
+ghost use Rattle.ext_homes.specs.Sought.{IsSought};
+ghost use Rattle.ext_tree.specs.declared.stamp.Stamp.{Stamp};
 
 use crate::kept_files::{KeptFile, KeptFiles};
+use crate::sought::{MARKS, Sought};
 use crate::{HomesErr, Placed, give_homes, laws};
 use ext_depot::{Depot, MemoryDepot};
 use ext_disk::{Disk, Kind};
@@ -147,8 +150,17 @@ fn given<D: Disk, P: Depot>(
 fn are_before(alloc: Global, host: &Host) -> Result<bool, Fail>
     ensures { IfOk result (λ before. IsTrue before → AreHomesBefore 9 (trees_of host.now)) }
 {
-    let kept = KeptFiles::of(alloc, Some(host))?;
+    let any = any_stamp(alloc)?;
+    let kept = KeptFiles::of(alloc, Some(host), &any)?;
     Ok(all_before(&kept.files))
+}
+
+// Any stamp.
+fn any_stamp(alloc: Global) -> Result<Sought, Fail>
+    ensures { IfOk result (λ sought. (stamp : Stamp) → IsSought sought stamp) }
+{
+    let marks = vec![in alloc; true; MARKS]?;
+    Ok(Sought { marks })
 }
 
 // Whether each file is kept in a generation before 9, under a number up to 262,143.

@@ -14,4 +14,4 @@ one_of files f all among = All-contains IsEarlier files f (All-from_recursion Is
 pub returns : goal.returns
 returns c = λ passed stamp home listed.
     one_of c.deref.result.now (kept_file stamp home) (c.all_before.ensures passed)
-    (subst (λ files. Contains files (kept_file stamp home)) (sym (c.deref.ensures.value ∙ c.kept.view_is)) (c.in_ok-kept.ensures.all stamp home listed))
+    (subst (λ files. Contains files (kept_file stamp home)) (sym (c.deref.ensures.value ∙ c.kept.view_is)) (c.in_ok-kept.ensures.all stamp home (c.in_ok-any.ensures stamp) listed))

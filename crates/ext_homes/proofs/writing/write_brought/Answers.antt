@@ -2,7 +2,6 @@ use Rattle.std.proofs.Common.{sym, subst}
 use Rattle.ext_text.specs.Path.{is_prefix}
 use Rattle.ext_disk.specs.Calls.{MayCall, make_file}
 use Rattle.ext_store.specs.Writing.{Works, is_at}
-use Rattle.ext_store.proofs.ForCallers.{kept_itself}
 use Rattle.ext_homes.specs.Placed.{brought_told}
 use Rattle.ext_homes.specs.Writing.{IsPut, Puts}
 use Rattle.ext_homes.proofs.WritingLemmas.{file_only, file_works, may_make_file, on_ok, put_written}

@@ -1,9 +1,8 @@
-use Rattle.std.proofs.Common.{◌≡◌, ◌∙◌, ◌<◌, ◌≤◌, Bool, List, length, drop, take, true, false, rules, sym, ap, subst}
-use Rattle.std.specs.List.{AllByRecursion, filter}
+use Rattle.std.proofs.Common.{◌≡◌, ◌∙◌, drop, true, false, rules, sym, ap, subst}
+use Rattle.std.specs.List.{filter}
 use Rattle.std.specs.List.Sorted.{IsPartitionPoint}
 use Rattle.std.proofs.lemmas.List.Sorted.{IsPartitionPoint-from_clause}
 use Rattle.ext_homes.specs.KeptFiles.{AreInOrder, has_stamp, is_before, stamp_key}
-use Rattle.ext_homes.specs.declared.kept_files.KeptFile.{KeptFile}
 use Rattle.ext_homes.proofs.KeptFilesLemmas.{AreSorted, before_partitions, found_files, has_partitions, homes_in_order, rest_files, sorted_files}
 use Rattle.ext_homes.proofs.kept_files.KeptFiles.of_stamp.Goals as goal
 
