@@ -21,7 +21,7 @@ use std::{fs, io};
 #[derive(Drop)]
 pub(crate) struct Folder<R: Files> {
     pub(crate) rt: R,
-    root: Text,
+    root: Vec<u8>,
     faults: u64,
     // Where the last call that looked found a file.
     found: Option<String>,
@@ -33,7 +33,7 @@ impl<R: Files> Model for Folder<R> {
 
     ghost Value = { FolderView };
 
-    ghost view = { λ f. record { root = f.root; faults = f.faults } };
+    ghost view = { λ f. record { root = f.root.items; faults = f.faults } };
 }
 
 impl<R: Files> Folder<R> {
@@ -42,7 +42,7 @@ impl<R: Files> Folder<R> {
     {
         Folder {
             rt,
-            root,
+            root: root.into_vec(),
             faults: 0,
             found: None,
             reader: None,
@@ -163,8 +163,8 @@ impl<R: Files> Folder<R> {
         Ok(count)
     }
 
-    // The file at a path, open at its byte `at`; `None` where it ends before. At its first byte it is not looked for where the
-    // call before found it.
+    // The file at a path, open at its byte `at`; `None` where it ends before. At its first byte it is taken from where the last
+    // look found it, which saves a look.
     fn opened(
         &self,
         path: &Path,

@@ -1,12 +1,15 @@
 use crate::folder_err::FolderErr;
-use ext_text::{Name, OutOfMemory, Path, Text};
+use ext_text::{Name, OutOfMemory, Path};
+
+// How many bytes most paths have at most, with the slash before them.
+const USUAL_BYTES: usize = 64;
 
 /// The system's path of what stands at a path below a root. An empty root names no folder, and neither does any path
 /// below it: the system finds nothing at the empty path.
 ///
 /// # Errors
 /// `Failed` where the root is no UTF-8, and `OutOfMemory`.
-pub(crate) fn location(root: &Text, path: &Path) -> Result<String, FolderErr> {
+pub(crate) fn location(root: &Vec<u8>, path: &Path) -> Result<String, FolderErr> {
     match String::from_utf8(joined(root, path)?) {
         Ok(location) => Ok(location),
         Err(_not_text) => Err(FolderErr::Failed),
@@ -14,8 +17,10 @@ pub(crate) fn location(root: &Text, path: &Path) -> Result<String, FolderErr> {
 }
 
 // The root, and the path after a slash. Without the test for an empty root that would be a path from the system's root.
-fn joined(root: &Text, path: &Path) -> Result<Vec<u8>, OutOfMemory> {
-    let mut bytes = root.copy()?.into_vec();
+fn joined(root: &Vec<u8>, path: &Path) -> Result<Vec<u8>, OutOfMemory> {
+    let room = root.len().saturating_add(USUAL_BYTES);
+    let mut bytes = Vec::with_capacity(*root.allocator(), room)?;
+    bytes.extend_from_slice(root)?;
     if !bytes.is_empty() && !path.names().is_empty() {
         bytes.push(b'/')?;
         path.append_to(&mut bytes)?;
@@ -24,8 +29,8 @@ fn joined(root: &Text, path: &Path) -> Result<Vec<u8>, OutOfMemory> {
 }
 
 /// Whether a location is that of a path below a root.
-pub(crate) fn is_location(location: &str, root: &Text, path: &Path) -> bool {
-    match location.as_bytes().strip_prefix(root.bytes()) {
+pub(crate) fn is_location(location: &str, root: &[u8], path: &Path) -> bool {
+    match location.as_bytes().strip_prefix(root) {
         Some(rest) => are_below(rest, path.names()),
         None => false,
     }

@@ -9,6 +9,9 @@ use std::alloc::Global;
 /// The greatest number of a generation.
 pub(crate) const LAST_GENERATION: u64 = 4_294_967_295;
 
+// How many bytes the longest name of a generation has.
+const MOST_BYTES: usize = 12;
+
 /// The number of the generation that has this name in the store folder, `g-` and its decimal digits; `None` exactly where no
 /// generation has it. The names are this project's own choice.
 pub fn generation_of(name: &[u8]) -> Option<u32>
@@ -56,7 +59,8 @@ fn generation_number(digits: &[u8]) -> Option<u32>
 pub(crate) fn generation_name(alloc: Global, generation: u32) -> Result<Vec<u8>, OutOfMemory>
     ensures { IfOk result (λ name. name.items ≡ generation_name generation) }
 {
-    let mut name = Vec::from_slice(alloc, b"g-")?;
+    let mut name = Vec::with_capacity(alloc, MOST_BYTES)?;
+    name.extend_from_slice(b"g-")?;
     append_decimal(&mut name, u64::from(generation))?;
     Ok(name)
 }

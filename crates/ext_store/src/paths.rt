@@ -1,6 +1,7 @@
 // The paths of the store.
 ghost use Rattle.std.specs.Prelude.{◌≡◌, [], ◌∷◌, ◌++◌, IfOk};
-ghost use Rattle.ext_store.specs.Names.{IsFileNumber, current_path, next_path, generation_path, index_path, home_folder, home_path};
+ghost use Rattle.ext_text.specs.Name.{IsName};
+ghost use Rattle.ext_store.specs.Names.{IsFileNumber, current_path, next_path, generation_name, generation_path, index_path, home_folder, home_path};
 
 use crate::names::generation_name;
 use ext_lines::five_digits;
@@ -81,23 +82,39 @@ pub fn home_path(alloc: Global, generation: u32, file: u32) -> Result<Path, OutO
     requires { IsFileNumber file }
     ensures { IfOk result (λ path. path ≡ home_path generation file) }
 {
-    child(
-        alloc,
-        &home_folder(alloc, generation, file)?,
-        &five_digits(file)[3..],
-    )
+    let digits = five_digits(file);
+    let mut names = Vec::with_capacity(alloc, 3)?;
+    names.push(generation_folder(alloc, generation)?)?;
+    names.push(name(alloc, &digits[..3])?)?;
+    names.push(name(alloc, &digits[3..])?)?;
+    Ok(Path::from_names(names))
 }
 
-/// The path of the name of these bytes in a folder. What the store asks for is a name, and makes a path, so that it is not
-/// told apart here why there is none.
+// The name of a generation's folder.
+fn generation_folder(alloc: Global, generation: u32) -> Result<Name, OutOfMemory>
+    ensures same { IfOk result (λ name. name ≡ generation_name generation) }
+    ensures valid { IfOk result IsName }
+{
+    name(alloc, generation_name(alloc, generation)?.as_slice())
+}
+
+/// The path of the name of these bytes in a folder.
 ///
 /// # Errors
 /// `OutOfMemory`, also where the bytes are no name or the path would be none.
-pub(crate) fn child(alloc: Global, dir: &Path, name: &[u8]) -> Result<Path, OutOfMemory>
-    ensures { IfOk result (λ path. path ≡ dir.now ++ name.now ∷ []) }
+pub(crate) fn child(alloc: Global, dir: &Path, bytes: &[u8]) -> Result<Path, OutOfMemory>
+    ensures { IfOk result (λ path. path ≡ dir.now ++ bytes.now ∷ []) }
 {
-    match Name::read(alloc, name) {
-        Ok(name) => child_named(dir, &name),
+    child_named(dir, &name(alloc, bytes)?)
+}
+
+// The name of these bytes. What the store asks for is a name, so that it is not told apart here why there is none.
+fn name(alloc: Global, bytes: &[u8]) -> Result<Name, OutOfMemory>
+    ensures same { IfOk result (λ name. name ≡ bytes.now) }
+    ensures valid { IfOk result IsName }
+{
+    match Name::read(alloc, bytes) {
+        Ok(name) => Ok(name),
         Err(_) => Err(OutOfMemory),
     }
 }
