@@ -1,16 +1,16 @@
 -- The base, made in path order: what it has at each path, that it is a tree, and how many entries it has.
-use Rattle.std.proofs.Common.{◌≡◌, ℕ, zero, suc, ◌+◌, ◌≤◌, Bool, true, false, cond, not, ◌&&◌, ◌||◌, List, [], ◌∷◌, ◌++◌, length, get_or, Option, Some, None, is_some, refl, sym, ap, ◌∙◌, subst, T, arith, length-append}
+use Rattle.std.proofs.Common.{◌≡◌, ℕ, zero, suc, ◌+◌, ◌≤◌, Bool, true, false, cond, ◌||◌, List, [], ◌∷◌, ◌++◌, length, get_or, Option, Some, None, is_some, refl, sym, ap, ◌∙◌, subst, arith, length-append}
 use Rattle.std.proofs.lemmas.Bool.{and_from, and_parts, false≢true, true≢false}
 use Rattle.std.proofs.lemmas.Float.{T_from_true}
 use Rattle.std.proofs.lemmas.List.Elements.{All-from_all_within, recursion_from_All}
 use Rattle.std.proofs.lemmas.List.MinMax.{ranks_by}
 use Rattle.std.proofs.lemmas.List.Sorted.{sorted_far}
 use Rattle.std.specs.List.Sorted.{IsSorted}
-use Rattle.std.specs.List.{AllByRecursion, filter}
+use Rattle.std.specs.List.{AllByRecursion}
 use Rattle.std.specs.Ordering.{eq_by_cmp, is_eq, is_gt, is_lt}
 use Rattle.std.specs.declared.cmp.Ordering.{Ordering}
 use Rattle.std.specs.declared.cmp.Ordering.TheVariants.{Less, Equal, Greater}
-use Rattle.std.specs.FinMap.{find, is_sorted}
+use Rattle.std.specs.FinMap.{is_sorted}
 use Rattle.std.specs.FinMap.Entries.{below_all, find-where_key, is_sorted-where_key, where_key}
 use Rattle.ext_lines.specs.ByteOrder.{bytes_cmp, bytes_total}
 use Rattle.ext_text.specs.Order.{paths_exact}
@@ -19,7 +19,7 @@ use Rattle.ext_text.proofs.ForCallers.{all_append, all_weaker, is_equal, is_grea
 use Rattle.ext_tree.specs.Tree.{Entries, IsTree, IsTreeWithin, is_directory_at, is_directory_or_root, lookup, most_entries}
 use Rattle.ext_tree.specs.declared.entry.Entry.{Entry}
 use Rattle.ext_tree.proofs.ForCallers.{find-join}
-use Rattle.ext_host.specs.Base.{base_entries, comes_after, comes_before, name_cmp, stands_at}
+use Rattle.ext_host.specs.Base.{base_entries, comes_after, comes_before, first_name_cmp, stands_at}
 use Rattle.ext_host.specs.Host.{is_in}
 use Rattle.ext_host.proofs.NameLemmas.{after_not_before, at_first, at_not_before, before_first, in_none, prefix_at}
 
@@ -113,7 +113,7 @@ module _ {C : Type 0} where
       find-join path_cmp p a (b ++ rest)
       ∙ (λ i. first_found (lookup a p) (find-join path_cmp p b rest i))
       ∙ (λ i. first_found (lookup_where (comes_before n) p root i) (first_found (lookup_where (stands_at n) p lower i) (at_rest i)))
-      ∙ parted (name_cmp n p) (is_in names p) (lookup root p) (lookup lower p) (λ before. in_none n names p rising.0 before)
+      ∙ parted (first_name_cmp n p) (is_in names p) (lookup root p) (lookup lower p) (λ before. in_none n names p rising.0 before)
       ∙ (λ i. cond (sym (prefix_at n p) i || is_in names p) (lookup lower p) (lookup root p))
 
   -- what holds of the paths of both holds of the base's
@@ -149,10 +149,10 @@ module _ {C : Type 0} where
 
   -- what comes before a name and what comes after it, and what is at it and what comes after it
   pub root_parts : (n : List ℕ) (es : Entries C) → length (where_key path_cmp (comes_before n) es) + length (where_key path_cmp (comes_after n) es) ≤ length es
-  root_parts n es = count_apart path_cmp (comes_before n) (comes_after n) (λ p before. ap is_lt (is_greater (name_cmp n p) before)) es
+  root_parts n es = count_apart path_cmp (comes_before n) (comes_after n) (λ p before. ap is_lt (is_greater (first_name_cmp n p) before)) es
 
   pub lower_parts : (n : List ℕ) (es : Entries C) → length (where_key path_cmp (stands_at n) es) + length (where_key path_cmp (comes_after n) es) ≤ length es
-  lower_parts n es = count_apart path_cmp (stands_at n) (comes_after n) (λ p at. ap is_lt (is_equal (name_cmp n p) at)) es
+  lower_parts n es = count_apart path_cmp (stands_at n) (comes_after n) (λ p at. ap is_lt (is_equal (first_name_cmp n p) at)) es
 
   pub length-base : (names : List (List ℕ)) (root lower : Entries C) → length (base_entries names root lower) ≤ length root + length lower
   length-base [] root lower = omega arith

@@ -1,11 +1,11 @@
 -- Where the files of what is made of trees come from.
-use Rattle.std.proofs.Common.{◌≡◌, ℕ, suc, zero, ◌<◌, ◌≤◌, Bool, true, false, cond, not, ◌&&◌, List, [], ◌∷◌, ◌++◌, length, drop, ◌⊎◌, inl, inr, Option, Some, None, is_some, refl, sym, ap, ◌∙◌, subst, arith}
+use Rattle.std.proofs.Common.{◌≡◌, ℕ, suc, zero, Bool, true, false, cond, not, ◌&&◌, List, [], ◌∷◌, ◌++◌, length, drop, ◌⊎◌, inl, inr, Option, Some, None, is_some, refl, sym, ap, ◌∙◌, subst, arith}
 use Rattle.std.proofs.lemmas.Bool.{and_parts, false≢true}
 use Rattle.std.proofs.lemmas.List.Elements.{All-contains, All-from_recursion}
 use Rattle.std.specs.Ordering.{eq_by_cmp}
 use Rattle.std.specs.List.{AllByRecursion, Contains}
 use Rattle.ext_text.specs.Path.{is_prefix, is_proper_prefix, path_cmp}
-use Rattle.ext_tree.specs.Graft.{IsGraft, made, or_made}
+use Rattle.ext_tree.specs.Graft.{made, or_made}
 use Rattle.ext_tree.specs.Refusals.{is_root}
 use Rattle.ext_tree.specs.Tree.{Entries, is_directory, lookup}
 use Rattle.ext_tree.proofs.ForCallers.{prefix_split}
@@ -13,7 +13,7 @@ use Rattle.ext_tree.specs.declared.entry.Entry.{Entry}
 use Rattle.ext_tree.specs.declared.entry.Entry.TheVariants.{File}
 use Rattle.ext_host.specs.Drawn.{AreDrawnFrom, HasFile, IsFileOf}
 use Rattle.ext_host.specs.Held.{HeldFile}
-use Rattle.ext_host.specs.Host.{base_at, hierarchies_in, is_in, merged_hierarchies, present}
+use Rattle.ext_host.specs.Host.{hierarchies_in, is_in, merged_hierarchies, present}
 use Rattle.ext_host.specs.Laws.{BaseIsDrawn, CutIsDrawn, DrawnFromItself, DrawnOneByOne, DrawnThrough, EntriesOfBase, EntriesOfCut, EntriesOfGraft, EntriesOfPart, GraftIsDrawn, PartIsDrawn, TreesAreDrawn, TreesDrawnThrough}
 
 nothing_is : {X : Type 0} (x : X) → None ≡ Some x → ⊥

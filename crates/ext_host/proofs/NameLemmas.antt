@@ -1,16 +1,14 @@
 -- Paths and a name directly below the root: what comes before it, is at or below it, and comes after it.
-use Rattle.std.proofs.Common.{◌≡◌, ℕ, Bool, true, false, not, ◌&&◌, ◌||◌, List, [], ◌∷◌, ◌⊎◌, inl, inr, refl, sym, ap, ◌∙◌, subst}
+use Rattle.std.proofs.Common.{◌≡◌, ℕ, true, false, not, ◌&&◌, ◌||◌, List, [], ◌∷◌, ◌⊎◌, inl, inr, refl, sym, ap, ◌∙◌, subst}
 use Rattle.std.proofs.lemmas.Bool.{false≢true, true≢false}
-use Rattle.std.specs.List.{AllByRecursion, list_any}
-use Rattle.std.specs.Cmp.{Equal-is}
+use Rattle.std.specs.List.{AllByRecursion}
 use Rattle.std.specs.Ordering.{eq_by_cmp, is_eq, is_gt, is_lt, ordering_reverse, ordering_then}
 use Rattle.std.specs.declared.cmp.Ordering.{Ordering}
 use Rattle.std.specs.declared.cmp.Ordering.TheVariants.{Less, Equal, Greater}
-use Rattle.std.specs.Cmp.Lexicographic.{slice_cmp}
 use Rattle.ext_lines.specs.ByteOrder.{bytes_cmp, bytes_exact, bytes_total}
 use Rattle.ext_text.specs.Path.{is_prefix, path_cmp}
 use Rattle.ext_text.proofs.ForCallers.{is_equal, is_greater, is_less}
-use Rattle.ext_host.specs.Base.{comes_after, comes_before, name_cmp, stands_at}
+use Rattle.ext_host.specs.Base.{comes_after, comes_before, first_name_cmp, stands_at}
 use Rattle.ext_host.specs.Host.{is_in}
 
 flip_less : (x y : List ℕ) → bytes_cmp x y ≡ Less → bytes_cmp y x ≡ Greater
@@ -57,7 +55,7 @@ after_down n x y less out =
 
 -- neither before nor after is at the name
 pub neither : (n : List ℕ) (x : List (List ℕ)) → (not (comes_before n x) && not (comes_after n x)) ≡ stands_at n x
-neither n x = elim (name_cmp n x) as (λ o. (not (is_gt o) && not (is_lt o)) ≡ is_eq o) [ Less ↦ refl | Equal ↦ refl | Greater ↦ refl ]
+neither n x = elim (first_name_cmp n x) as (λ o. (not (is_gt o) && not (is_lt o)) ≡ is_eq o) [ Less ↦ refl | Equal ↦ refl | Greater ↦ refl ]
 
 -- ---- the order of what stands before, at and after a name
 
@@ -82,10 +80,10 @@ at_first n (a ∷ x) (m ∷ y) at after =
     ap (λ r. ordering_then r (path_cmp x y)) (sym (bytes_total.congr n a m (is_equal _ at)) ∙ is_less _ after)
 
 pub at_not_before : (n : List ℕ) (x : List (List ℕ)) → stands_at n x ≡ true → comes_before n x ≡ false
-at_not_before n x at = ap is_gt (is_equal (name_cmp n x) at)
+at_not_before n x at = ap is_gt (is_equal (first_name_cmp n x) at)
 
 pub after_not_before : (n : List ℕ) (x : List (List ℕ)) → comes_after n x ≡ true → comes_before n x ≡ false
-after_not_before n x after = ap is_gt (is_less (name_cmp n x) after)
+after_not_before n x after = ap is_gt (is_less (first_name_cmp n x) after)
 
 -- ---- names that do not fall
 

@@ -1,14 +1,11 @@
 -- What holds of a host's manifests still holds of those that a change leaves.
-use Rattle.std.proofs.Common.{◌≡◌, ℕ, Bool, true, false, cond, not, List, [], ◌∷◌, map}
+use Rattle.std.proofs.Common.{◌≡◌, Bool, true, false, cond, not, List, [], ◌∷◌, map}
 use Rattle.std.specs.List.{AllByRecursion, filter}
 use Rattle.std.specs.declared.cmp.Ordering.{Ordering}
 use Rattle.std.specs.declared.cmp.Ordering.TheVariants.{Less}
 use Rattle.ext_text.specs.Path.{are_related, path_cmp}
-use Rattle.ext_tree.specs.declared.entry.Entry.{Entry}
-use Rattle.ext_host.specs.Held.{HeldFile}
 use Rattle.ext_host.specs.Laws.{TouchedIsValid}
-use Rattle.ext_host.specs.Touch.{untouched}
-use Rattle.ext_host.specs.Valid.{AreApart, AreAscending, AreManifests, HasItems, IsManifest}
+use Rattle.ext_host.specs.Valid.{AreApart, AreAscending, IsManifest}
 use Rattle.ext_host.specs.declared.manifest.Manifest.{Manifest}
 
 -- what holds of each holds of those that are kept

@@ -10,21 +10,21 @@ use Rattle.ext_text.specs.Path.{path_cmp}
 use Rattle.ext_tree.specs.Tree.{Entries}
 
 -- how a name stands to the first name of a path; it comes after the root
-abbrev pub name_cmp : List ℕ → List (List ℕ) → Ordering
-name_cmp name [] = Greater
-name_cmp name (first ∷ path) = bytes_cmp name first
+abbrev pub first_name_cmp : List ℕ → List (List ℕ) → Ordering
+first_name_cmp name [] = Greater
+first_name_cmp name (first ∷ path) = bytes_cmp name first
 
 -- the path comes before the name
 abbrev pub comes_before : List ℕ → List (List ℕ) → Bool
-comes_before name path = is_gt (name_cmp name path)
+comes_before name path = is_gt (first_name_cmp name path)
 
 -- the path is at or below the name
 abbrev pub stands_at : List ℕ → List (List ℕ) → Bool
-stands_at name path = is_eq (name_cmp name path)
+stands_at name path = is_eq (first_name_cmp name path)
 
 -- the path comes after the name and all that is below it
 abbrev pub comes_after : List ℕ → List (List ℕ) → Bool
-comes_after name path = is_lt (name_cmp name path)
+comes_after name path = is_lt (first_name_cmp name path)
 
 -- what is seen, with what lies under it in the place of each of the names, which do not fall
 abbrev pub base_entries : {C : Type 0} → List (List ℕ) → Entries C → Entries C → Entries C

@@ -1,13 +1,12 @@
 -- Where the files of a host come from. A command brings files of its own, and otherwise moves and copies those of the host
 -- before: so no command makes up where a file is kept. This project's own.
-use Rattle.std.specs.Prelude.{◌≡◌, ℕ, List, [], ◌∷◌, ◌++◌, Some, Contains}
+use Rattle.std.specs.Prelude.{◌≡◌, ℕ, List, [], ◌∷◌, Some, Contains}
 use Rattle.std.specs.List.{flat_map}
 use Rattle.ext_tree.specs.Tree.{Entries, lookup}
 use Rattle.ext_tree.specs.declared.entry.Entry.TheVariants.{File}
 use Rattle.ext_host.specs.Held.{HeldFile}
 use Rattle.ext_host.specs.declared.body.Body.TheVariants.{Kept}
 use Rattle.ext_host.specs.declared.home.Home.{Home}
-use Rattle.ext_host.specs.declared.past.Past.{Past}
 use Rattle.ext_host.specs.declared.host.Host.{Host}
 
 -- a file of the tree, at some path and with some mode

@@ -21,10 +21,11 @@ DrawnFromItself = (host : Host) → IsDrawnFrom host host
 abbrev pub DrawnThrough : Type 0
 DrawnThrough = (a b c : Host) → IsDrawnFrom a b → IsDrawnFrom b c → IsDrawnFrom a c
 
--- trees are drawn from those from which trees are drawn that they are drawn from; and from others where each of them is
+-- trees that are drawn from others are drawn from all that those are drawn from
 abbrev pub TreesDrawnThrough : Type 0
 TreesDrawnThrough = (a b c : List (Entries HeldFile)) → AreDrawnFrom a b → AreDrawnFrom b c → AreDrawnFrom a c
 
+-- trees are drawn from others where each of them is
 abbrev pub DrawnOneByOne : Type 0
 DrawnOneByOne = (old new : List (Entries HeldFile)) → AllByRecursion (λ es. AreDrawnFrom old (es ∷ [])) new → AreDrawnFrom old new
 

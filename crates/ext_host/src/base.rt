@@ -6,7 +6,7 @@ ghost use Rattle.std.specs.List.Sorted.{IsPermutation, IsSorted};
 ghost use Rattle.ext_lines.specs.ByteOrder.{bytes_cmp};
 ghost use Rattle.ext_text.specs.Path.{path_cmp};
 ghost use Rattle.ext_tree.specs.Tree.{most_entries};
-ghost use Rattle.ext_host.specs.Base.{base_entries, comes_after, comes_before, name_cmp, stands_at};
+ghost use Rattle.ext_host.specs.Base.{base_entries, comes_after, comes_before, first_name_cmp, stands_at};
 ghost use Rattle.ext_host.specs.Host.{IsBase, hierarchies_in, merged_hierarchies, present, where_merged};
 
 use crate::held::Held;
@@ -198,19 +198,19 @@ fn after<'a>(pairs: &'a [Pair], name: &Name) -> &'a [Pair]
 fn comes_before(name: &Name, pair: &Pair) -> bool
     ensures { result ≡ comes_before name.now pair.now.0 }
 {
-    name_cmp(name, pair).is_gt()
+    first_name_cmp(name, pair).is_gt()
 }
 
 // Whether the entry comes after the name and all that is below it.
 fn comes_after(name: &Name, pair: &Pair) -> bool
     ensures { result ≡ comes_after name.now pair.now.0 }
 {
-    name_cmp(name, pair).is_lt()
+    first_name_cmp(name, pair).is_lt()
 }
 
 // How the name stands to the first one of the entry's path.
-fn name_cmp(name: &Name, pair: &Pair) -> Ordering
-    ensures { result ≡ name_cmp name.now pair.now.0 }
+fn first_name_cmp(name: &Name, pair: &Pair) -> Ordering
+    ensures { result ≡ first_name_cmp name.now pair.now.0 }
 {
     match pair.0.names() {
         [] => Ordering::Greater,

@@ -20,7 +20,7 @@ use std::alloc::Global;
 /// A host from the texts of what is seen and of what lies under it: x86-64, `system`, with the default hierarchies, nothing
 /// merged, attached or left by updates, and no past. A file whose stamp is that of one of the contents has these bytes, the
 /// first such ones; each other file is kept, in generation 1 those that are seen and in generation 2 the others, with its
-/// place among the entries as its number. A test sets the other fields.
+/// index among the entries as its number. A test sets the other fields.
 ///
 /// # Errors
 /// `BadTree` exactly where one of the texts is no tree text, with its first faulty line, the first text first;
@@ -53,7 +53,7 @@ pub fn host_of_texts(
 }
 
 /// The tree of a text. A file whose stamp is that of one of the contents has these bytes, the first such ones; each other
-/// file is kept in the generation, with its place among the entries as its number.
+/// file is kept in the generation, with its index among the entries as its number.
 ///
 /// # Errors
 /// `BadTree` exactly where the text is no tree text, with its first faulty line; `OutOfMemory`.

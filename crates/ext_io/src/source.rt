@@ -10,7 +10,7 @@ pub trait Source {
     /// The bytes that are left to read, where the source tells them, and how often a call failed.
     ghost state: { Self → SourceState };
 
-    /// Reads some of the bytes into the first places of a buffer that has room for one at least, and gives how many they
+    /// Reads some of the bytes to the start of a buffer that has room for one at least, and gives how many they
     /// are. It gives 0 exactly at the end of the input.
     ///
     /// # Errors

@@ -1,6 +1,6 @@
 -- The laws of views.
-use Rattle.std.proofs.Common.{◌≡◌, ℕ, Bool, true, false, List, [], ◌∷◌, ◌++◌, length, Option, Some, None, is_some, Ok, refl, sym, ap, ◌∙◌, subst, arith}
-use Rattle.std.specs.Prelude.{not, reverse}
+use Rattle.std.proofs.Common.{◌≡◌, ℕ, Bool, true, false, List, [], ◌∷◌, length, Option, Some, None, is_some, refl, sym, ap, ◌∙◌, subst, arith}
+use Rattle.std.specs.Prelude.{not}
 use Rattle.std.proofs.lemmas.Bool.{false≢true, true≢false}
 use Rattle.std.proofs.lemmas.Float.{T_from_true}
 use Rattle.std.specs.FinMap.{FinMap}
@@ -13,7 +13,7 @@ use Rattle.ext_text.specs.declared.class.Class.TheVariants.{Sysext, Confext, Por
 use Rattle.ext_tree.specs.Part.{part}
 use Rattle.ext_tree.specs.Tree.{Entries, IsTree, is_hide, is_opaque, lookup}
 use Rattle.ext_tree.specs.declared.entry.Entry.{Entry}
-use Rattle.ext_walk.specs.Walk.{Ends, walk}
+use Rattle.ext_walk.specs.Walk.{walk}
 use Rattle.ext_walk.proofs.ForCallers.{one_end}
 use Rattle.ext_host.specs.Held.{HeldFile}
 use Rattle.ext_host.specs.Host.{is_in}
@@ -33,7 +33,6 @@ use Rattle.ext_view.specs.Matched.{AreMatched}
 use Rattle.ext_view.specs.Plans.{PlansView}
 use Rattle.ext_view.specs.Survey.{IsBaseTree, IsFoundIn, IsItemOf, IsKindOf, IsSurveyOf, MakesOf, content_size}
 use Rattle.ext_view.specs.View.{AreImagesOf, AreViewTrees, HasView, IsMergedHost, IsUnmerged, chosen, names_of, with_view}
-use Rattle.ext_view.specs.declared.outcome.Merge.{Merge}
 use Rattle.ext_view.specs.declared.surveyed.SurveyItem.{SurveyItem}
 use Rattle.ext_view.specs.declared.surveyed.SurveyKind.{SurveyKind}
 use Rattle.ext_view.specs.declared.surveyed.SurveyKind.TheVariants.{Masked, Raw, Broken, BadRelease, Image}

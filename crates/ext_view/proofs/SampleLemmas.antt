@@ -1,8 +1,7 @@
 -- The hosts of this crate's tests are valid, and their shelf serves them.
-use Rattle.std.proofs.Common.{◌≡◌, ℕ, zero, suc, ◌+◌, ◌<◌, ◌≤◌, true, false, List, [], ◌∷◌, length, map, Option, Some, None, is_some, refl, sym, ap, ◌∙◌, subst, arith}
+use Rattle.std.proofs.Common.{◌≡◌, ℕ, zero, suc, ◌≤◌, true, false, List, [], ◌∷◌, length, None, refl, sym, ap, ◌∙◌, subst, arith}
 use Rattle.std.specs.Prelude.{Contains, codes}
 use Rattle.std.proofs.lemmas.Bool.{false≢true}
-use Rattle.std.specs.List.{AllByRecursion}
 use Rattle.std.specs.Ordering.{eq_by_cmp}
 use Rattle.ext_lines.specs.ByteOrder.{bytes_cmp}
 use Rattle.ext_text.specs.declared.arch.Arch.TheVariants.{X86_64}
@@ -17,7 +16,7 @@ use Rattle.ext_host.specs.Held.{HeldFile}
 use Rattle.ext_host.specs.Host.{default_hierarchies}
 use Rattle.ext_host.specs.Samples.{IsSample}
 use Rattle.ext_host.specs.Stamped.{stamped_entry, stamps}
-use Rattle.ext_host.specs.Valid.{AreHierarchies, AreInRange, AreOfClasses, IsValidHost, all_bytes, held_form, most_bytes}
+use Rattle.ext_host.specs.Valid.{AreInRange, AreOfClasses, IsValidHost, all_bytes, held_form, most_bytes}
 use Rattle.ext_host.specs.declared.host.Host.{Host}
 use Rattle.ext_view.specs.Survey.{ServesHost}
 

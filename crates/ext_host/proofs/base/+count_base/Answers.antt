@@ -1,4 +1,4 @@
-use Rattle.std.proofs.Common.{rules, ◌≡◌, ◌+◌, ◌≤◌, length, arith}
+use Rattle.std.proofs.Common.{◌+◌, ◌≤◌, length, arith}
 use Rattle.ext_host.proofs.BaseLemmas.{lower_parts, root_parts}
 use Rattle.ext_host.proofs.base.+count_base.Goals as goal
 

@@ -1,4 +1,4 @@
-use Rattle.std.proofs.Common.{◌≡◌, ℕ, List, cond, refl, sym, ap, ◌∙◌, subst, ◌∷◌, []}
+use Rattle.std.proofs.Common.{◌≡◌, cond, sym, ap, ◌∙◌, subst, ◌∷◌, []}
 use Rattle.std.proofs.lemmas.List.Sorted.{list_any-IsPermutation}
 use Rattle.ext_text.specs.Path.{is_prefix}
 use Rattle.ext_tree.specs.Tree.{IsTreeWithin, lookup}
