@@ -7,6 +7,7 @@
  * and the store folder is synced before and after. No index is written. With `few` each file costs the calls that a copy can't do
  * without; with `same` those that hostext makes of it, in its order: it also looks at what stands at the depot's path, and reads
  * on until there is nothing more. With `hash` each file's SHA-256 is taken too, as hostext has to, by plain C. */
+#define _GNU_SOURCE
 #include <fcntl.h>
 #include <stdint.h>
 #include <stdio.h>
@@ -118,9 +119,9 @@ static void end_hash(void) {
 
 /* With each call that hostext makes of a file. */
 static void copy_looking(const char *from, const char *to, int hashes) {
-    struct stat found;
+    struct statx found;
     ssize_t count;
-    if (stat(from, &found) < 0) fail(from);
+    if (statx(AT_FDCWD, from, AT_STATX_SYNC_AS_STAT, STATX_ALL, &found) < 0) fail(from);
     int out = open(to, O_WRONLY | O_CREAT | O_EXCL | O_NOCTTY | O_APPEND | O_CLOEXEC, 0666);
     if (out < 0) fail(to);
     int in = open(from, O_RDONLY | O_NOCTTY | O_CLOEXEC);
