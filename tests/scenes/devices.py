@@ -4,7 +4,6 @@ what changes between two calls.
 The program of the crate ext_folder_probe makes the calls: a line of its standard input is one, and a line of its standard
 output is the answer.
 """
-import functools
 import os
 import shutil
 import socket
@@ -14,31 +13,15 @@ import tempfile
 import threading
 from pathlib import Path
 
-from scenes.running import TOP, Failed, Skipped, shortened
+from scenes.running import Failed, Skipped, program_of, shortened
 
-CRATE = TOP / "crates/ext_folder_probe"
 SECONDS = 30
 NOBODY = 65534
 
 
-def sources():
-    """The files that programs are made from."""
-    yield TOP / "crates.txt"
-    for part in "src", "specs", "proofs":
-        for folder in TOP.glob(f"crates/*/{part}"):
-            yield from (path for path in folder.rglob("*") if path.is_file())
-
-
-@functools.cache
 def built():
-    """The program, which is proved and built first where it isn't there, or is older than its sources."""
-    program = CRATE / "out/ext_folder_probe"
-    if program.is_file() and max(path.stat().st_mtime for path in sources()) <= program.stat().st_mtime:
-        return program
-    if not shutil.which("rt"):
-        raise Skipped("there is no rt")
-    subprocess.run(["rt", "run", "--", "disk", "."], cwd=CRATE, stdin=subprocess.DEVNULL, capture_output=True, check=True)
-    return program
+    """The program: the one that was built here, or the carried one."""
+    return program_of("ext_folder_probe")
 
 
 def become_nobody():
@@ -97,17 +80,22 @@ AT_X = [
 # Every call of a disk at the name `in` in `x`.
 IN_X = [call.replace("x z", "x/in x/z").replace("file x", "x/z x/in") if call.startswith("rename") else call.replace(" x", " x/in") for call in AT_X]
 
-# Entries that are neither files nor folders: how each is made, and whether the system finds nothing below it or refuses.
+# Entries that are neither files nor folders, and links: how each is made, whether the depot finds what it leads to, and whether
+# the system finds nothing below it or refuses.
 ODD = {
-    "a socket": (lambda place: socket.socket(socket.AF_UNIX).bind(os.fspath(place)), "nothing"),
-    "a pipe": (lambda place: os.mkfifo(place, 0o666), "nothing"),
-    "a link to a pipe": (lambda place: (os.mkfifo(place.parent / "pipe", 0o666), place.symlink_to("pipe")), "nothing"),
-    "a device": (lambda place: os.mknod(place, stat.S_IFCHR | 0o666, os.makedev(1, 3)), "nothing"),
-    "a link to a device": (lambda place: place.symlink_to("/dev/null"), "nothing"),
-    "a link that leads nowhere": (lambda place: place.symlink_to("gone"), "nothing"),
-    "a link to what is below a file": (lambda place: place.symlink_to("file/gone"), "nothing"),
-    "a link to itself": (lambda place: place.symlink_to("x"), "fault"),
-    "a loop of links": (lambda place: (place.symlink_to("y"), (place.parent / "y").symlink_to("x")), "fault"),
+    "a socket": lambda place: socket.socket(socket.AF_UNIX).bind(os.fspath(place)),
+    "a pipe": lambda place: os.mkfifo(place, 0o666),
+    "a device": lambda place: os.mknod(place, stat.S_IFCHR | 0o666, os.makedev(1, 3)),
+}
+LINKS = {
+    "a link to a file": ("file", "file 3", "nothing"),
+    "a link to a folder": ("to", "nothing", "file 2"),
+    "a link to a pipe": ("pipe", "fault", "nothing"),
+    "a link to a device": ("/dev/null", "fault", "nothing"),
+    "a link that leads nowhere": ("gone", "fault", "nothing"),
+    "a link to what is below a file": ("file/gone", "fault", "nothing"),
+    "a link to itself": ("x", "fault", "fault"),
+    "a loop of links": ("y", "fault", "fault"),
 }
 
 
@@ -117,7 +105,7 @@ def stands(folder):
     return found, Path(folder, "file").read_bytes()
 
 
-def odd_entry(folder, make, below):
+def odd_entry(folder, make):
     """Every call at an entry that is neither a file nor a folder is a fault, and leaves everything as it was. Below it
     nothing stands."""
     Path(folder, "file").write_text("abc")
@@ -127,34 +115,36 @@ def odd_entry(folder, make, below):
         raise Skipped(f"it can't be made: {error.strerror}") from None
     before = stands(folder)
     with Device("disk", folder) as disk:
-        disk.expect(*each(AT_X, "fault"), ("kind x/in", below), *each(IN_X[1:], "fault"))
+        disk.expect(*each(AT_X, "fault"), ("kind x/in", "nothing"), *each(IN_X[1:], "fault"))
     with Device("depot", folder) as depot:
-        depot.expect(("size x", "fault"), ("read x 0 9", "fault"), ("size x/in", below), ("read x/in 0 9", "fault"))
+        depot.expect(("size x", "fault"), ("read x 0 9", "fault"), ("size x/in", "nothing"), ("read x/in 0 9", "fault"))
     if stands(folder) != before:
         raise Failed("a call that failed changed the folder")
 
 
-def a_link_to_a_folder_is_followed_and_stays(folder):
+def link(folder, text, size, below):
+    """For a disk a link is a file of its text's length, which it tells, lists and removes; every other call at it or through it
+    is a fault, and leaves everything as it was. For a depot it is what it leads to."""
     Path(folder, "file").write_text("abc")
     Path(folder, "to").mkdir()
     Path(folder, "to/in").write_text("in")
-    Path(folder, "x").symlink_to("to")
+    Path(folder, "y").symlink_to("x")
+    os.mkfifo(Path(folder, "pipe"), 0o666)
+    Path(folder, "x").symlink_to(text)
+    before = stands(folder)
     with Device("disk", folder) as disk:
-        disk.expect(("kind x", "folder"), ("list x", "names in"), ("sync_dir x", "done"))
-        disk.expect(*each((call for call in AT_X if call not in ("kind x", "list x", "sync_dir x")), "fault"))
-        disk.expect(("kind x/in", "file 2"), ("append x/in to", "done"), ("sync_file x/in", "done"), ("read x/in 1 9", "bytes nto"))
-        disk.expect(("rename x/in x/z", "done"), ("make_dir x/d", "done"), ("remove x/d", "done"), ("list to", "names z"))
+        disk.expect(("kind x", f"file {len(text)}"), ("list ", "names file pipe to x y"))
+        disk.expect(*each((call for call in AT_X if call not in ("kind x", "remove x")), "fault"), *each(IN_X, "fault"))
     with Device("depot", folder) as depot:
-        depot.expect(("size x", "nothing"), ("read x 0 9", "fault"), ("size x/z", "file 4"), ("read x/z 0 9", "bytes into"))
-
-
-def a_link_to_a_file_is_followed_and_moved_itself(folder):
-    Path(folder, "file").write_text("abc")
-    Path(folder, "x").symlink_to("file")
+        depot.expect(("size x", size), ("size x/in", below), *each(("read x 0 9",), "bytes abc" if size == "file 3" else "fault"))
+        depot.expect(("read x/in 0 9", "bytes in" if below == "file 2" else "fault"))
+    if stands(folder) != before:
+        raise Failed("a call at a link changed the folder")
     with Device("disk", folder) as disk:
-        disk.expect(("kind x", "file 3"), ("append x d", "done"), ("sync_file x", "done"), ("read file 0 9", "bytes abcd"))
-        disk.expect(*each(("list x", "sync_dir x", "make_dir x", "make_file x", "make_file x/in"), "fault"))
-        disk.expect(("rename x z", "done"), ("kind x", "nothing"), ("kind z", "file 4"), ("remove z", "done"), ("kind file", "file 4"))
+        disk.expect(("remove x", "done"), ("kind x", "nothing"), ("make_dir x", "done"), ("make_file x/in", "done"), ("list to", "names in"))
+    after = stands(folder)
+    if {name: kind for name, kind in after[0].items() if name != "x"} != {name: kind for name, kind in before[0].items() if name != "x"} or after[1] != before[1]:
+        raise Failed("to remove a link changed more")
 
 
 def a_file_where_a_folder_should_be_on_the_way(folder):
@@ -265,24 +255,23 @@ def what_one_device_wrote_new_ones_find(folder):
 
 
 def what_stays_open_changes_no_answer(folder):
-    """A file that was appended to or read is taken away or renamed through the disk, by a link too, or appended to from outside."""
+    """A file that was appended to or read is taken away or renamed through the disk, or appended to from outside."""
     Path(folder, "d").mkdir()
-    Path(folder, "l").symlink_to("d")
     with Device("disk", folder) as disk:
-        disk.expect(*each(("make_file d/a", "append d/a 1", "remove l/a"), "done"), *each(("append d/a 2", "sync_file d/a"), "fault"))
+        disk.expect(*each(("make_file d/a", "append d/a 1", "remove d/a"), "done"), *each(("append d/a 2", "sync_file d/a"), "fault"))
         disk.expect(*each(("make_file d/a", "append d/a 1", "rename d/a d/b", "make_file d/a", "append d/a 2", "append d/b 3"), "done"))
         disk.expect(("read d/a 0 9", "bytes 2"), ("read d/b 0 9", "bytes 13"), ("rename d/a d/b", "done"), ("append d/b 4", "done"))
         disk.expect(("read d/b 0 9", "bytes 24"), *each(("sync_file d/b", "append d/b 5", "remove d/b", "make_file d/b", "append d/b 6"), "done"))
         disk.expect(("read d/b 0 9", "bytes 6"), ("list d", "names b"))
-        disk.expect(*each(("make_file d/a", "append d/a 12", "rename l/a l/c", "make_file d/a"), "done"), ("append d/a 3", "done"))
+        disk.expect(*each(("make_file d/a", "append d/a 12", "rename d/a d/c", "make_file d/a"), "done"), ("append d/a 3", "done"))
         disk.expect(("read d/a 0 9", "bytes 3"), ("read d/c 0 9", "bytes 12"), ("sync_file d/c", "done"), ("sync_file d/a", "done"))
-        disk.expect(("read d/c 0 1", "bytes 1"), ("rename l/a l/c", "done"), ("read d/c 1 9", "bytes "), ("read d/c 0 1", "bytes 3"))
-        disk.expect(("kind d/c", "file 1"), ("remove l/c", "done"), ("read d/c 0 9", "fault"), ("make_dir d/c", "done"), ("read d/c 0 9", "fault"))
+        disk.expect(("read d/c 0 1", "bytes 1"), ("rename d/a d/c", "done"), ("read d/c 1 9", "bytes "), ("read d/c 0 1", "bytes 3"))
+        disk.expect(("kind d/c", "file 1"), ("remove d/c", "done"), ("read d/c 0 9", "fault"), ("make_dir d/c", "done"), ("read d/c 0 9", "fault"))
         disk.expect(("read d/b 0 9", "bytes 6"))
         with open(Path(folder, "d/b"), "a") as other:
             other.write("78")
         disk.expect(("kind d/b", "file 3"), ("read d/b 1 9", "bytes 78"), ("read d/b 3 9", "bytes "), ("read d/b 0 9", "bytes 678"))
-        disk.expect(*each(("make_file d/e", "append d/e 1", "rename l/b l/e", "append d/e 9", "sync_file d/e"), "done"), ("read d/e 0 9", "bytes 6789"))
+        disk.expect(*each(("make_file d/e", "append d/e 1", "rename d/b d/e", "append d/e 9", "sync_file d/e"), "done"), ("read d/e 0 9", "bytes 6789"))
 
 
 def a_file_is_read_piece_after_piece(folder):
@@ -311,15 +300,17 @@ def in_a_folder(call, *given):
 
 
 CALLS = [
-    *(a_link_to_a_folder_is_followed_and_stays, a_link_to_a_file_is_followed_and_moved_itself, a_file_where_a_folder_should_be_on_the_way),
-    *(what_is_missing, a_folder_that_is_not_empty_and_names_that_are_taken, names_that_are_none_are_not_listed),
+    *(a_file_where_a_folder_should_be_on_the_way, what_is_missing, a_folder_that_is_not_empty_and_names_that_are_taken),
+    names_that_are_none_are_not_listed,
     *(names_that_make_no_path_are_not_listed, names_come_in_byte_order, without_permission, roots, what_one_device_wrote_new_ones_find),
     *(what_stays_open_changes_no_answer, a_file_is_read_piece_after_piece),
 ]
 
 
 def scenes(_program):
-    for what, (make, below) in ODD.items():
-        yield f"in a real folder: {what}", lambda make=make, below=below: in_a_folder(odd_entry, make, below)
+    for what, make in ODD.items():
+        yield f"in a real folder: {what}", lambda make=make: in_a_folder(odd_entry, make)
+    for what, given in LINKS.items():
+        yield f"in a real folder: {what}", lambda given=given: in_a_folder(link, *given)
     for call in CALLS:
         yield f"in a real folder: {call.__name__.replace('_', ' ')}", lambda call=call: in_a_folder(call)

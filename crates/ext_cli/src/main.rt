@@ -1,130 +1,128 @@
 //! The program `hostext STORE DEPOT COMMAND ..`: a thin shell over `ext_top::run`.
 //!
 //! It hands the words after DEPOT, the standard streams, and the folders STORE and DEPOT to `run`, ends with the number of
-//! the status, and prints a line on standard error where that is 2 or more. Both folders must exist; `compare` and `layer`
-//! look at neither.
+//! the status, and prints a line on standard error where that is 2 or more; a second line gives the reason, where somebody
+//! reads it. Both folders must exist; `compare` and `layer` look at neither.
+//!
+//! STORE is locked while a command works on it: by one that may change it for itself alone, by one that reads it together with
+//! others.
 #![tactic(auto)]
 
-use ext_folder::{FolderDepot, FolderDisk};
+mod access;
+mod commands;
+mod ending;
+mod escaping;
+mod help;
+mod reasons;
+mod usage;
+
+use access::{Access, WaitingLine};
+use commands::folders_clash;
+use ending::{Ending, report};
+use ext_cmd::{CmdErr, Command, read_words};
+use ext_folder::{FolderDepot, FolderDisk, LockedDisk, ReleasingSink};
 use ext_io::{StdSink, StdSource};
 use ext_text::{OutOfMemory, Text, Words};
 use ext_top::{Status, run};
+use help::{HELP, VERSION};
 use std::process::ExitCode;
 use std::{env, io};
 
-const VERSION: &str = "hostext 0.1.0";
-
-const HELP: &str = "usage: hostext STORE DEPOT COMMAND ..
-
-STORE is a folder that a host is kept in, DEPOT one that files are read from.
-
-commands:
-  init ARCH SCOPE [HIERS [HIERS]]
-                      make the store of a host without entries; HIERS are the
-                      hierarchies of system extensions, then those of
-                      configuration extensions, as /usr:/opt
-  import-fs RES PATH  put the tree RES.tree of the depot, with the files below
-                      RES, in place of what stands at and below the path
-  remove PATH         remove what stands at and below the path
-  sysext list         write what images of system extensions there are, each
-                      with what is said of it
-  sysext status       write which of them are merged
-  sysext merge [--force]
-                      merge those that fit into the hierarchies
-  sysext unmerge      take the view away
-  sysext refresh [--force]
-                      merge anew, in one change
-  confext ..          as sysext, with configuration extensions
-  tree [PATH]         write the tree text of what stands below the path
-  cat PATH            write the bytes of a file
-  check               compare each file of the store with its digest
-  migrate             write the store anew, in the newest form of its text
-  compare TEXT TEXT   write less, equal or greater: the order of two versions
-  layer               read a sequence of tree texts from standard input, the
-                      host first, and write the text of the layered tree
-
-It ends with 0 where the command was done, 1 refused, 2 usage, 3 read fault,
-4 write fault, 5 disk fault, 6 depot fault, 7 out of memory, 8 bad store,
-9 unfinished, 10 input too long.";
-
 fn main(rt: HostRuntime) -> ExitCode {
-    let status = outcome(&rt);
-    report(&rt, &status);
-    ExitCode::from(status.number())
+    let ending = outcome(&rt);
+    report(&rt, &ending);
+    ExitCode::from(ending.status().number())
 }
 
 // How the run ends. An argument that is not UTF-8 is a fault of the command line.
-fn outcome(rt: &HostRuntime) -> Status {
+fn outcome(rt: &HostRuntime) -> Ending {
     match env::args(rt) {
-        Ok(arguments) => match outcome_of(rt, arguments) {
-            Ok(status) => status,
-            Err(OutOfMemory) => Status::OutOfMemory,
+        Ok(arguments) => match ending_of(rt, arguments) {
+            Ok(ending) => ending,
+            Err(OutOfMemory) => Ending::of(Status::OutOfMemory),
         },
-        Err(error) if error.kind() == io::ErrorKind::OutOfMemory => Status::OutOfMemory,
-        Err(_) => Status::Usage { place: 1 },
+        Err(error) if error.kind() == io::ErrorKind::OutOfMemory => Ending::of(Status::OutOfMemory),
+        Err(_) => Ending::of(Status::Usage { place: 1 }),
     }
 }
 
 // How the run of these arguments ends. The first of them is the program's name.
-fn outcome_of(rt: &HostRuntime, arguments: env::Args) -> Result<Status, OutOfMemory> {
+fn ending_of(rt: &HostRuntime, arguments: env::Args) -> Result<Ending, OutOfMemory> {
     let arguments = arguments.collect::<Vec<String>>(rt.alloc())?;
     match arguments.as_slice() {
-        [_program, only] => Ok(lone_option(rt, only.as_str())),
-        [_program, store, depot, command @ ..] => run_command(rt, store, depot, command),
-        _ => Ok(Status::Usage { place: 1 }),
+        [_program, only] => lone_option(rt, only.as_str()),
+        [_program, store, depot, words @ ..] => run_words(rt, store, depot, words),
+        _ => usage::without_command(rt.alloc()),
     }
 }
 
 // What a lone argument asks for.
-fn lone_option(rt: &HostRuntime, argument: &str) -> Status {
+fn lone_option(rt: &HostRuntime, argument: &str) -> Result<Ending, OutOfMemory> {
     let printed = match argument {
         "--help" => rt.println(HELP),
         "--version" => rt.println(VERSION),
-        _ => return Status::Usage { place: 1 },
+        _ => return usage::without_command(rt.alloc()),
     };
     match printed {
-        Ok(()) => Status::Done,
-        Err(_) => Status::WriteFault,
+        Ok(()) => Ok(Ending::of(Status::Done)),
+        Err(_) => Ok(Ending::of(Status::WriteFault)),
     }
 }
 
-// Runs a command over the standard streams and the two folders.
+// Runs the command that the words are, if they are one.
+fn run_words(
+    rt: &HostRuntime,
+    store: &String,
+    depot: &String,
+    words: &[String],
+) -> Result<Ending, OutOfMemory> {
+    let mut texts = Words::new(rt.alloc());
+    for word in words {
+        texts.push(Text::from_bytes(rt.alloc(), word.as_bytes())?)?;
+    }
+    match read_words(rt.alloc(), &texts) {
+        Ok(command) => run_command(rt, store, depot, &command, &texts),
+        Err(CmdErr::OutOfMemory) => Err(OutOfMemory),
+        Err(CmdErr::Usage { place }) => usage::faulty_words(rt.alloc(), words, place),
+    }
+}
+
+// Runs a command, whose words these are, over the standard streams and the two folders.
 fn run_command(
     rt: &HostRuntime,
     store: &String,
     depot: &String,
-    command: &[String],
-) -> Result<Status, OutOfMemory> {
-    let mut words = Words::new(rt.alloc());
-    for word in command {
-        words.push(Text::from_bytes(rt.alloc(), word.as_bytes())?)?;
+    command: &Command,
+    words: &Words,
+) -> Result<Ending, OutOfMemory> {
+    if folders_clash(rt, command, store.as_str(), depot.as_str())? {
+        return usage::clashing_folders(rt.alloc());
     }
+    let access = Access::of(command);
+    let lock = access.lock(rt, store.as_str());
     let mut source = StdSource::new(rt.stdin());
-    let mut sink = StdSink::new(rt.stdout());
-    let mut disk = FolderDisk::new(*rt, Text::from_bytes(rt.alloc(), store.as_bytes())?);
-    let mut depot = FolderDepot::new(*rt, Text::from_bytes(rt.alloc(), depot.as_bytes())?);
-    Ok(run(
+    let mut sink = ReleasingSink::new(StdSink::new(rt.stdout()), access.handle(&lock));
+    let root = Text::from_bytes(rt.alloc(), store.as_bytes())?;
+    let mut disk = LockedDisk::new(
+        FolderDisk::private(*rt, root),
+        lock,
+        WaitingLine { rt: *rt },
+    );
+    let root = Text::from_bytes(rt.alloc(), depot.as_bytes())?;
+    let mut depot = FolderDepot::new(*rt, root);
+    let status = run(
         rt.alloc(),
-        &words,
+        words,
         &mut source,
         &mut sink,
         &mut disk,
         &mut depot,
-    ))
-}
-
-// Prints the line of a status from 2 on. A fault in printing it is ignored: the number tells as much.
-fn report(rt: &HostRuntime, status: &Status) {
-    let _ = match status {
-        Status::Done | Status::Refused(_) => Ok(()),
-        Status::Usage { place } => eprintln!(rt; "hostext: usage {place}"),
-        Status::ReadFault => rt.eprintln("hostext: read fault"),
-        Status::WriteFault => rt.eprintln("hostext: write fault"),
-        Status::DiskFault => rt.eprintln("hostext: disk fault"),
-        Status::DepotFault => rt.eprintln("hostext: depot fault"),
-        Status::OutOfMemory => rt.eprintln("hostext: out of memory"),
-        Status::BadStore(_) => rt.eprintln("hostext: bad store"),
-        Status::Unfinished => rt.eprintln("hostext: unfinished"),
-        Status::TooLong => rt.eprintln("hostext: input too long"),
-    };
+    );
+    reasons::ending_with(
+        rt.alloc(),
+        status,
+        store.as_str(),
+        disk.trouble(),
+        depot.trouble(),
+    )
 }

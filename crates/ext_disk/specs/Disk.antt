@@ -1,6 +1,6 @@
 -- The model of a disk: what stands at each path, which of it a stop may undo, and what a stop may leave. It is this
--- project's own, weaker than what any file system promises: a name is settled by a sync of its folder, bytes by a sync of
--- their file, and a rename in one folder leaves the old or the new file.
+-- project's own: a name is settled by a sync of its folder, bytes by a sync of their file, and a rename in one folder leaves the
+-- old or the new file. ext4, xfs and btrfs promise as much, on a device that keeps what it acknowledged.
 use Rattle.std.specs.Prelude.{◌≡◌, ℕ, Bool, true, false, not, ◌&&◌, ◌||◌, List, [], ◌∷◌, ◌++◌, Option, Some, None, ◌⊎◌}
 use Rattle.std.specs.Option.{is_some}
 

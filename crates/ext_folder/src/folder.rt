@@ -2,19 +2,25 @@ ghost use Rattle.std.specs.Prelude.{◌≡◌, ◌≤◌, length, false, is_ok, 
 ghost use Rattle.ext_text.specs.Causes.{HasCause, Rose};
 ghost use Rattle.ext_folder.specs.Folder.{counted};
 
+use crate::entry::Entry;
 use crate::folder_err::FolderErr;
-use crate::location::{is_location, location};
+use crate::links::Links;
+use crate::location::{folder_location, is_location, location};
 use crate::reader::Reader;
+use crate::trouble::Trouble;
+use crate::ways::Ways;
 use ext_disk::Kind;
 use ext_io::{Failed, next_count};
-use ext_text::{Path, Text};
-use std::fs::{Files, Metadata, OpenFile};
+use ext_lines::grown;
+use ext_text::{Name, OutOfMemory, Path, Text};
+use std::fs::{Files, Metadata};
 use std::io::ErrorKind;
 use std::marker::Model;
 use std::{fs, io};
 
-/// A folder of the system, and how often a call on it failed. Links are followed. A file is opened only where it was found
-/// to be one, since opening a pipe would wait for its other end.
+/// A folder of the system, and how often a call on it failed. The folder itself may be a link to one; what is done with links
+/// below it is chosen where it is made. A file is opened only where it was found to be one, since opening a pipe would wait for
+/// its other end.
 ///
 /// The file that is read stays open until its end was read, or another one is; a read that goes on where the last one ended
 /// asks the system for nothing else.
@@ -22,7 +28,12 @@ use std::{fs, io};
 pub(crate) struct Folder<R: Files> {
     pub(crate) rt: R,
     root: Vec<u8>,
+    links: Links,
     faults: u64,
+    // What went wrong first.
+    trouble: Option<Trouble>,
+    // Where links are refused: the folders that were reached through none.
+    ways: Ways,
     // Where the last call that looked found a file.
     found: Option<String>,
     reader: Option<Reader<R>>,
@@ -37,20 +48,33 @@ impl<R: Files> Model for Folder<R> {
 }
 
 impl<R: Files> Folder<R> {
-    pub(crate) fn new(rt: R, root: Text) -> Folder<R>
+    pub(crate) fn new(rt: R, root: Text, links: Links) -> Folder<R>
         ensures { result ≡ record { root = root; faults = 0 } }
     {
         Folder {
             rt,
             root: root.into_vec(),
+            links,
             faults: 0,
+            trouble: None,
+            ways: Ways::new(),
             found: None,
             reader: None,
         }
     }
 
-    /// What came of a call, which is counted where it was not done.
-    pub(crate) fn settle<T>(&mut self, outcome: Result<T, FolderErr>) -> Result<T, Failed>
+    /// What went wrong first, if anything did.
+    pub(crate) fn trouble(&self) -> Option<&Trouble> {
+        self.trouble.as_ref()
+    }
+
+    /// What came of a call of this name at a path, which is counted where it was not done.
+    pub(crate) fn settle<T>(
+        &mut self,
+        call: &'static str,
+        path: &Path,
+        outcome: Result<T, FolderErr>,
+    ) -> Result<T, Failed>
         ensures counted { self.new ≡ counted self.old (is_ok result) }
         ensures count { self.old.faults ≤ self.new.faults }
         ensures cause { HasCause result self.old.faults self.new.faults }
@@ -58,82 +82,157 @@ impl<R: Files> Folder<R> {
     {
         match outcome {
             Ok(value) => Ok(value),
-            Err(_failed) => {
-                self.count_fault();
+            Err(error) => {
+                self.count_fault(call, Some(path), &error);
                 Err(Failed)
             }
         }
     }
 
-    /// Counts a call that was not done.
-    pub(crate) fn count_fault(&mut self)
+    /// Counts a call of this name that was not done, at a path, or at the folder itself.
+    pub(crate) fn count_fault(&mut self, call: &'static str, path: Option<&Path>, error: &FolderErr)
         ensures counted { self.new ≡ counted self.old false }
         ensures count { self.old.faults ≤ self.new.faults }
         ensures cause { Rose self.old.faults self.new.faults }
     {
+        if self.trouble.is_none() {
+            self.trouble = self.trouble_of(call, path, error).ok();
+        }
         self.faults = next_count(self.faults);
     }
 
-    /// The system's path of what stands at a path.
-    pub(crate) fn location(&self, path: &Path) -> Result<String, FolderErr> {
-        location(&self.root, path)
+    fn trouble_of(
+        &self,
+        call: &'static str,
+        path: Option<&Path>,
+        error: &FolderErr,
+    ) -> Result<Trouble, FolderErr> {
+        let alloc = *self.root.allocator();
+        let location = match path {
+            Some(path) => location(&self.root, path)?,
+            None => folder_location(&self.root)?,
+        };
+        Ok(Trouble::new(alloc, call, location, error)?)
+    }
+
+    /// The system's path of what stands at a path. Where links are refused, it is a fault that one stands on the way.
+    pub(crate) fn location(&mut self, path: &Path) -> Result<String, FolderErr>
+        ensures { self.new ≡ self.old }
+    {
+        let location = location(&self.root, path)?;
+        if let (Links::Refused, Some((_last, folders))) = (self.links, path.names().split_last()) {
+            self.need_way(location.as_str(), folders)?;
+        }
+        Ok(location)
     }
 
     /// The same, where the path is not the root, which is neither made, renamed nor removed.
-    pub(crate) fn location_below_root(&self, path: &Path) -> Result<String, FolderErr> {
+    pub(crate) fn location_below_root(&mut self, path: &Path) -> Result<String, FolderErr>
+        ensures { self.new ≡ self.old }
+    {
         if path.names().is_empty() {
-            return Err(FolderErr::Failed);
+            return Err(FolderErr::IsRoot);
         }
         self.location(path)
     }
 
-    /// What stands at a location: a folder, a file, or nothing. Anything else is a fault, also a link that leads nowhere.
-    pub(crate) fn kind(&self, location: &str) -> Result<Option<Kind>, FolderErr> {
-        match found(&self.rt, location)? {
-            None => Ok(None),
-            Some(entry) if entry.is_dir() => Ok(Some(Kind::Dir)),
-            Some(entry) if entry.is_file() => Ok(Some(Kind::File(entry.len()))),
-            Some(_other) => Err(FolderErr::Failed),
+    // That a link stands on the way to a location through these folders is a fault.
+    fn need_way(&mut self, location: &str, folders: &[Name]) -> Result<(), FolderErr>
+        ensures { self.new ≡ self.old }
+    {
+        let whole = match location.rsplit_once('/') {
+            Some((whole, _last)) => whole,
+            None => location,
+        };
+        if !folders.is_empty() && !self.ways.has(whole) && self.are_folders(location, folders)? {
+            self.keep_way(whole)?;
+        }
+        Ok(())
+    }
+
+    fn keep_way(&mut self, folder: &str) -> Result<(), OutOfMemory>
+        ensures { self.new ≡ self.old }
+    {
+        let folder = grown(String::from_str(*self.root.allocator(), folder))?;
+        self.ways.keep(folder);
+        Ok(())
+    }
+
+    // Whether each of the names at the beginning of a location below the root is that of a folder; a link is a fault.
+    fn are_folders(&self, location: &str, names: &[Name]) -> Result<bool, FolderErr> {
+        let mut end = self.root.len();
+        for name in names {
+            end = end.saturating_add(name.bytes().len()).saturating_add(1);
+            let folder = location.get(..end).unwrap_or(location);
+            if self.entry(folder)?.need_no_link()? != Entry::Folder {
+                return Ok(false);
+            }
+        }
+        Ok(true)
+    }
+
+    /// What stands at a location, to which no link that is refused leads.
+    pub(crate) fn entry(&self, location: &str) -> Result<Entry, FolderErr> {
+        let outcome = self.metadata(location);
+        match outcome {
+            Ok(entry) => Ok(Entry::of(&entry)),
+            Err(error) if is_missing(&error) => self.need_nothing(location),
+            Err(error) => Err(error.into()),
+        }
+    }
+
+    // Nothing. A link that leads nowhere is an entry.
+    fn need_nothing(&self, location: &str) -> Result<Entry, FolderErr> {
+        match fs::symlink_metadata(&self.rt, location) {
+            Err(error) if is_missing(&error) => Ok(Entry::Nothing),
+            Err(error) => Err(error.into()),
+            Ok(_link) => Err(FolderErr::Missing),
+        }
+    }
+
+    fn metadata(&self, location: &str) -> io::Result<Metadata> {
+        if self.links == Links::Followed || location.as_bytes() == self.root.as_slice() {
+            fs::metadata(&self.rt, location)
+        } else {
+            fs::symlink_metadata(&self.rt, location)
         }
     }
 
     /// What the system tells of the file at a location. That no file stands there is a fault.
     pub(crate) fn file(&self, location: &str) -> Result<Metadata, FolderErr> {
-        let entry = fs::metadata(&self.rt, location)?;
-        if entry.is_file() {
-            Ok(entry)
-        } else {
-            Err(FolderErr::Failed)
-        }
+        let entry = self.metadata(location)?;
+        Entry::of(&entry).need_file()?;
+        Ok(entry)
     }
 
     /// That no folder stands at a location is a fault.
     pub(crate) fn need_folder(&self, location: &str) -> Result<(), FolderErr> {
-        match self.kind(location)? {
-            Some(Kind::Dir) => Ok(()),
-            _ => Err(FolderErr::Failed),
+        match self.entry(location)?.need_no_link()? {
+            Entry::Folder => Ok(()),
+            _ => Err(FolderErr::NotFolder),
         }
     }
 
-    /// That a folder stands at a location is a fault.
-    pub(crate) fn need_no_folder(&self, location: &str) -> Result<(), FolderErr> {
-        match self.kind(location)? {
-            Some(Kind::Dir) => Err(FolderErr::Failed),
+    /// That a folder or a link stands at a location is a fault: a file can't be put there.
+    pub(crate) fn need_room_for_file(&self, location: &str) -> Result<(), FolderErr> {
+        match self.entry(location)?.need_no_link()? {
+            Entry::Folder => Err(FolderErr::IsFolder),
+            Entry::Other => Err(FolderErr::IsOther),
             _ => Ok(()),
         }
     }
 
-    /// What stands at a path, as at its location.
+    /// What stands at a path.
     pub(crate) fn look(&mut self, path: &Path) -> Result<Option<Kind>, FolderErr>
         ensures { self.new ≡ self.old }
     {
         let location = self.location(path)?;
-        let kind = self.kind(location.as_str())?;
-        self.found = match kind {
-            Some(Kind::File(_size)) => Some(location),
-            Some(Kind::Dir) | None => None,
+        let entry = self.entry(location.as_str())?;
+        self.found = match entry {
+            Entry::File(_size) => Some(location),
+            _ => None,
         };
-        Ok(kind)
+        entry.kind()
     }
 
     /// Whether a location is that of a path.
@@ -166,11 +265,13 @@ impl<R: Files> Folder<R> {
     // The file at a path, open at its byte `at`; `None` where it ends before. At its first byte it is taken from where the last
     // look found it, which saves a look.
     fn opened(
-        &self,
+        &mut self,
         path: &Path,
         at: u64,
         found: Option<String>,
-    ) -> Result<Option<Reader<R>>, FolderErr> {
+    ) -> Result<Option<Reader<R>>, FolderErr>
+        ensures { self.new ≡ self.old }
+    {
         match found {
             Some(found) if at == 0 && self.is_location(found.as_str(), path) => {
                 Ok(Some(Reader::open(&self.rt, found, at)?))
@@ -191,29 +292,6 @@ impl<R: Files> Folder<R> {
     {
         self.found = None;
         self.reader = None;
-    }
-
-    /// Waits until what was written to the entry at a location is on the disk: a file's bytes and length, a folder's names.
-    pub(crate) fn sync(&self, location: &str) -> Result<(), FolderErr> {
-        fs::open(&self.rt, location)?.sync_all()?;
-        Ok(())
-    }
-}
-
-// What stands at a location once links are followed, and nothing exactly where no entry does.
-fn found<R: Files>(rt: &R, location: &str) -> Result<Option<Metadata>, FolderErr> {
-    match fs::metadata(rt, location) {
-        Ok(entry) => Ok(Some(entry)),
-        Err(error) if is_missing(&error) => need_nothing(rt, location),
-        Err(error) => Err(error.into()),
-    }
-}
-
-// Nothing. A link that leads nowhere is an entry.
-fn need_nothing<R: Files>(rt: &R, location: &str) -> Result<Option<Metadata>, FolderErr> {
-    match fs::symlink_metadata(rt, location) {
-        Err(error) if is_missing(&error) => Ok(None),
-        _ => Err(FolderErr::Failed),
     }
 }
 

@@ -5,6 +5,8 @@ ghost use Rattle.ext_folder.specs.Folder.{counted};
 
 use crate::folder::Folder;
 use crate::folder_err::FolderErr;
+use crate::links::Links;
+use crate::trouble::Trouble;
 use ext_depot::Depot;
 use ext_disk::Kind;
 use ext_io::Failed;
@@ -38,8 +40,13 @@ impl<R: Files> FolderDepot<R> {
         ensures { result ≡ record { root = root; faults = 0 } }
     {
         FolderDepot {
-            folder: Folder::new(rt, root),
+            folder: Folder::new(rt, root, Links::Followed),
         }
+    }
+
+    /// What went wrong first, if anything did.
+    pub fn trouble(&self) -> Option<&Trouble> {
+        self.folder.trouble()
     }
 
     // The size of the file at the path, if one stands there.
@@ -66,7 +73,7 @@ impl<R: Files> Depot for FolderDepot<R> {
         ensures exact { self.new ≡ counted self.old (is_ok result) }
     {
         let size = self.file_size(path);
-        self.folder.settle(size)
+        self.folder.settle("look at", path, size)
     }
 
     /// Beside what each depot promises: exactly the calls that fail are counted.
@@ -79,6 +86,6 @@ impl<R: Files> Depot for FolderDepot<R> {
         ensures exact { self.new ≡ counted self.old (is_ok result) }
     {
         let count = self.folder.read(path, at, buf);
-        self.folder.settle(count)
+        self.folder.settle("read", path, count)
     }
 }

@@ -1,25 +1,32 @@
-ghost use Rattle.std.specs.Prelude.{◌≡◌, ◌≤◌, length, is_ok, IfOk, IfErr};
-ghost use Rattle.ext_text.specs.Causes.{HasCause};
+ghost use Rattle.std.specs.Prelude.{◌≡◌, ◌≤◌, length, false, is_ok, IfOk, IfErr};
+ghost use Rattle.ext_text.specs.Causes.{HasCause, Rose};
 ghost use Rattle.ext_disk.specs.Calls.{look, make_dir, make_file, append, sync_file, sync_dir, rename, remove, MayCall, Does};
 ghost use Rattle.ext_disk.specs.Lookups.{MayList, MayRead, Lists, ListCause, IsKindAt, IsReadOf};
 ghost use Rattle.ext_folder.specs.Folder.{counted, CountsListing};
 
 use crate::folder::Folder;
 use crate::folder_err::FolderErr;
+use crate::links::Links;
+use crate::modes::Modes;
+use crate::trouble::Trouble;
 use crate::writer::Writer;
 use ext_disk::{Disk, Kind, ListErr};
 use ext_io::Failed;
 use ext_text::{Names, Path, Text};
 use std::alloc::Global;
-use std::fs;
-use std::fs::Files;
+use std::fs::{Files, OpenFile};
 use std::marker::Model;
+use std::{fs, io};
 
 /// A folder of the system as a disk, which has what stands in it and below it. It tells nothing of that.
 ///
-/// Links are followed, but `rename` and `remove` act on the entry itself; a link to a folder is a fault there. An entry
-/// that is neither a file nor a folder is a fault everywhere, and so is a link that leads nowhere. Everything that the
-/// system refuses is one, and so is a failed allocation, but in `list`.
+/// The folder itself may be a link to one. A link below it is a file of its text's length, which `kind` tells, `list` names and
+/// `remove` takes away; every other call at it, or through it, is a fault that touches nothing behind it. An entry that is
+/// neither a file nor a folder is a fault everywhere. Everything that the system refuses is one, and so is a failed
+/// allocation, but in `list`.
+///
+/// A system may tell once alone that it could not write something back, so a sync that failed is remembered: every later sync,
+/// rename and removal fails.
 ///
 /// The file that was made or appended to last stays open until it is synced, or until another one is made or appended to;
 /// and the file that is read, until its end was read or another one is. Where something was renamed or removed meanwhile, a
@@ -28,6 +35,9 @@ use std::marker::Model;
 #[derive(Drop)]
 pub struct FolderDisk<R: Files> {
     folder: Folder<R>,
+    modes: Modes,
+    // Whether a sync failed.
+    unsynced: bool,
     last: Option<Writer<R>>,
 }
 
@@ -40,19 +50,54 @@ impl<R: Files> Model for FolderDisk<R> {
 }
 
 impl<R: Files> FolderDisk<R> {
-    /// The disk in the folder at this path of the system. An empty path names no folder.
+    /// The disk in the folder at this path of the system. What it makes has the usual modes, which the process's umask cuts. An
+    /// empty path names no folder.
     pub fn new(rt: R, root: Text) -> FolderDisk<R>
         ensures { result ≡ record { root = root; faults = 0 } }
     {
+        FolderDisk::with(rt, root, Modes::Usual)
+    }
+
+    /// The same, and what it makes is its owner's alone: files of mode 600 and folders of mode 700, whatever the umask allows
+    /// to others.
+    pub fn private(rt: R, root: Text) -> FolderDisk<R>
+        ensures { result ≡ record { root = root; faults = 0 } }
+    {
+        FolderDisk::with(rt, root, Modes::Private)
+    }
+
+    fn with(rt: R, root: Text, modes: Modes) -> FolderDisk<R>
+        ensures { result ≡ record { root = root; faults = 0 } }
+    {
         FolderDisk {
-            folder: Folder::new(rt, root),
+            folder: Folder::new(rt, root, Links::Refused),
+            modes,
+            unsynced: false,
             last: None,
         }
     }
 
-    fn try_make_dir(&self, path: &Path) -> Result<(), FolderErr> {
+    /// What went wrong first, if anything did.
+    pub fn trouble(&self) -> Option<&Trouble> {
+        self.folder.trouble()
+    }
+
+    /// Counts a call that was refused before it came to the folder.
+    pub(crate) fn refuse(&mut self, call: &'static str, error: &FolderErr) -> Failed
+        ensures counted { self.new ≡ counted self.old false }
+        ensures count { self.old.faults ≤ self.new.faults }
+        ensures cause { Rose self.old.faults self.new.faults }
+    {
+        self.folder.count_fault(call, None, error);
+        Failed
+    }
+
+    fn try_make_dir(&mut self, path: &Path) -> Result<(), FolderErr>
+        ensures { self.new ≡ self.old }
+    {
         let location = self.folder.location_below_root(path)?;
-        fs::create_dir(&self.folder.rt, location.as_str())?;
+        let how = self.modes.of_folder();
+        how.create(&self.folder.rt, location.as_str())?;
         Ok(())
     }
 
@@ -60,7 +105,7 @@ impl<R: Files> FolderDisk<R> {
         ensures { self.new ≡ self.old }
     {
         let location = self.folder.location_below_root(path)?;
-        self.last = Some(Writer::make(&self.folder.rt, location)?);
+        self.last = Some(Writer::make(&self.folder.rt, location, self.modes)?);
         Ok(())
     }
 
@@ -91,14 +136,40 @@ impl<R: Files> FolderDisk<R> {
     fn try_sync_file(&mut self, path: &Path) -> Result<(), FolderErr>
         ensures { self.new ≡ self.old }
     {
+        self.need_synced()?;
         match self.take_last(path)? {
-            Some(last) => last.sync(),
+            Some(last) => self.note_sync(last.sync()),
             None => {
                 let location = self.folder.location(path)?;
                 self.folder.file(location.as_str())?;
-                self.folder.sync(location.as_str())
+                self.sync_at(location.as_str())
             }
         }
+    }
+
+    // That a sync failed before is a fault.
+    fn need_synced(&self) -> Result<(), FolderErr> {
+        if self.unsynced {
+            return Err(FolderErr::Unsynced);
+        }
+        Ok(())
+    }
+
+    // Waits until what was written to the entry at a location is on the disk: a file's bytes and length, a folder's names.
+    fn sync_at(&mut self, location: &str) -> Result<(), FolderErr>
+        ensures { self.new ≡ self.old }
+    {
+        let entry = fs::open(&self.folder.rt, location)?;
+        self.note_sync(entry.sync_all())
+    }
+
+    // What came of a sync. That it failed is remembered.
+    fn note_sync(&mut self, outcome: io::Result<()>) -> Result<(), FolderErr>
+        ensures { self.new ≡ self.old }
+    {
+        self.unsynced = self.unsynced || outcome.is_err();
+        outcome?;
+        Ok(())
     }
 
     // The file that stayed open, where the path leads to it. Another one stays open.
@@ -124,19 +195,23 @@ impl<R: Files> FolderDisk<R> {
     }
 
     // A file can be opened and synced as well, so a folder has to be found first.
-    fn try_sync_dir(&self, dir: &Path) -> Result<(), FolderErr> {
+    fn try_sync_dir(&mut self, dir: &Path) -> Result<(), FolderErr>
+        ensures { self.new ≡ self.old }
+    {
+        self.need_synced()?;
         let location = self.folder.location(dir)?;
         self.folder.need_folder(location.as_str())?;
-        self.folder.sync(location.as_str())
+        self.sync_at(location.as_str())
     }
 
     fn try_rename(&mut self, from: &Path, to: &Path) -> Result<(), FolderErr>
         ensures { self.new ≡ self.old }
     {
+        self.need_synced()?;
         let from = self.folder.location_below_root(from)?;
         let to = self.folder.location_below_root(to)?;
         self.folder.file(from.as_str())?;
-        self.folder.need_no_folder(to.as_str())?;
+        self.folder.need_room_for_file(to.as_str())?;
         self.may_lead_elsewhere();
         fs::rename(&self.folder.rt, from.as_str(), to.as_str())?;
         self.close_at(from.as_str());
@@ -147,18 +222,19 @@ impl<R: Files> FolderDisk<R> {
     fn try_remove(&mut self, path: &Path) -> Result<(), FolderErr>
         ensures { self.new ≡ self.old }
     {
+        self.need_synced()?;
         let location = self.folder.location_below_root(path)?;
         self.may_lead_elsewhere();
-        match self.folder.kind(location.as_str())? {
+        match self.folder.entry(location.as_str())?.kind()? {
             Some(Kind::Dir) => fs::remove_dir(&self.folder.rt, location.as_str())?,
             Some(Kind::File(_size)) => fs::remove_file(&self.folder.rt, location.as_str())?,
-            None => return Err(FolderErr::Failed),
+            None => return Err(FolderErr::Missing),
         }
         self.close_at(location.as_str());
         Ok(())
     }
 
-    // Something is to be renamed or removed, so any path may lead elsewhere afterwards, by links too.
+    // Something is to be renamed or removed, so any path may lead elsewhere afterwards.
     fn may_lead_elsewhere(&mut self)
         ensures { self.new ≡ self.old }
     {
@@ -198,8 +274,8 @@ impl<R: Files> Disk for FolderDisk<R> {
         match self.folder.list(alloc, dir) {
             Ok(names) => Ok(names),
             Err(FolderErr::OutOfMemory) => Err(ListErr::OutOfMemory),
-            Err(FolderErr::Failed) => {
-                self.folder.count_fault();
+            Err(error) => {
+                self.folder.count_fault("list", Some(dir), &error);
                 Err(ListErr::Failed)
             }
         }
@@ -213,7 +289,7 @@ impl<R: Files> Disk for FolderDisk<R> {
         ensures exact { self.new ≡ counted self.old (is_ok result) }
     {
         let kind = self.folder.look(path);
-        self.folder.settle(kind)
+        self.folder.settle("look at", path, kind)
     }
 
     /// Beside what each disk promises: exactly the calls that fail are counted.
@@ -226,7 +302,7 @@ impl<R: Files> Disk for FolderDisk<R> {
         ensures exact { self.new ≡ counted self.old (is_ok result) }
     {
         let count = self.folder.read(path, at, buf);
-        self.folder.settle(count)
+        self.folder.settle("read", path, count)
     }
 
     /// Beside what each disk promises: exactly the calls that fail are counted.
@@ -237,7 +313,7 @@ impl<R: Files> Disk for FolderDisk<R> {
         ensures exact { self.new ≡ counted self.old (is_ok result) }
     {
         let outcome = self.try_make_dir(path);
-        self.folder.settle(outcome)
+        self.folder.settle("make", path, outcome)
     }
 
     /// Beside what each disk promises: exactly the calls that fail are counted.
@@ -248,7 +324,7 @@ impl<R: Files> Disk for FolderDisk<R> {
         ensures exact { self.new ≡ counted self.old (is_ok result) }
     {
         let outcome = self.try_make_file(path);
-        self.folder.settle(outcome)
+        self.folder.settle("make", path, outcome)
     }
 
     /// Beside what each disk promises: exactly the calls that fail are counted.
@@ -259,7 +335,7 @@ impl<R: Files> Disk for FolderDisk<R> {
         ensures exact { self.new ≡ counted self.old (is_ok result) }
     {
         let outcome = self.try_append(path, bytes);
-        self.folder.settle(outcome)
+        self.folder.settle("write", path, outcome)
     }
 
     /// Beside what each disk promises: exactly the calls that fail are counted.
@@ -270,7 +346,7 @@ impl<R: Files> Disk for FolderDisk<R> {
         ensures exact { self.new ≡ counted self.old (is_ok result) }
     {
         let outcome = self.try_sync_file(path);
-        self.folder.settle(outcome)
+        self.folder.settle("sync", path, outcome)
     }
 
     /// Beside what each disk promises: exactly the calls that fail are counted.
@@ -281,7 +357,7 @@ impl<R: Files> Disk for FolderDisk<R> {
         ensures exact { self.new ≡ counted self.old (is_ok result) }
     {
         let outcome = self.try_sync_dir(dir);
-        self.folder.settle(outcome)
+        self.folder.settle("sync", dir, outcome)
     }
 
     /// Beside what each disk promises: exactly the calls that fail are counted.
@@ -292,7 +368,7 @@ impl<R: Files> Disk for FolderDisk<R> {
         ensures exact { self.new ≡ counted self.old (is_ok result) }
     {
         let outcome = self.try_rename(from, to);
-        self.folder.settle(outcome)
+        self.folder.settle("rename", from, outcome)
     }
 
     /// Beside what each disk promises: exactly the calls that fail are counted.
@@ -303,6 +379,6 @@ impl<R: Files> Disk for FolderDisk<R> {
         ensures exact { self.new ≡ counted self.old (is_ok result) }
     {
         let outcome = self.try_remove(path);
-        self.folder.settle(outcome)
+        self.folder.settle("remove", path, outcome)
     }
 }

@@ -1,5 +1,5 @@
 // The names in a real folder.
-ghost use Rattle.std.specs.Prelude.{◌∷◌, ◌++◌, [], IfOk, OnOk};
+ghost use Rattle.std.specs.Prelude.{◌≡◌, ◌∷◌, ◌++◌, [], IfOk, OnOk};
 ghost use Rattle.std.specs.List.{AllByRecursion};
 ghost use Rattle.std.specs.List.Sorted.{IsStrictlySortedBy};
 ghost use Rattle.ext_text.specs.Name.{bytes_cmp};
@@ -7,7 +7,7 @@ ghost use Rattle.ext_text.specs.Path.{IsPath};
 
 use crate::folder::Folder;
 use crate::folder_err::FolderErr;
-use ext_io::read_again;
+use crate::noted::read_some;
 use ext_lines::grown;
 use ext_text::{Name, NameErr, Names, Path, PathErr};
 use std::alloc::Global;
@@ -22,16 +22,19 @@ impl<R: Files> Folder<R> {
     /// The names in a folder, in byte order.
     ///
     /// # Errors
-    /// `Failed` where no folder stands there, the system refused, or a listed name is no name or makes no path with the
-    /// folder; `OutOfMemory`.
-    pub(crate) fn list(&self, alloc: Global, dir: &Path) -> Result<Names, FolderErr>
+    /// No folder stands there, the system refused, or a listed name is no name or makes no path with the folder; and
+    /// `OutOfMemory`.
+    pub(crate) fn list(&mut self, alloc: Global, dir: &Path) -> Result<Names, FolderErr>
+        ensures same { self.new ≡ self.old }
         ensures sorted { IfOk result (IsStrictlySortedBy bytes_cmp) }
         ensures paths { IfOk result (AllByRecursion (λ n. IsPath (dir.now ++ n ∷ []))) }
     {
         let mut location = self.location(dir)?;
         self.need_folder(location.as_str())?;
-        // Only with a slash is a link to a folder followed.
-        grown(location.push('/'))?;
+        if dir.names().is_empty() {
+            // Only with a slash is a link to a folder followed, as the root may be.
+            grown(location.push('/'))?;
+        }
         let mut listed = self.rt.open_dir(location.as_str())?;
         in_order(alloc, dir, names_of(alloc, &mut listed)?)
     }
@@ -43,13 +46,13 @@ fn names_of<D: Read>(alloc: Global, listed: &mut D) -> Result<BTreeSet<Name>, Fo
     let mut names = BTreeSet::new(alloc);
     let mut piece = grown(vec![in alloc; 0u8; PIECE])?;
     'pieces: for _ in 0..u64::MAX {
-        let count = read_again(listed, &mut piece)?;
+        let count = read_some(listed, &mut piece)?;
         if count == 0 {
             return Ok(names);
         }
         add_names(alloc, &mut names, &piece[..count])?;
     }
-    Err(FolderErr::Failed)
+    Err(FolderErr::Stuck)
 }
 
 // Adds the names of a piece of a listing, each of which ends with a byte 0. No piece ends inside a name.
@@ -71,7 +74,7 @@ fn read_name(alloc: Global, bytes: &[u8]) -> Result<Name, FolderErr> {
     match Name::read(alloc, bytes) {
         Ok(name) => Ok(name),
         Err(NameErr::OutOfMemory) => Err(FolderErr::OutOfMemory),
-        Err(NameErr::BadName) => Err(FolderErr::Failed),
+        Err(NameErr::BadName) => Err(FolderErr::BadName),
     }
 }
 
@@ -95,6 +98,6 @@ fn need_path(dir: &Path, name: &Name) -> Result<(), FolderErr>
     match dir.child(name) {
         Ok(_path) => Ok(()),
         Err(PathErr::OutOfMemory) => Err(FolderErr::OutOfMemory),
-        Err(_) => Err(FolderErr::Failed),
+        Err(_) => Err(FolderErr::BadName),
     }
 }

@@ -1,4 +1,5 @@
 use crate::folder_err::FolderErr;
+use ext_lines::grown;
 use ext_text::{Name, OutOfMemory, Path};
 
 // How many bytes most paths have at most, with the slash before them.
@@ -8,11 +9,23 @@ const USUAL_BYTES: usize = 64;
 /// below it: the system finds nothing at the empty path.
 ///
 /// # Errors
-/// `Failed` where the root is no UTF-8, and `OutOfMemory`.
+/// `NotUtf8` and `OutOfMemory`.
 pub(crate) fn location(root: &Vec<u8>, path: &Path) -> Result<String, FolderErr> {
-    match String::from_utf8(joined(root, path)?) {
+    text_of(joined(root, path)?)
+}
+
+/// The system's path of the root itself.
+///
+/// # Errors
+/// As of `location`.
+pub(crate) fn folder_location(root: &Vec<u8>) -> Result<String, FolderErr> {
+    text_of(grown(root.clone())?)
+}
+
+fn text_of(bytes: Vec<u8>) -> Result<String, FolderErr> {
+    match String::from_utf8(bytes) {
         Ok(location) => Ok(location),
-        Err(_not_text) => Err(FolderErr::Failed),
+        Err(_not_text) => Err(FolderErr::NotUtf8),
     }
 }
 

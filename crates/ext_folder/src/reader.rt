@@ -1,7 +1,7 @@
 ghost use Rattle.std.specs.Prelude.{◌≤◌, length, IfOk};
 
 use crate::folder_err::FolderErr;
-use ext_io::read_again;
+use crate::noted::read_some;
 use std::fs;
 use std::fs::Files;
 use std::io::{Seek, SeekFrom};
@@ -44,7 +44,7 @@ impl<R: Files> Reader<R> {
     pub(crate) fn read(&mut self, buf: &mut [u8]) -> Result<usize, FolderErr>
         ensures { IfOk result (λ count. count ≤ length buf.new) }
     {
-        let count = read_again(&mut self.file, buf)?;
+        let count = read_some(&mut self.file, buf)?;
         self.at = self.at.saturating_add(count as u64);
         Ok(count)
     }

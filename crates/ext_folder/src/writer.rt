@@ -1,7 +1,9 @@
 use crate::folder_err::FolderErr;
 use crate::location::is_at_or_below;
-use ext_io::{StdSink, write_all};
+use crate::modes::Modes;
+use crate::noted::write_whole;
 use std::fs::{Files, Metadata, OpenFile, OpenOptions};
+use std::io;
 use std::os::unix::fs::MetadataExt;
 
 /// A file that is open for writing at its end, and the location at which it was opened.
@@ -22,20 +24,22 @@ impl<R: Files> Writer<R> {
     /// # Errors
     /// The system refused.
     pub(crate) fn open(rt: &R, location: String) -> Result<Writer<R>, FolderErr> {
-        Writer::with(rt, location, false)
+        let mut how = OpenOptions::new();
+        how.append(true);
+        Writer::with(rt, location, &how)
     }
 
     /// A new file, at a location where nothing stands.
     ///
     /// # Errors
     /// The system refused, and so it does where anything stands there, a link too.
-    pub(crate) fn make(rt: &R, location: String) -> Result<Writer<R>, FolderErr> {
-        Writer::with(rt, location, true)
+    pub(crate) fn make(rt: &R, location: String, modes: Modes) -> Result<Writer<R>, FolderErr> {
+        let mut how = modes.of_file();
+        how.append(true).create_new(true);
+        Writer::with(rt, location, &how)
     }
 
-    fn with(rt: &R, location: String, is_new: bool) -> Result<Writer<R>, FolderErr> {
-        let mut how = OpenOptions::new();
-        how.append(true).create_new(is_new);
+    fn with(rt: &R, location: String, how: &OpenOptions) -> Result<Writer<R>, FolderErr> {
         let file = how.open(rt, location.as_str())?;
         Ok(Writer {
             location,
@@ -81,16 +85,14 @@ impl<R: Files> Writer<R> {
     /// # Errors
     /// The system refused, was interrupted too often or took nothing. Some of the bytes may have been written.
     pub(crate) fn append(&mut self, bytes: &[u8]) -> Result<(), FolderErr> {
-        write_all(&mut StdSink::new(&mut self.file), bytes)?;
-        Ok(())
+        write_whole(&mut self.file, bytes)
     }
 
     /// Waits until the file's bytes and its length are on the disk, and closes it.
     ///
     /// # Errors
     /// The system refused, or could not write something back.
-    pub(crate) fn sync(self) -> Result<(), FolderErr> {
-        self.file.sync_all()?;
-        Ok(())
+    pub(crate) fn sync(self) -> io::Result<()> {
+        self.file.sync_all()
     }
 }

@@ -13,4 +13,5 @@ pub mod AloneLemmas
 pub mod RunsLemmas
 pub mod RunsWorkLemmas
 pub mod CompletingLemmas
+pub mod ChangingLemmas
 pub mod SeenLemmas

@@ -8,4 +8,5 @@ pub mod Lines
 pub mod Alone
 pub mod Running
 pub mod Completing
+pub mod Changing
 pub mod Laws

@@ -1,6 +1,7 @@
 // The top call.
 ghost use Rattle.ext_cmd.specs.Words.{IsWellFormed};
 ghost use Rattle.ext_step.specs.Step.{is_of_store};
+ghost use Rattle.ext_top.specs.Changing.{StaysUnlessChanging};
 ghost use Rattle.ext_top.specs.Completing.{Completes};
 ghost use Rattle.ext_top.specs.Running.{CountsOn, Runs, RunsKind, devices};
 
@@ -22,8 +23,9 @@ use std::alloc::Global;
 /// stands for then, and after a stop at any moment; a fault is told only where that count rose.
 ///
 /// Whatever the store is, a command makes, removes and appends what the host that it wants asks for and nothing else, and
-/// nothing at all where it wants no other host; and where it was done or refused, no file that it showed or checked was another
-/// than listed, and no change met more left-overs than one command removes.
+/// nothing at all where it wants no other host, as a command never does that `may_change` is false of; and where it was done or
+/// refused, no file that it showed or checked was another than listed, and no change met more left-overs than one command
+/// removes.
 ///
 /// Where no count rose, a source that is read tells its bytes and is within its limit, and a store that is looked at is
 /// sound and has no more left-overs than one command removes, it ends with `Done`, `Refused` or `OutOfMemory`.
@@ -41,6 +43,9 @@ pub fn run<S: Source, K: Sink, D: Disk, P: Depot>(
     ensures complete { Completes words.now
         (devices (S.state source.old) (K.state sink.old) (D.state disk.old) (P.state depot.old))
         (devices (S.state source.new) (K.state sink.new) (D.state disk.new) (P.state depot.new)) result }
+    ensures reading { StaysUnlessChanging words.now
+        (devices (S.state source.old) (K.state sink.old) (D.state disk.old) (P.state depot.old))
+        (devices (S.state source.new) (K.state sink.new) (D.state disk.new) (P.state depot.new)) }
     ensures counts { CountsOn
         (devices (S.state source.old) (K.state sink.old) (D.state disk.old) (P.state depot.old))
         (devices (S.state source.new) (K.state sink.new) (D.state disk.new) (P.state depot.new)) }

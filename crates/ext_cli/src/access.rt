@@ -1,0 +1,77 @@
+use ext_cmd::Command;
+use ext_folder::{FolderLock, Hold, Notice};
+use ext_top::may_change;
+use std::env;
+use std::fs::File;
+
+/// How a command works on its store folder.
+#[derive(Clone, Copy, Debug, PartialEq, Eq)]
+pub(crate) enum Access {
+    /// It doesn't look at it.
+    None,
+    /// It reads it, and looks at it no more once it writes.
+    Reads,
+    /// It reads it while it writes.
+    Shows,
+    /// It may change it.
+    Changes,
+}
+
+impl Access {
+    /// That of a command.
+    pub(crate) fn of(command: &Command) -> Access {
+        match command {
+            Command::Compare(_, _) | Command::Layer => Access::None,
+            Command::Cat { .. } => Access::Shows,
+            _ if may_change(command) => Access::Changes,
+            _ => Access::Reads,
+        }
+    }
+
+    /// The lock that it wants on the folder; none where the environment asks for none.
+    pub(crate) fn lock(self, rt: &HostRuntime, store: &str) -> FolderLock {
+        match self.hold() {
+            Some(hold) if !has(rt, "HOSTEXT_LOCK", "no") => FolderLock::of(rt, store, hold),
+            _ => FolderLock::unwanted(),
+        }
+    }
+
+    fn hold(self) -> Option<Hold> {
+        match self {
+            Access::None => None,
+            Access::Reads | Access::Shows => Some(Hold::Shared),
+            Access::Changes => Some(Hold::Alone),
+        }
+    }
+
+    /// The handle by which the lock is given back at the first byte that is written; none where it is held to the end.
+    pub(crate) fn handle(self, lock: &FolderLock) -> Option<File> {
+        match self {
+            Access::Reads => lock.handle(),
+            Access::None | Access::Shows | Access::Changes => None,
+        }
+    }
+}
+
+/// Whether a variable of the environment has this value.
+pub(crate) fn has(rt: &HostRuntime, variable: &str, value: &str) -> bool {
+    match env::var(rt, variable) {
+        Ok(found) => found.as_str() == value,
+        Err(_none) => false,
+    }
+}
+
+/// Tells on standard error that the lock is waited for.
+#[derive(Drop)]
+pub(crate) struct WaitingLine {
+    pub(crate) rt: HostRuntime,
+}
+
+impl Notice for WaitingLine {
+    // A fault in printing it is ignored: it waits all the same.
+    fn waiting(&mut self) {
+        let _ = self
+            .rt
+            .eprintln("hostext: waiting for another command on this store");
+    }
+}

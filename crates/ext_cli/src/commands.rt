@@ -1,0 +1,74 @@
+// What is said of each command to a person, and which folders one can't have.
+use ext_cmd::Command;
+use ext_folder::is_within;
+use ext_text::OutOfMemory;
+
+/// A command's first word, and what its words are.
+pub(crate) struct Synopsis {
+    pub(crate) word: &'static str,
+    pub(crate) words: &'static str,
+}
+
+/// One of each command.
+pub(crate) static SYNOPSES: [Synopsis; 11] = [
+    Synopsis {
+        word: "init",
+        words: "init ARCH SCOPE [HIERS [HIERS]], where ARCH is x86, x86-64, arm, arm64, riscv64, s390x, ppc64-le or loongarch64, SCOPE is system or initrd, and HIERS are as /usr:/opt",
+    },
+    Synopsis {
+        word: "import-fs",
+        words: "import-fs RES PATH, where RES.tree is in the depot, and PATH begins with a slash",
+    },
+    Synopsis {
+        word: "remove",
+        words: "remove PATH, where PATH begins with a slash, and isn't the root",
+    },
+    Synopsis {
+        word: "sysext",
+        words: "sysext list, status, merge [--force], unmerge or refresh [--force]",
+    },
+    Synopsis {
+        word: "confext",
+        words: "confext list, status, merge [--force], unmerge or refresh [--force]",
+    },
+    Synopsis {
+        word: "tree",
+        words: "tree [PATH], where PATH begins with a slash",
+    },
+    Synopsis {
+        word: "cat",
+        words: "cat PATH, where PATH begins with a slash, and isn't the root",
+    },
+    Synopsis {
+        word: "compare",
+        words: "compare TEXT TEXT",
+    },
+    Synopsis {
+        word: "check",
+        words: "check",
+    },
+    Synopsis {
+        word: "layer",
+        words: "layer, which reads tree texts from standard input",
+    },
+    Synopsis {
+        word: "migrate",
+        words: "migrate",
+    },
+];
+
+/// Whether a command would read the depot in the store folder or below it, where cleaning takes away what it reads.
+///
+/// # Errors
+/// `OutOfMemory` alone.
+pub(crate) fn folders_clash(
+    rt: &HostRuntime,
+    command: &Command,
+    store: &str,
+    depot: &str,
+) -> Result<bool, OutOfMemory> {
+    match command {
+        Command::ImportFs { .. } => is_within(rt.alloc(), rt, depot, store),
+        _ => Ok(false),
+    }
+}

@@ -1,0 +1,43 @@
+// What `--help` and `--version` print.
+
+pub(crate) const VERSION: &str = "hostext 0.1.0";
+
+pub(crate) const HELP: &str = "usage: hostext STORE DEPOT COMMAND ..
+
+STORE is a folder that is there already, in which a host is kept; DEPOT is one
+that files are read from. Where a command looks at neither, . will do.
+
+commands:
+  init ARCH SCOPE [HIERS [HIERS]]
+                      make the store of a host without entries. ARCH is x86,
+                      x86-64, arm, arm64, riscv64, s390x, ppc64-le or
+                      loongarch64; SCOPE is system or initrd; HIERS are the
+                      hierarchies of system extensions, then those of
+                      configuration extensions, as /usr:/opt
+  import-fs RES PATH  put the tree RES.tree of the depot, with the files below
+                      RES, in place of what stands at and below the path
+  remove PATH         remove what stands at and below the path
+  sysext list         write what images of system extensions there are, each
+                      with what is said of it
+  sysext status       write which of them are merged
+  sysext merge [--force]
+                      merge those that fit into the hierarchies
+  sysext unmerge      take the view away
+  sysext refresh [--force]
+                      merge anew, in one change
+  confext ..          as sysext, with configuration extensions
+  tree [PATH]         write the tree text of what stands below the path
+  cat PATH            write the bytes of a file; links are not followed
+  check               compare each file of the store with its digest
+  migrate             write the store anew, in the newest form of its text
+  compare TEXT TEXT   write less, equal or greater: the order of two versions
+  layer               read a sequence of tree texts from standard input, the
+                      host first, and write the text of the layered tree
+
+It ends with 0 where the command was done, 1 refused, 2 usage, 3 read fault,
+4 write fault, 5 disk fault, 6 depot fault, 7 out of memory, 8 bad store,
+9 unfinished, 10 input too long. `hostext: usage N` says that word N after
+DEPOT is the first that no command has there, or that it is missing.
+
+HOSTEXT_EXPLAIN=yes has a second line on standard error say why, also where
+that is no terminal. HOSTEXT_LOCK=no takes no lock on STORE.";

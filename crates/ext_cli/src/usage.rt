@@ -1,0 +1,128 @@
+// Why words are no command, for a person to read.
+use crate::commands::{SYNOPSES, Synopsis};
+use crate::ending::Ending;
+use crate::escaping::escaped;
+use ext_lines::grown;
+use ext_text::OutOfMemory;
+use ext_top::Status;
+use std::alloc::Global;
+use strsim::osa_distance;
+
+// How many edits may lead from a word to a command that may be meant.
+const NEAR: usize = 2;
+
+/// Fewer words than STORE, DEPOT and a command, and no option.
+pub(crate) fn without_command(alloc: Global) -> Result<Ending, OutOfMemory> {
+    let reason = grown(String::from_str(
+        alloc,
+        "it is called as hostext STORE DEPOT COMMAND .., or with --help or --version alone",
+    ))?;
+    Ok(Ending::because(Status::Usage { place: 1 }, reason))
+}
+
+/// DEPOT is STORE or stands below it.
+pub(crate) fn clashing_folders(alloc: Global) -> Result<Ending, OutOfMemory> {
+    let reason = grown(String::from_str(
+        alloc,
+        "DEPOT is STORE or stands below it, where cleaning would take away what is to be read",
+    ))?;
+    Ok(Ending::because(Status::Usage { place: 1 }, reason))
+}
+
+/// The words after DEPOT are no command, and this is the place of their first fault.
+pub(crate) fn faulty_words(
+    alloc: Global,
+    words: &[String],
+    place: u64,
+) -> Result<Ending, OutOfMemory> {
+    let reason = match words {
+        [] => with_commands(alloc, "no command is given")?,
+        [first, ..] => match synopsis_of(first.as_str()) {
+            Some(synopsis) => faulty_after(alloc, synopsis, words, place)?,
+            None => unknown(alloc, first.as_str())?,
+        },
+    };
+    Ok(Ending::because(Status::Usage { place }, reason))
+}
+
+fn synopsis_of(word: &str) -> Option<&'static Synopsis> {
+    for synopsis in &SYNOPSES {
+        if synopsis.word == word {
+            return Some(synopsis);
+        }
+    }
+    None
+}
+
+// A word that the command hasn't there, or one that is missing.
+fn faulty_after(
+    alloc: Global,
+    synopsis: &Synopsis,
+    words: &[String],
+    place: u64,
+) -> Result<String, OutOfMemory> {
+    let expected = synopsis.words;
+    match word_at(words, place) {
+        Some(word) => {
+            let word = escaped(alloc, word)?;
+            grown(format!(in alloc; "the words are {expected}: not `{word}`"))
+        }
+        None => grown(format!(in alloc; "the words are {expected}: one is missing")),
+    }
+}
+
+// The word at a place, counted from 1.
+fn word_at(words: &[String], place: u64) -> Option<&str> {
+    let index = usize::try_from(place.checked_sub(1)?).ok()?;
+    match words.get(index) {
+        Some(word) => Some(word.as_str()),
+        None => None,
+    }
+}
+
+// A first word that no command has, with the commands that may be meant.
+fn unknown(alloc: Global, word: &str) -> Result<String, OutOfMemory> {
+    let near = near_commands(alloc, word)?;
+    let word = escaped(alloc, word)?;
+    if near.is_empty() {
+        let fault = grown(format!(in alloc; "`{word}` is no command"))?;
+        return with_commands(alloc, fault.as_str());
+    }
+    grown(format!(in alloc; "`{word}` is no command; is it to be {near}?"))
+}
+
+fn with_commands(alloc: Global, fault: &str) -> Result<String, OutOfMemory> {
+    let mut text = grown(format!(in alloc; "{fault}; the commands are "))?;
+    let mut before = "";
+    for synopsis in &SYNOPSES {
+        grown(text.push_str(before))?;
+        grown(text.push_str(synopsis.word))?;
+        before = ", ";
+    }
+    Ok(text)
+}
+
+// The commands that differ from a word by few edits, or begin with it, with `or` between each two.
+fn near_commands(alloc: Global, word: &str) -> Result<String, OutOfMemory> {
+    let mut text = String::new(alloc);
+    for synopsis in &SYNOPSES {
+        if is_near(alloc, word, synopsis.word)? {
+            if !text.is_empty() {
+                grown(text.push_str(" or "))?;
+            }
+            grown(text.push_str(synopsis.word))?;
+        }
+    }
+    Ok(text)
+}
+
+fn is_near(alloc: Global, word: &str, command: &str) -> Result<bool, OutOfMemory> {
+    if word.is_empty() || word.len() > command.len() + NEAR {
+        return Ok(false);
+    }
+    if command.starts_with(word) {
+        return Ok(true);
+    }
+    let edits = grown(osa_distance(alloc, word, command))?;
+    Ok(edits <= NEAR && edits < command.len() / 2)
+}

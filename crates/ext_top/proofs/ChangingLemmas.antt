@@ -1,0 +1,139 @@
+-- A command that may change nothing wants no other host, so a run of it leaves the disk as it was.
+use Rattle.std.proofs.Common.{◌≡◌, ℕ, Bool, true, false, List, [], ◌∷◌, ◌⊎◌, inl, inr, Option, Some, None, refl, sym, ◌∙◌, ap, subst, if◌then◌else◌, arith}
+use Rattle.ext_text.specs.declared.class.Class.{Class}
+use Rattle.ext_text.specs.declared.class.Class.TheVariants as classes
+use Rattle.ext_tree.specs.Tree.{is_directory, lookup}
+use Rattle.ext_tree.specs.declared.entry.Entry.{Entry}
+use Rattle.ext_tree.specs.declared.entry.Entry.TheVariants.{Dir, Opaque, File, Link, Hide}
+use Rattle.ext_disk.specs.Disk.{BothTold, DiskState, Told}
+use Rattle.ext_depot.specs.Depot.{DepotState}
+use Rattle.ext_host.specs.Held.{HeldFile}
+use Rattle.ext_host.specs.Shelf.{Told as ToldFile}
+use Rattle.ext_host.specs.declared.host.Host.{Host}
+use Rattle.ext_store.proofs.ForCallers.{told_map}
+use Rattle.ext_gen.specs.Opened.{Generation}
+use Rattle.ext_cmd.proofs.ForCallers.{one_command}
+use Rattle.ext_cmd.specs.Words.{IsWellFormed, command_words}
+use Rattle.ext_cmd.specs.declared.command.Command.{Command}
+use Rattle.ext_cmd.specs.declared.command.Command.TheVariants.{Init, ImportFs, Remove, Sysext, Confext, Tree, Cat, Compare, Check, Layer, Migrate}
+use Rattle.ext_cmd.specs.declared.command.ViewCommand.{ViewCommand}
+use Rattle.ext_cmd.specs.declared.command.ViewCommand.TheVariants as views
+use Rattle.ext_cmd.specs.declared.answer.Answer.TheVariants as answers
+use Rattle.ext_cmd.specs.declared.refusal.Refusal.TheVariants as refusals
+use Rattle.ext_step.specs.Cat.{cat_at, cat_intent}
+use Rattle.ext_step.specs.Intents.{Seen}
+use Rattle.ext_step.specs.Step.{Wants, WantsFirst, WantsOf, is_of_store}
+use Rattle.ext_step.specs.Tree.{meant_path, text_below, tree_at, tree_intent}
+use Rattle.ext_step.specs.Views.{ListWants, ViewWants}
+use Rattle.ext_step.specs.declared.intent.Intent.{Intent}
+use Rattle.ext_step.specs.declared.intent.Intent.TheVariants.{Answers, Refuses}
+use Rattle.ext_top.specs.Applying.{seen_on}
+use Rattle.ext_top.specs.Changing.{StaysUnlessChanging, may_change, may_view_change}
+use Rattle.ext_top.specs.Running.{Devices, RunWorks, Runs, RunsCommand, RunsKind}
+use Rattle.ext_top.specs.Working.{StaysTold, WantsOn, WorksFor, WorksTold, next_of}
+use Rattle.ext_top.specs.declared.status.Status.{Status}
+use Rattle.ext_top.specs.declared.status.Status.TheVariants.{Done, Refused, Usage, ReadFault, WriteFault, DiskFault, DepotFault, OutOfMemory, BadStore, Unfinished, TooLong}
+
+-- ---- what is wanted
+
+no_next_below : (host : Host) (path : List (List ℕ)) (directory : Bool) → next_of (if directory then Answers (answers.Tree (text_below host path)) else Refuses (refusals.NotDirectory path)) ≡ None
+no_next_below host path true = refl
+no_next_below host path false = refl
+
+no_next_at : (host : Host) (path : List (List ℕ)) (found : Option (Entry HeldFile)) → next_of (tree_at host path found) ≡ None
+no_next_at host path None = refl
+no_next_at host path (Some entry) = no_next_below host path (is_directory entry)
+
+no_next_of_tree : (host : Host) (path : List (List ℕ)) → next_of (tree_intent host path) ≡ None
+no_next_of_tree host [] = refl
+no_next_of_tree host (name ∷ path) = no_next_at host (name ∷ path) (lookup host.root (name ∷ path))
+
+no_next_of_cat : (path : List (List ℕ)) (found : Option (Entry HeldFile)) → next_of (cat_at path found) ≡ None
+no_next_of_cat path None = refl
+no_next_of_cat path (Some (Dir mode)) = refl
+no_next_of_cat path (Some (Opaque mode)) = refl
+no_next_of_cat path (Some (File mode held)) = refl
+no_next_of_cat path (Some (Link target)) = refl
+no_next_of_cat path (Some Hide) = refl
+
+no_next_of_list : (host : Host) (told : HeldFile → ToldFile) (class : Class) (intent : Intent) → ListWants host told class intent → next_of intent ≡ None
+no_next_of_list host told class intent (base, is, inl (items, survey, same)) = ap next_of same
+no_next_of_list host told class intent (base, is, inr (refusal, why, same)) = ap next_of same
+
+no_next_of_view : (host : Host) (told : HeldFile → ToldFile) (class : Class) (view : ViewCommand) (intent : Intent) → may_view_change view ≡ false → ViewWants host told class view intent → next_of intent ≡ None
+no_next_of_view host told class views.List intent reads wants = no_next_of_list host told class intent wants
+no_next_of_view host told class views.Status intent reads wants = ap next_of wants
+no_next_of_view host told class (views.Merge force) intent reads wants = cc
+no_next_of_view host told class views.Unmerge intent reads wants = cc
+no_next_of_view host told class (views.Refresh force) intent reads wants = cc
+
+no_next_seen : (seen : Seen) (depot : DepotState) (command : Command) (intent : Intent) → may_change command ≡ false → WantsOf seen depot command intent → next_of intent ≡ None
+no_next_seen seen depot (Init arch scope hierarchies) intent reads wants = cc
+no_next_seen seen depot (ImportFs resource path) intent reads wants = cc
+no_next_seen seen depot (Remove path) intent reads wants = cc
+no_next_seen seen depot (Sysext view) intent reads wants = no_next_of_view seen.host seen.told classes.Sysext view intent reads wants
+no_next_seen seen depot (Confext view) intent reads wants = no_next_of_view seen.host seen.told classes.Confext view intent reads wants
+no_next_seen seen depot (Tree path) intent reads wants = ap next_of wants ∙ no_next_of_tree seen.host (meant_path path)
+no_next_seen seen depot (Cat path) intent reads wants = ap next_of wants ∙ no_next_of_cat path (lookup seen.host.root path)
+no_next_seen seen depot (Compare a b) intent reads wants = absurd wants
+no_next_seen seen depot Check intent reads wants = ap next_of wants
+no_next_seen seen depot Layer intent reads wants = absurd wants
+no_next_seen seen depot Migrate intent reads wants = cc
+
+no_next_first : (command : Command) (intent : Intent) → may_change command ≡ false → WantsFirst command intent → next_of intent ≡ None
+no_next_first (Init arch scope hierarchies) intent reads wants = cc
+no_next_first (ImportFs resource path) intent reads wants = cc
+no_next_first (Remove path) intent reads wants = cc
+no_next_first (Sysext view) intent reads wants = ap next_of wants
+no_next_first (Confext view) intent reads wants = ap next_of wants
+no_next_first (Tree path) intent reads wants = ap next_of wants
+no_next_first (Cat path) intent reads wants = ap next_of wants
+no_next_first (Compare a b) intent reads wants = ap next_of wants
+no_next_first Check intent reads wants = ap next_of wants
+no_next_first Layer intent reads wants = ap next_of wants
+no_next_first Migrate intent reads wants = cc
+
+no_next : (seen : Option Seen) (depot : DepotState) (command : Command) (intent : Intent) → may_change command ≡ false → Wants seen depot command intent → next_of intent ≡ None
+no_next None depot command intent reads wants = no_next_first command intent reads wants
+no_next (Some seen) depot command intent reads wants = no_next_seen seen depot command intent reads wants
+
+-- ---- what is done
+
+works_stay : (W : Intent → Type 0) (from : Option Generation) (d e : Told) → ((intent : Intent) → W intent → next_of intent ≡ None) → WorksFor W from d e → StaysTold d e
+works_stay W from d e none (inl still) = still
+works_stay W from d e none (inr (intent, wants, works)) = subst (λ next. WorksTold from next d e) (none intent wants) works
+
+run_stays : (command : Command) (disk : DiskState) (depot : DepotState) (d e : Told) → may_change command ≡ false → RunWorks command disk depot d e → StaysTold d e
+run_stays command disk depot d e reads (inl still) = still
+run_stays command disk depot d e reads (inr (opened, points, works)) =
+    works_stay (WantsOn opened disk depot command) opened d e (λ intent wants. no_next (seen_on opened disk) depot command intent reads wants) works
+
+stays_itself : (x : Option Told) → BothTold StaysTold x x
+stays_itself None = tt
+stays_itself (Some d) = record { now = λ p. refl; appended = omega arith }
+
+left_alone : (old new : Devices) → new.disk ≡ old.disk → BothTold StaysTold old.disk.told new.disk.told
+left_alone old new same = subst (λ disk. BothTold StaysTold old.disk.told disk.told) (sym same) (stays_itself old.disk.told)
+
+kind_stays : (of_store : Bool) (command : Command) (old new : Devices) (status : Status) → RunsKind of_store command old new status → may_change command ≡ false → BothTold StaysTold old.disk.told new.disk.told
+kind_stays true command old new status runs reads = told_map (RunWorks command old.disk old.depot) StaysTold (λ d e works. run_stays command old.disk old.depot d e reads works) old.disk.told new.disk.told runs.works
+kind_stays false command old new status runs reads = left_alone old new runs.disk
+
+words_stay : (words : List (List ℕ)) (old new : Devices) (status : Status) → RunsCommand words old new status → StaysUnlessChanging words old new
+words_stay words old new status ran command formed same reads =
+    let one : ran.command ≡ command = one_command ran.command command ran.well_formed formed (sym ran.same ∙ same) in
+    kind_stays (is_of_store ran.command) ran.command old new status ran.runs (ap may_change one ∙ reads)
+
+pub run_stays_unless_changing : (words : List (List ℕ)) (old new : Devices) (status : Status) → Runs words old new status → StaysUnlessChanging words old new
+run_stays_unless_changing words old new (Usage place) ran command formed same reads = left_alone old new (ap (λ d. d.disk) ran.1)
+run_stays_unless_changing words old new OutOfMemory (inl untouched) command formed same reads = left_alone old new (ap (λ d. d.disk) untouched)
+run_stays_unless_changing words old new OutOfMemory (inr ran) command formed same reads = words_stay words old new OutOfMemory ran command formed same reads
+run_stays_unless_changing words old new Done ran command formed same reads = words_stay words old new Done ran command formed same reads
+run_stays_unless_changing words old new (Refused refusal) ran command formed same reads = words_stay words old new (Refused refusal) ran command formed same reads
+run_stays_unless_changing words old new ReadFault ran command formed same reads = words_stay words old new ReadFault ran command formed same reads
+run_stays_unless_changing words old new WriteFault ran command formed same reads = words_stay words old new WriteFault ran command formed same reads
+run_stays_unless_changing words old new DiskFault ran command formed same reads = words_stay words old new DiskFault ran command formed same reads
+run_stays_unless_changing words old new DepotFault ran command formed same reads = words_stay words old new DepotFault ran command formed same reads
+run_stays_unless_changing words old new (BadStore why) ran command formed same reads = words_stay words old new (BadStore why) ran command formed same reads
+run_stays_unless_changing words old new Unfinished ran command formed same reads = words_stay words old new Unfinished ran command formed same reads
+run_stays_unless_changing words old new TooLong ran command formed same reads = words_stay words old new TooLong ran command formed same reads

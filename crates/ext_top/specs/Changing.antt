@@ -1,0 +1,35 @@
+-- Which commands may change a store, one line a command; the others read it alone. This project's own.
+use Rattle.std.specs.Prelude.{◌≡◌, ℕ, Bool, true, false, List}
+use Rattle.ext_disk.specs.Disk.{BothTold}
+use Rattle.ext_cmd.specs.Words.{IsWellFormed, command_words}
+use Rattle.ext_cmd.specs.declared.command.Command.{Command}
+use Rattle.ext_cmd.specs.declared.command.Command.TheVariants.{Init, ImportFs, Remove, Sysext, Confext, Tree, Cat, Compare, Check, Layer, Migrate}
+use Rattle.ext_cmd.specs.declared.command.ViewCommand.{ViewCommand}
+use Rattle.ext_cmd.specs.declared.command.ViewCommand.TheVariants as views
+use Rattle.ext_top.specs.Running.{Devices}
+use Rattle.ext_top.specs.Working.{StaysTold}
+
+abbrev pub may_view_change : ViewCommand → Bool
+may_view_change views.List = false
+may_view_change views.Status = false
+may_view_change (views.Merge force) = true
+may_view_change views.Unmerge = true
+may_view_change (views.Refresh force) = true
+
+abbrev pub may_change : Command → Bool
+may_change (Init arch scope hierarchies) = true
+may_change (ImportFs resource path) = true
+may_change (Remove path) = true
+may_change (Sysext view) = may_view_change view
+may_change (Confext view) = may_view_change view
+may_change (Tree path) = false
+may_change (Cat path) = false
+may_change (Compare a b) = false
+may_change Check = false
+may_change Layer = false
+may_change Migrate = true
+
+-- where the words are those of a command that may change nothing, nothing is made, removed or appended, whatever the disk has
+abbrev pub StaysUnlessChanging : List (List ℕ) → Devices → Devices → Type 0
+StaysUnlessChanging words old new =
+    (command : Command) → IsWellFormed command → words ≡ command_words command → may_change command ≡ false → BothTold StaysTold old.disk.told new.disk.told

@@ -1,0 +1,33 @@
+// Which commands may change a store.
+ghost use Rattle.std.specs.Prelude.{◌≡◌};
+ghost use Rattle.ext_top.specs.Changing.{may_change, may_view_change};
+
+use ext_cmd::{Command, ViewCommand};
+
+/// Whether a command may make, remove or append anything in a store folder. Where it may not, a run of it does not, whatever
+/// stands there; `run` says so.
+pub fn may_change(command: &Command) -> bool
+    ensures { result ≡ may_change command.now }
+{
+    match command {
+        Command::Init { .. }
+        | Command::ImportFs { .. }
+        | Command::Remove { .. }
+        | Command::Migrate => true,
+        Command::Sysext(view) | Command::Confext(view) => may_view_change(*view),
+        Command::Tree { .. }
+        | Command::Cat { .. }
+        | Command::Compare(_, _)
+        | Command::Check
+        | Command::Layer => false,
+    }
+}
+
+fn may_view_change(view: ViewCommand) -> bool
+    ensures { result ≡ may_view_change view }
+{
+    match view {
+        ViewCommand::List | ViewCommand::Status => false,
+        ViewCommand::Merge { .. } | ViewCommand::Unmerge | ViewCommand::Refresh { .. } => true,
+    }
+}
