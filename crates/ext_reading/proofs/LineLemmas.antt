@@ -7,12 +7,13 @@ use Rattle.ext_record.specs.declared.homed.Homed.{Homed}
 use Rattle.ext_reading.specs.Stamps.{Agrees}
 use Rattle.ext_text.specs.Digest.{IsDigest}
 use Rattle.ext_record.specs.Lines.{IsLinePath, item_line, manifest_line, number_line, path_line}
-use Rattle.ext_reading.specs.Reading.{Takes}
+use Rattle.ext_reading.specs.Reading.{LeadsTo}
 use Rattle.ext_reading.specs.State.{at_part}
 use Rattle.ext_reading.specs.Step.{HasRoom, IsUpTo, MayBePast, MayEnter, StepsAt, TellsHierarchy, TellsMerged, most_count}
 use Rattle.ext_reading.specs.declared.state.PartStage.TheVariants as parts
 use Rattle.ext_reading.specs.declared.state.Reading.{Reading}
 use Rattle.ext_reading.specs.declared.state.SoFar.{SoFar}
+use Rattle.ext_reading.specs.declared.state.Stage.{Stage}
 use Rattle.ext_reading.specs.declared.state.Stage.TheVariants as stages
 use Rattle.ext_text.specs.declared.class.Class.TheVariants as classes
 use Rattle.ext_reading.proofs.OnceLemmas.{entry_once, item_once, manifest_once, number_same, path_once, refused}
@@ -40,14 +41,14 @@ no_hierarchy g s more line none t (inr f) = none classes.Confext f.0 (λ e. cc) 
 -- ---- merged names
 
 -- a line that tells none of configuration extensions tells the attachments, or nothing
-pub confext_else : (g : ℕ) (s : SoFar) (line : List ℕ) (found : Option Reading) → TellsMerged (codes "confext") line None → Takes g (at_part s parts.Attached) line found → Takes g (at_part s parts.Confext) line found
-confext_else g s line None none takes = λ t step. elim step [ inl f ↦ none f.0 f.1 f.2 f.3 | inr f ↦ takes t f ]
-confext_else g s line (Some t) none takes = inr takes
+pub confext_else : (g : ℕ) (s t : SoFar) (line : List ℕ) (found : Option Stage) → TellsMerged (codes "confext") line None → LeadsTo g (at_part s parts.Attached) t line found → LeadsTo g (at_part s parts.Confext) t line found
+confext_else g s t line None none leads = λ u step. elim step [ inl f ↦ none f.0 f.1 f.2 f.3 | inr f ↦ leads u f ]
+confext_else g s t line (Some stage) none leads = inr leads
 
 -- and one that tells none of system extensions is one of these
-pub sysext_else : (g : ℕ) (s : SoFar) (line : List ℕ) (found : Option Reading) → TellsMerged (codes "sysext") line None → Takes g (at_part s parts.Confext) line found → Takes g (at_part s parts.Sysext) line found
-sysext_else g s line None none takes = λ t step. elim step [ inl f ↦ none f.0 f.1 f.2 f.3 | inr f ↦ takes t f ]
-sysext_else g s line (Some t) none takes = inr takes
+pub sysext_else : (g : ℕ) (s t : SoFar) (line : List ℕ) (found : Option Stage) → TellsMerged (codes "sysext") line None → LeadsTo g (at_part s parts.Confext) t line found → LeadsTo g (at_part s parts.Sysext) t line found
+sysext_else g s t line None none leads = λ u step. elim step [ inl f ↦ none f.0 f.1 f.2 f.3 | inr f ↦ leads u f ]
+sysext_else g s t line (Some stage) none leads = inr leads
 
 -- ---- past trees
 

@@ -4,12 +4,11 @@ use Rattle.ext_lines.specs.Lines.{lines_text}
 use Rattle.ext_lines.specs.Split.{IsSplit, Lacks}
 use Rattle.ext_lines.proofs.ForCallers.{lines_text-push, split_none, split_once}
 use Rattle.ext_text.proofs.ForCallers.{all_append}
-use Rattle.ext_reading.specs.Reading.{Finishes, IsRead, ReadsLines, StopsAt}
+use Rattle.ext_reading.specs.Reading.{Finishes, IsRead, NotAllBy, ReadsAll, ReadsLines, StopsAt}
 use Rattle.ext_reading.specs.State.{at, start}
 use Rattle.ext_reading.specs.Step.{Runs, Steps}
 use Rattle.ext_reading.specs.declared.err.IndexErr.{IndexErr}
 use Rattle.ext_reading.specs.declared.err.IndexErr.TheVariants.{OutOfMemory, Broken}
-use Rattle.ext_reading.specs.declared.said.Said.{Said}
 use Rattle.ext_reading.specs.declared.state.Reading.{Reading}
 
 -- after a line there are fewer bytes
@@ -46,16 +45,11 @@ stop_at g bytes rest line r next more read split none = record {
 }
 
 -- no line more
-pub read_end : (g : ℕ) (bytes rest : List ℕ) (line : ℕ) (r : Reading) (found : Result Said IndexErr) → IsRead g bytes rest line r → Lacks 10 rest → Finishes r rest line found → ReadsLines g bytes found
-read_end g bytes rest line r (Ok said) read lacks ends = record {
-  so_far = r.so_far;
-  through = record {
-    lines = read.lines;
-    text = read.text ∙ ap (λ xs. lines_text read.lines ++ xs) ends.1 ∙ append-nil (lines_text read.lines);
-    runs = subst (λ stage. Runs g start read.lines (at r.so_far stage)) ends.0 read.runs;
-  };
-  host = ends.2;
-  two = ends.3;
+pub read_end : {A : Type 0} (g : ℕ) (bytes rest : List ℕ) (line : ℕ) (r : Reading) (found : Result A IndexErr) → IsRead g bytes rest line r → Lacks 10 rest → Finishes r.stage rest line found → ReadsAll g bytes r.so_far found
+read_end g bytes rest line r (Ok done) read lacks ends = record {
+  lines = read.lines;
+  text = read.text ∙ ap (λ xs. lines_text read.lines ++ xs) ends.1 ∙ append-nil (lines_text read.lines);
+  runs = subst (λ stage. Runs g start read.lines (at r.so_far stage)) ends.0 read.runs;
 }
 read_end g bytes rest line r (Err OutOfMemory) read lacks ends = tt
 read_end g bytes rest line r (Err (Broken n)) read lacks ends = record {
@@ -65,3 +59,8 @@ read_end g bytes rest line r (Err (Broken n)) read lacks ends = record {
   stop = λ other after found t step. split_none 10 rest other after lacks found.whole;
   unended = ends.1;
 }
+
+-- lines that are not all read say nothing
+pub not_all : (g : ℕ) (bytes : List ℕ) (e : IndexErr) → NotAllBy g bytes e → ReadsLines g bytes (Err e)
+not_all g bytes OutOfMemory why = tt
+not_all g bytes (Broken line) why = why

@@ -10,6 +10,7 @@ use Rattle.ext_reading.specs.declared.err.IndexErr.TheVariants.{OutOfMemory, Bro
 use Rattle.ext_reading.specs.declared.said.Said.{Said}
 use Rattle.ext_reading.specs.declared.state.Reading.{Reading}
 use Rattle.ext_reading.specs.declared.state.SoFar.{SoFar}
+use Rattle.ext_reading.specs.declared.state.Stage.{Stage}
 use Rattle.ext_reading.specs.declared.state.Stage.TheVariants as stages
 
 -- what is read after a line, or that the line may not stand there
@@ -21,6 +22,11 @@ Takes g r line (Some t) = Steps g r line t
 abbrev pub Reads : ℕ → Reading → Reading → List ℕ → Bool → Type 0
 Reads g r t line false = Takes g r line None
 Reads g r t line true = Takes g r line (Some t)
+
+-- which line stands next after a line, and what has been read then, or that the line may not stand there
+abbrev pub LeadsTo : ℕ → Reading → SoFar → List ℕ → Option Stage → Type 0
+LeadsTo g r s line None = Takes g r line None
+LeadsTo g r s line (Some stage) = Takes g r line (Some (at s stage))
 
 -- the bytes are lines that may stand one after another from the start on, and a rest; the next line has this number
 pub record IsRead (g : ℕ) (bytes rest : List ℕ) (line : ℕ) (reading : Reading) : Type 0 where
@@ -54,10 +60,20 @@ pub record IsSaid (g : ℕ) (bytes : List ℕ) (said : Said) : Type 0 where
   pub two : said.two ≡ so_far.two
 
 -- what was read where no more lines follow: all, at the end, or that the next line is missing
-abbrev pub Finishes : Reading → List ℕ → ℕ → Result Said IndexErr → Type 0
-Finishes r rest line (Ok said) = (r.stage ≡ stages.Done) × (rest ≡ []) × (said.host ≡ host_of r.so_far) × (said.two ≡ r.so_far.two)
-Finishes r rest line (Err OutOfMemory) = ⊥
-Finishes r rest line (Err (Broken n)) = (n ≡ line) × (r.stage ≡ stages.Done → rest ≢ [])
+abbrev pub Finishes : {A : Type 0} → Stage → List ℕ → ℕ → Result A IndexErr → Type 0
+Finishes stage rest line (Ok done) = (stage ≡ stages.Done) × (rest ≡ [])
+Finishes stage rest line (Err OutOfMemory) = ⊥
+Finishes stage rest line (Err (Broken n)) = (n ≡ line) × (stage ≡ stages.Done → rest ≢ [])
+
+-- why lines are not all read
+abbrev pub NotAllBy : ℕ → List ℕ → IndexErr → Type 0
+NotAllBy g bytes OutOfMemory = Unit {0}
+NotAllBy g bytes (Broken line) = StopsAt g bytes line
+
+-- what was read after all lines, or why they are not all read
+abbrev pub ReadsAll : {A : Type 0} → ℕ → List ℕ → SoFar → Result A IndexErr → Type 0
+ReadsAll g bytes s (Ok done) = RunsThrough g bytes s
+ReadsAll g bytes s (Err e) = NotAllBy g bytes e
 
 -- what reading gives
 abbrev pub ReadsLines : ℕ → List ℕ → Result Said IndexErr → Type 0

@@ -64,15 +64,15 @@ abbrev pub TellsHierarchy : List ℕ → Option (Class × List ℕ) → Type 0
 TellsHierarchy line None = (class : Class) (name : List ℕ) → class ≢ classes.Portable → IsName name → line ≢ hierarchy_line class name
 TellsHierarchy line (Some r) = (r.0 ≢ classes.Portable) × IsName r.1 × (line ≡ hierarchy_line r.0 r.1)
 
--- what is read after the line of a hierarchy of system extensions, or that it may not stand there
-abbrev pub OneMoreSysext : SoFar → ℕ → List ℕ → Option Reading → Type 0
-OneMoreSysext s more name None = ¬ MaySysext s more name
-OneMoreSysext s more name (Some t) = MaySysext s more name × (t ≡ then_hierarchies (with_sysext_hier s name) more)
+-- which line stands next after that of a hierarchy of system extensions, and what has been read then, or that it may not stand there
+abbrev pub OneMoreSysext : SoFar → SoFar → ℕ → List ℕ → Option Stage → Type 0
+OneMoreSysext s t more name None = ¬ MaySysext s more name
+OneMoreSysext s t more name (Some stage) = MaySysext s more name × (at t stage ≡ then_hierarchies (with_sysext_hier s name) more)
 
 -- and after that of one of configuration extensions
-abbrev pub OneMoreConfext : SoFar → ℕ → List ℕ → Option Reading → Type 0
-OneMoreConfext s more name None = ¬ MayConfext s more name
-OneMoreConfext s more name (Some t) = MayConfext s more name × (t ≡ then_hierarchies (with_confext_hier s name) more)
+abbrev pub OneMoreConfext : SoFar → SoFar → ℕ → List ℕ → Option Stage → Type 0
+OneMoreConfext s t more name None = ¬ MayConfext s more name
+OneMoreConfext s t more name (Some stage) = MayConfext s more name × (at t stage ≡ then_hierarchies (with_confext_hier s name) more)
 
 -- ---- entries
 

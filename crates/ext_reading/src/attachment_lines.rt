@@ -1,14 +1,15 @@
 // The lines of attachments.
 ghost use Rattle.std.specs.Prelude.{◌≡◌, ◌≢◌, ◌≤◌, [], Bool, ℕ, codes, IfOk, MatchOption};
 ghost use Rattle.ext_record.specs.Lines.{number_line};
-ghost use Rattle.ext_reading.specs.Reading.{Takes};
+ghost use Rattle.ext_reading.specs.Reading.{LeadsTo};
 ghost use Rattle.ext_reading.specs.State.{at_part};
 ghost use Rattle.ext_reading.specs.Step.{TellsAttachment};
 ghost use Rattle.ext_reading.specs.declared.state.PartStage.TheVariants as parts;
+ghost use Rattle.ext_reading.specs.declared.state.SoFar.{SoFar};
 
 use crate::following::{follows_as_attachment, follows_as_path};
-use crate::next::{at_part, then_added, then_kept};
-use crate::state::{PartStage, Reading, SoFar};
+use crate::next::{then_added, then_kept};
+use crate::state::{PartStage, SoFar, Stage};
 use ext_host::Attachment;
 use ext_lines::OutOfMemory;
 use ext_record::{MOST_COUNT, after_word, name_after, number_after, path_after};
@@ -16,19 +17,16 @@ use ext_text::{Name, Paths};
 use std::alloc::Global;
 
 /// After the first line of an attachment.
-pub(crate) fn attachment_line(so_far: SoFar, more: u64, line: &[u8]) -> Option<Reading>
-    ensures { (g : ℕ) → Takes g (at_part so_far (parts.Attachment more)) line.now result }
+pub(crate) fn attachment_line(more: u64, line: &[u8]) -> Option<Stage>
+    ensures { (g : ℕ) (s : SoFar) → LeadsTo g (at_part s (parts.Attachment more)) s line.now result }
 {
     match attachment_of(line) {
         None => None,
-        Some((runtime, paths)) => Some(at_part(
-            so_far,
-            PartStage::Image {
-                more,
-                paths,
-                runtime,
-            },
-        )),
+        Some((runtime, paths)) => Some(Stage::Part(PartStage::Image {
+            more,
+            paths,
+            runtime,
+        })),
     }
 }
 
@@ -51,13 +49,13 @@ fn attachment_of(line: &[u8]) -> Option<(bool, u64)>
 /// After the line of an attachment's name.
 pub(crate) fn image_line(
     alloc: Global,
-    so_far: SoFar,
+    so_far: &SoFar,
     more: u64,
     paths: u64,
     runtime: bool,
     line: &[u8],
-) -> Result<Option<Reading>, OutOfMemory>
-    ensures { (g : ℕ) → IfOk result (Takes g (at_part so_far (parts.Image more paths runtime)) line.now) }
+) -> Result<Option<Stage>, OutOfMemory>
+    ensures { (g : ℕ) → IfOk result (LeadsTo g (at_part so_far.now (parts.Image more paths runtime)) so_far.now line.now) }
 {
     match name_after(alloc, line, b"i")? {
         None => Ok(None),
@@ -65,13 +63,12 @@ pub(crate) fn image_line(
             if !follows_as_attachment(so_far.parts.attached.as_slice(), &name) {
                 return Ok(None);
             }
-            let stage = PartStage::Place {
+            Ok(Some(Stage::Part(PartStage::Place {
                 more,
                 paths,
                 runtime,
                 name,
-            };
-            Ok(Some(at_part(so_far, stage)))
+            })))
         }
     }
 }
@@ -79,14 +76,14 @@ pub(crate) fn image_line(
 /// After the line of the place of its image.
 pub(crate) fn place_line(
     alloc: Global,
-    so_far: SoFar,
+    so_far: &mut SoFar,
     more: u64,
     paths: u64,
     runtime: bool,
     name: Name,
     line: &[u8],
-) -> Result<Option<Reading>, OutOfMemory>
-    ensures { (g : ℕ) → IfOk result (Takes g (at_part so_far (parts.Place more paths runtime name)) line.now) }
+) -> Result<Option<Stage>, OutOfMemory>
+    ensures { (g : ℕ) → IfOk result (LeadsTo g (at_part so_far.old (parts.Place more paths runtime name)) so_far.new line.now) }
 {
     match path_after(alloc, line, b"s")? {
         None => Ok(None),
@@ -105,13 +102,13 @@ pub(crate) fn place_line(
 /// After the line of a path that it added.
 pub(crate) fn added_line(
     alloc: Global,
-    so_far: SoFar,
+    so_far: &mut SoFar,
     more: u64,
     paths: u64,
     mut attachment: Attachment,
     line: &[u8],
-) -> Result<Option<Reading>, OutOfMemory>
-    ensures { (g : ℕ) → IfOk result (Takes g (at_part so_far (parts.Added more paths attachment)) line.now) }
+) -> Result<Option<Stage>, OutOfMemory>
+    ensures { (g : ℕ) → IfOk result (LeadsTo g (at_part so_far.old (parts.Added more paths attachment)) so_far.new line.now) }
 {
     match path_after(alloc, line, b"p")? {
         None => Ok(None),
@@ -126,11 +123,11 @@ pub(crate) fn added_line(
 }
 
 /// After the line that tells how many manifests there are.
-pub(crate) fn kept_line(so_far: SoFar, line: &[u8]) -> Option<Reading>
-    ensures { (g : ℕ) → Takes g (at_part so_far parts.Kept) line.now result }
+pub(crate) fn kept_line(line: &[u8]) -> Option<Stage>
+    ensures { (g : ℕ) (s : SoFar) → LeadsTo g (at_part s parts.Kept) s line.now result }
 {
     match number_after(line, b"kept", MOST_COUNT) {
         None => None,
-        Some(count) => Some(then_kept(so_far, count)),
+        Some(count) => Some(then_kept(count)),
     }
 }

@@ -3,14 +3,15 @@ ghost use Rattle.std.specs.Prelude.{◌≡◌, ◌≢◌, ◌<◌, ◌≤◌, �
 ghost use Rattle.std.specs.Ordering.{eq_by_cmp};
 ghost use Rattle.ext_lines.specs.ByteOrder.{bytes_cmp};
 ghost use Rattle.ext_record.specs.Lines.{number_line};
-ghost use Rattle.ext_reading.specs.Reading.{Takes};
+ghost use Rattle.ext_reading.specs.Reading.{LeadsTo};
 ghost use Rattle.ext_reading.specs.State.{at};
 ghost use Rattle.ext_reading.specs.Step.{MayConfext, MaySysext, OneMoreConfext, OneMoreSysext, TellsHierarchy, has_name};
+ghost use Rattle.ext_reading.specs.declared.state.SoFar.{SoFar};
 ghost use Rattle.ext_reading.specs.declared.state.Stage.TheVariants as stages;
 
 use crate::following::follows_as_name;
-use crate::next::{at, then_hierarchies, then_machine};
-use crate::state::{Reading, SoFar, Stage};
+use crate::next::{then_hierarchies, then_machine};
+use crate::state::{SoFar, Stage};
 use ext_lines::OutOfMemory;
 use ext_record::{after_word, host_of, name_after, number_after, version_of};
 use ext_text::{Class, Name};
@@ -26,14 +27,14 @@ const MOST_HIERARCHIES: u64 = 32;
 const MOST_OF_A_CLASS: usize = 16;
 
 /// After the first line.
-pub(crate) fn header_line(mut so_far: SoFar, line: &[u8]) -> Option<Reading>
-    ensures { (g : ℕ) → Takes g (at so_far stages.Header) line.now result }
+pub(crate) fn header_line(so_far: &mut SoFar, line: &[u8]) -> Option<Stage>
+    ensures { (g : ℕ) → LeadsTo g (at so_far.old stages.Header) so_far.new line.now result }
 {
     match version_of(line) {
         None => None,
         Some(two) => {
             so_far.two = two;
-            Some(at(so_far, Stage::Machine))
+            Some(Stage::Machine)
         }
     }
 }
@@ -41,10 +42,10 @@ pub(crate) fn header_line(mut so_far: SoFar, line: &[u8]) -> Option<Reading>
 /// After the line of the machine.
 pub(crate) fn machine_line(
     alloc: Global,
-    mut so_far: SoFar,
+    so_far: &mut SoFar,
     line: &[u8],
-) -> Result<Option<Reading>, OutOfMemory>
-    ensures { (g : ℕ) → IfOk result (Takes g (at so_far stages.Machine) line.now) }
+) -> Result<Option<Stage>, OutOfMemory>
+    ensures { (g : ℕ) → IfOk result (LeadsTo g (at so_far.old stages.Machine) so_far.new line.now) }
 {
     match host_of(line) {
         None => Ok(None),
@@ -57,12 +58,12 @@ pub(crate) fn machine_line(
 }
 
 /// After the line that tells how many hierarchies there are.
-pub(crate) fn hierarchies_line(so_far: SoFar, line: &[u8]) -> Option<Reading>
-    ensures { (g : ℕ) → Takes g (at so_far stages.Hierarchies) line.now result }
+pub(crate) fn hierarchies_line(line: &[u8]) -> Option<Stage>
+    ensures { (g : ℕ) (s : SoFar) → LeadsTo g (at s stages.Hierarchies) s line.now result }
 {
     match count_of_hierarchies(line) {
         None => None,
-        Some(count) => Some(then_hierarchies(so_far, count)),
+        Some(count) => Some(then_hierarchies(count)),
     }
 }
 
@@ -86,11 +87,11 @@ fn count_of_hierarchies(line: &[u8]) -> Option<u64>
 /// After the line of a hierarchy.
 pub(crate) fn hierarchy_line(
     alloc: Global,
-    so_far: SoFar,
+    so_far: &mut SoFar,
     more: u64,
     line: &[u8],
-) -> Result<Option<Reading>, OutOfMemory>
-    ensures { (g : ℕ) → IfOk result (Takes g (at so_far (stages.Hierarchy more)) line.now) }
+) -> Result<Option<Stage>, OutOfMemory>
+    ensures { (g : ℕ) → IfOk result (LeadsTo g (at so_far.old (stages.Hierarchy more)) so_far.new line.now) }
 {
     match hierarchy_of(alloc, line)? {
         None => Ok(None),
@@ -119,33 +120,29 @@ fn hierarchy_of(alloc: Global, line: &[u8]) -> Result<Option<(Class, Name)>, Out
 }
 
 // After one of system extensions.
-fn sysext_hierarchy(
-    mut so_far: SoFar,
-    more: u64,
-    name: Name,
-) -> Result<Option<Reading>, OutOfMemory>
-    ensures { IfOk result (OneMoreSysext so_far more name) }
+fn sysext_hierarchy(so_far: &mut SoFar, more: u64, name: Name) -> Result<Option<Stage>, OutOfMemory>
+    ensures { IfOk result (OneMoreSysext so_far.old so_far.new more name) }
 {
-    if !may_be_sysext(&so_far, more, &name) {
+    if !may_be_sysext(so_far, more, &name) {
         return Ok(None);
     }
     so_far.sysext_hier.push(name)?;
-    Ok(Some(then_hierarchies(so_far, more)))
+    Ok(Some(then_hierarchies(more)))
 }
 
 // After one of configuration extensions.
 fn confext_hierarchy(
-    mut so_far: SoFar,
+    so_far: &mut SoFar,
     more: u64,
     name: Name,
-) -> Result<Option<Reading>, OutOfMemory>
-    ensures { IfOk result (OneMoreConfext so_far more name) }
+) -> Result<Option<Stage>, OutOfMemory>
+    ensures { IfOk result (OneMoreConfext so_far.old so_far.new more name) }
 {
-    if !may_be_confext(&so_far, more, &name) {
+    if !may_be_confext(so_far, more, &name) {
         return Ok(None);
     }
     so_far.confext_hier.push(name)?;
-    Ok(Some(then_hierarchies(so_far, more)))
+    Ok(Some(then_hierarchies(more)))
 }
 
 // Whether a hierarchy of system extensions may stand next. It is not the last one of both classes.

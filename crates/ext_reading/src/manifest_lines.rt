@@ -1,12 +1,13 @@
 // The lines of kept manifests.
 ghost use Rattle.std.specs.Prelude.{◌≡◌, ◌≢◌, ◌≤◌, ℕ, codes, IfOk};
-ghost use Rattle.ext_reading.specs.Reading.{Takes};
+ghost use Rattle.ext_reading.specs.Reading.{LeadsTo};
 ghost use Rattle.ext_reading.specs.State.{at_part};
 ghost use Rattle.ext_reading.specs.declared.state.PartStage.TheVariants as parts;
+ghost use Rattle.ext_reading.specs.declared.state.SoFar.{SoFar};
 
 use crate::following::{follows_as_item, follows_as_manifest};
 use crate::next::{then_items, then_root};
-use crate::state::{Reading, SoFar};
+use crate::state::{SoFar, Stage};
 use ext_host::{Item, Items, Manifest};
 use ext_lines::OutOfMemory;
 use ext_record::{MOST_COUNT, item_of, manifest_of, number_after};
@@ -15,11 +16,11 @@ use std::alloc::Global;
 /// After the first line of a manifest.
 pub(crate) fn manifest_line(
     alloc: Global,
-    so_far: SoFar,
+    so_far: &mut SoFar,
     more: u64,
     line: &[u8],
-) -> Result<Option<Reading>, OutOfMemory>
-    ensures { (g : ℕ) → IfOk result (Takes g (at_part so_far (parts.Manifest more)) line.now) }
+) -> Result<Option<Stage>, OutOfMemory>
+    ensures { (g : ℕ) → IfOk result (LeadsTo g (at_part so_far.old (parts.Manifest more)) so_far.new line.now) }
 {
     match manifest_of(alloc, line)? {
         None => Ok(None),
@@ -39,13 +40,13 @@ pub(crate) fn manifest_line(
 /// After the line of an item of it.
 pub(crate) fn item_line(
     alloc: Global,
-    so_far: SoFar,
+    so_far: &mut SoFar,
     more: u64,
     items: u64,
     mut manifest: Manifest,
     line: &[u8],
-) -> Result<Option<Reading>, OutOfMemory>
-    ensures { (g : ℕ) → IfOk result (Takes g (at_part so_far (parts.Item more items manifest)) line.now) }
+) -> Result<Option<Stage>, OutOfMemory>
+    ensures { (g : ℕ) → IfOk result (LeadsTo g (at_part so_far.old (parts.Item more items manifest)) so_far.new line.now) }
 {
     match item_of(alloc, line)? {
         None => Ok(None),
@@ -60,11 +61,11 @@ pub(crate) fn item_line(
 }
 
 /// After the line that tells how many entries are seen.
-pub(crate) fn root_line(so_far: SoFar, line: &[u8]) -> Option<Reading>
-    ensures { (g : ℕ) → Takes g (at_part so_far parts.Root) line.now result }
+pub(crate) fn root_line(line: &[u8]) -> Option<Stage>
+    ensures { (g : ℕ) (s : SoFar) → LeadsTo g (at_part s parts.Root) s line.now result }
 {
     match number_after(line, b"root", MOST_COUNT) {
         None => None,
-        Some(count) => Some(then_root(so_far, count)),
+        Some(count) => Some(then_root(count)),
     }
 }

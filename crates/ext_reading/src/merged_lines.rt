@@ -1,21 +1,22 @@
 // The lines of merged names, and the line after them.
 ghost use Rattle.std.specs.Prelude.{◌≡◌, ◌≢◌, ◌<◌, ◌≤◌, [], ℕ, codes, IfOk};
-ghost use Rattle.ext_reading.specs.Reading.{Takes};
+ghost use Rattle.ext_reading.specs.Reading.{LeadsTo};
 ghost use Rattle.ext_reading.specs.State.{at_part};
 ghost use Rattle.ext_reading.specs.Step.{OneMoreName, TellsMerged};
 ghost use Rattle.ext_reading.specs.declared.state.PartStage.TheVariants as parts;
+ghost use Rattle.ext_reading.specs.declared.state.SoFar.{SoFar};
 
 use crate::following::follows_as_version;
 use crate::next::{then_attached, then_confext, then_sysext};
-use crate::state::{Reading, SoFar};
+use crate::state::{SoFar, Stage};
 use ext_lines::OutOfMemory;
 use ext_record::{MOST_COUNT, name_after, number_after};
 use ext_text::Names;
 use std::alloc::Global;
 
 /// After the first line of the parts: that of merged system extensions, or one of those that may follow them.
-pub(crate) fn sysext_line(alloc: Global, so_far: SoFar, line: &[u8]) -> Option<Reading>
-    ensures { (g : ℕ) → Takes g (at_part so_far parts.Sysext) line.now result }
+pub(crate) fn sysext_line(alloc: Global, so_far: &mut SoFar, line: &[u8]) -> Option<Stage>
+    ensures { (g : ℕ) → LeadsTo g (at_part so_far.old parts.Sysext) so_far.new line.now result }
 {
     match merged_count(line, b"sysext") {
         Some(count) => Some(then_sysext(so_far, count, Names::new(alloc))),
@@ -26,12 +27,12 @@ pub(crate) fn sysext_line(alloc: Global, so_far: SoFar, line: &[u8]) -> Option<R
 /// After the line of a merged system extension.
 pub(crate) fn sysext_name_line(
     alloc: Global,
-    so_far: SoFar,
+    so_far: &mut SoFar,
     more: u64,
     names: Names,
     line: &[u8],
-) -> Result<Option<Reading>, OutOfMemory>
-    ensures { (g : ℕ) → IfOk result (Takes g (at_part so_far (parts.SysextName more names)) line.now) }
+) -> Result<Option<Stage>, OutOfMemory>
+    ensures { (g : ℕ) → IfOk result (LeadsTo g (at_part so_far.old (parts.SysextName more names)) so_far.new line.now) }
 {
     match one_more_name(alloc, names, line)? {
         None => Ok(None),
@@ -40,24 +41,24 @@ pub(crate) fn sysext_name_line(
 }
 
 /// After the line of merged configuration extensions, or that of attachments.
-pub(crate) fn confext_line(alloc: Global, so_far: SoFar, line: &[u8]) -> Option<Reading>
-    ensures { (g : ℕ) → Takes g (at_part so_far parts.Confext) line.now result }
+pub(crate) fn confext_line(alloc: Global, so_far: &mut SoFar, line: &[u8]) -> Option<Stage>
+    ensures { (g : ℕ) → LeadsTo g (at_part so_far.old parts.Confext) so_far.new line.now result }
 {
     match merged_count(line, b"confext") {
         Some(count) => Some(then_confext(so_far, count, Names::new(alloc))),
-        None => attached_line(so_far, line),
+        None => attached_line(line),
     }
 }
 
 /// After the line of a merged configuration extension.
 pub(crate) fn confext_name_line(
     alloc: Global,
-    so_far: SoFar,
+    so_far: &mut SoFar,
     more: u64,
     names: Names,
     line: &[u8],
-) -> Result<Option<Reading>, OutOfMemory>
-    ensures { (g : ℕ) → IfOk result (Takes g (at_part so_far (parts.ConfextName more names)) line.now) }
+) -> Result<Option<Stage>, OutOfMemory>
+    ensures { (g : ℕ) → IfOk result (LeadsTo g (at_part so_far.old (parts.ConfextName more names)) so_far.new line.now) }
 {
     match one_more_name(alloc, names, line)? {
         None => Ok(None),
@@ -66,12 +67,12 @@ pub(crate) fn confext_name_line(
 }
 
 /// After the line that tells how many attachments there are.
-pub(crate) fn attached_line(so_far: SoFar, line: &[u8]) -> Option<Reading>
-    ensures { (g : ℕ) → Takes g (at_part so_far parts.Attached) line.now result }
+pub(crate) fn attached_line(line: &[u8]) -> Option<Stage>
+    ensures { (g : ℕ) (s : SoFar) → LeadsTo g (at_part s parts.Attached) s line.now result }
 {
     match number_after(line, b"attached", MOST_COUNT) {
         None => None,
-        Some(count) => Some(then_attached(so_far, count)),
+        Some(count) => Some(then_attached(count)),
     }
 }
 

@@ -1,209 +1,196 @@
-// What stands next where so many of a kind follow, and what is complete where none does.
-ghost use Rattle.std.specs.Prelude.{◌≡◌, if◌then◌else◌, IfOk};
-ghost use Rattle.ext_reading.specs.State.{after_parts, at, at_part, host_done, past_done, past_of, then_added, then_attached, then_confext, then_hierarchies, then_items, then_kept, then_lower, then_machine, then_past, then_root, then_sysext, with_defaults};
+// What stands next where so many of a kind follow, and what is complete where none does. What has been read is changed where it
+// stands and never moved.
+ghost use Rattle.std.specs.Prelude.{◌≡◌, if◌then◌else◌, IfOk, OnOk};
+ghost use Rattle.ext_reading.specs.State.{after_parts, at, host_done, past_done, past_of, then_added, then_attached, then_confext, then_hierarchies, then_items, then_kept, then_lower, then_machine, then_past, then_root, then_sysext, with_defaults};
+ghost use Rattle.ext_reading.specs.declared.state.SoFar.{SoFar};
 ghost use Rattle.ext_reading.specs.declared.state.Stage.TheVariants as stages;
 
-use crate::state::{PartStage, Parts, Reading, SoFar, Stage, Whose, no_parts};
+use crate::state::{PartStage, Parts, SoFar, Stage, Whose, no_parts};
 use ext_host::{Attachment, Manifest, Past, default_hierarchies};
 use ext_lines::OutOfMemory;
 use ext_text::{Class, Names};
 use std::alloc::Global;
 use std::mem;
 
-pub(crate) fn at(so_far: SoFar, stage: Stage) -> Reading
-    ensures { result ≡ at so_far stage }
-{
-    Reading { so_far, stage }
-}
-
-pub(crate) fn at_part(so_far: SoFar, stage: PartStage) -> Reading
-    ensures { result ≡ at_part so_far stage }
-{
-    at(so_far, Stage::Part(stage))
-}
-
 /// After the line of the machine. A text with number 1 means the default hierarchies.
-pub(crate) fn then_machine(alloc: Global, so_far: SoFar) -> Result<Reading, OutOfMemory>
-    ensures { IfOk result (λ t. t ≡ then_machine so_far) }
+pub(crate) fn then_machine(alloc: Global, so_far: &mut SoFar) -> Result<Stage, OutOfMemory>
+    ensures { IfOk result (λ stage. at so_far.new stage ≡ then_machine so_far.old) }
 {
     if so_far.two {
-        return Ok(at(so_far, Stage::Hierarchies));
+        return Ok(Stage::Hierarchies);
     }
-    Ok(at_part(with_defaults(alloc, so_far)?, PartStage::Sysext))
+    set_defaults(alloc, so_far)?;
+    Ok(Stage::Part(PartStage::Sysext))
 }
 
-// With the default hierarchies.
-fn with_defaults(alloc: Global, mut so_far: SoFar) -> Result<SoFar, OutOfMemory>
-    ensures { IfOk result (λ s. s ≡ with_defaults so_far) }
+// Sets the default hierarchies.
+fn set_defaults(alloc: Global, so_far: &mut SoFar) -> Result<(), OutOfMemory>
+    ensures { OnOk result (so_far.new ≡ with_defaults so_far.old) }
 {
     so_far.sysext_hier = default_hierarchies(alloc, Class::Sysext)?;
     so_far.confext_hier = default_hierarchies(alloc, Class::Confext)?;
-    Ok(so_far)
+    Ok(())
 }
 
-pub(crate) fn then_hierarchies(so_far: SoFar, count: u64) -> Reading
-    ensures { result ≡ then_hierarchies so_far count }
+pub(crate) fn then_hierarchies(count: u64) -> Stage
+    ensures { (s : SoFar) → at s result ≡ then_hierarchies s count }
 {
     if count == 0 {
-        return at_part(so_far, PartStage::Sysext);
+        return Stage::Part(PartStage::Sysext);
     }
-    at(so_far, Stage::Hierarchy { more: count - 1 })
+    Stage::Hierarchy { more: count - 1 }
 }
 
-pub(crate) fn then_sysext(mut so_far: SoFar, count: u64, names: Names) -> Reading
-    ensures { result ≡ then_sysext so_far count names }
+pub(crate) fn then_sysext(so_far: &mut SoFar, count: u64, names: Names) -> Stage
+    ensures { at so_far.new result ≡ then_sysext so_far.old count names }
 {
     if count == 0 {
         so_far.parts.sysext = Some(names);
-        return at_part(so_far, PartStage::Confext);
+        return Stage::Part(PartStage::Confext);
     }
     let more = count - 1;
-    at_part(so_far, PartStage::SysextName { more, names })
+    Stage::Part(PartStage::SysextName { more, names })
 }
 
-pub(crate) fn then_confext(mut so_far: SoFar, count: u64, names: Names) -> Reading
-    ensures { result ≡ then_confext so_far count names }
+pub(crate) fn then_confext(so_far: &mut SoFar, count: u64, names: Names) -> Stage
+    ensures { at so_far.new result ≡ then_confext so_far.old count names }
 {
     if count == 0 {
         so_far.parts.confext = Some(names);
-        return at_part(so_far, PartStage::Attached);
+        return Stage::Part(PartStage::Attached);
     }
     let more = count - 1;
-    at_part(so_far, PartStage::ConfextName { more, names })
+    Stage::Part(PartStage::ConfextName { more, names })
 }
 
-pub(crate) fn then_attached(so_far: SoFar, count: u64) -> Reading
-    ensures { result ≡ then_attached so_far count }
+pub(crate) fn then_attached(count: u64) -> Stage
+    ensures { (s : SoFar) → at s result ≡ then_attached s count }
 {
     if count == 0 {
-        return at_part(so_far, PartStage::Kept);
+        return Stage::Part(PartStage::Kept);
     }
-    at_part(so_far, PartStage::Attachment { more: count - 1 })
+    Stage::Part(PartStage::Attachment { more: count - 1 })
 }
 
 /// Where so many paths of an attachment follow, and after it so many attachments.
 pub(crate) fn then_added(
-    mut so_far: SoFar,
+    so_far: &mut SoFar,
     more: u64,
     count: u64,
     attachment: Attachment,
-) -> Result<Reading, OutOfMemory>
-    ensures { IfOk result (λ t. t ≡ then_added so_far more count attachment) }
+) -> Result<Stage, OutOfMemory>
+    ensures { IfOk result (λ stage. at so_far.new stage ≡ then_added so_far.old more count attachment) }
 {
     if count == 0 {
         so_far.parts.attached.push(attachment)?;
-        return Ok(then_attached(so_far, more));
+        return Ok(then_attached(more));
     }
     let paths = count - 1;
-    Ok(at_part(
-        so_far,
-        PartStage::Added {
-            more,
-            paths,
-            attachment,
-        },
-    ))
+    Ok(Stage::Part(PartStage::Added {
+        more,
+        paths,
+        attachment,
+    }))
 }
 
-pub(crate) fn then_kept(so_far: SoFar, count: u64) -> Reading
-    ensures { result ≡ then_kept so_far count }
+pub(crate) fn then_kept(count: u64) -> Stage
+    ensures { (s : SoFar) → at s result ≡ then_kept s count }
 {
     if count == 0 {
-        return at_part(so_far, PartStage::Root);
+        return Stage::Part(PartStage::Root);
     }
-    at_part(so_far, PartStage::Manifest { more: count - 1 })
+    Stage::Part(PartStage::Manifest { more: count - 1 })
 }
 
 /// Where so many items of a manifest follow, and after it so many manifests.
 pub(crate) fn then_items(
-    mut so_far: SoFar,
+    so_far: &mut SoFar,
     more: u64,
     count: u64,
     manifest: Manifest,
-) -> Result<Reading, OutOfMemory>
-    ensures { IfOk result (λ t. t ≡ then_items so_far more count manifest) }
+) -> Result<Stage, OutOfMemory>
+    ensures { IfOk result (λ stage. at so_far.new stage ≡ then_items so_far.old more count manifest) }
 {
     if count == 0 {
         so_far.parts.kept.push(manifest)?;
-        return Ok(then_kept(so_far, more));
+        return Ok(then_kept(more));
     }
     let items = count - 1;
-    Ok(at_part(
-        so_far,
-        PartStage::Item {
-            more,
-            items,
-            manifest,
-        },
-    ))
+    Ok(Stage::Part(PartStage::Item {
+        more,
+        items,
+        manifest,
+    }))
 }
 
-pub(crate) fn then_root(so_far: SoFar, count: u64) -> Reading
-    ensures { result ≡ then_root so_far count }
+pub(crate) fn then_root(count: u64) -> Stage
+    ensures { (s : SoFar) → at s result ≡ then_root s count }
 {
     if count == 0 {
-        return at_part(so_far, PartStage::Lower);
+        return Stage::Part(PartStage::Lower);
     }
-    at_part(so_far, PartStage::RootEntry { more: count - 1 })
+    Stage::Part(PartStage::RootEntry { more: count - 1 })
 }
 
-pub(crate) fn then_lower(alloc: Global, so_far: SoFar, count: u64) -> Result<Reading, OutOfMemory>
-    ensures { IfOk result (λ t. t ≡ then_lower so_far count) }
+pub(crate) fn then_lower(
+    alloc: Global,
+    so_far: &mut SoFar,
+    count: u64,
+) -> Result<Stage, OutOfMemory>
+    ensures { IfOk result (λ stage. at so_far.new stage ≡ then_lower so_far.old count) }
 {
     if count == 0 {
         return after_parts(alloc, so_far);
     }
-    Ok(at_part(so_far, PartStage::LowerEntry { more: count - 1 }))
+    Ok(Stage::Part(PartStage::LowerEntry { more: count - 1 }))
 }
 
-pub(crate) fn then_past(so_far: SoFar, count: u64) -> Reading
-    ensures { result ≡ then_past so_far count }
+pub(crate) fn then_past(count: u64) -> Stage
+    ensures { (s : SoFar) → at s result ≡ then_past s count }
 {
     if count == 0 {
-        return at(so_far, Stage::End);
+        return Stage::End;
     }
-    at(so_far, Stage::Generation { more: count - 1 })
+    Stage::Generation { more: count - 1 }
 }
 
 // After the parts of the host, or of a past tree.
-fn after_parts(alloc: Global, so_far: SoFar) -> Result<Reading, OutOfMemory>
-    ensures { IfOk result (λ t. t ≡ after_parts so_far so_far.whose) }
+fn after_parts(alloc: Global, so_far: &mut SoFar) -> Result<Stage, OutOfMemory>
+    ensures { IfOk result (λ stage. at so_far.new stage ≡ after_parts so_far.old so_far.old.whose) }
 {
     match so_far.whose {
-        Whose::Host => Ok(after_host(host_done(alloc, so_far))),
+        Whose::Host => {
+            host_done(alloc, so_far);
+            Ok(after_host(so_far.two))
+        }
         Whose::Past { generation, more } => {
-            let so_far = past_done(alloc, so_far, generation)?;
-            Ok(then_past(so_far, more))
+            past_done(alloc, so_far, generation)?;
+            Ok(then_past(more))
         }
     }
 }
 
 // After those of the host, which are complete.
-fn after_host(so_far: SoFar) -> Reading
-    ensures { result ≡ (if so_far.two then at so_far stages.Past else at so_far stages.End) }
+fn after_host(two: bool) -> Stage
+    ensures { (s : SoFar) → at s result ≡ (if two then at s stages.Past else at s stages.End) }
 {
-    if so_far.two {
-        at(so_far, Stage::Past)
-    } else {
-        at(so_far, Stage::End)
-    }
+    if two { Stage::Past } else { Stage::End }
 }
 
 // The parts are the host's.
-fn host_done(alloc: Global, mut so_far: SoFar) -> SoFar
-    ensures { result ≡ host_done so_far }
+fn host_done(alloc: Global, so_far: &mut SoFar)
+    ensures { so_far.new ≡ host_done so_far.old }
 {
     so_far.host = mem::replace(&mut so_far.parts, no_parts(alloc));
-    so_far
 }
 
 // The parts are those of the past generation.
-fn past_done(alloc: Global, mut so_far: SoFar, generation: u32) -> Result<SoFar, OutOfMemory>
-    ensures { IfOk result (λ s. s ≡ past_done so_far generation) }
+fn past_done(alloc: Global, so_far: &mut SoFar, generation: u32) -> Result<(), OutOfMemory>
+    ensures { OnOk result (so_far.new ≡ past_done so_far.old generation) }
 {
     let parts = mem::replace(&mut so_far.parts, no_parts(alloc));
     so_far.past.push(past_of(generation, parts))?;
-    Ok(so_far)
+    Ok(())
 }
 
 // The past tree of these parts.

@@ -1,14 +1,15 @@
 // The lines of past trees, apart from their parts, and the last line.
 ghost use Rattle.std.specs.Prelude.{◌≡◌, ◌≢◌, ◌<◌, ◌≤◌, ◌↔◌, ℕ, codes, IsTrue, MatchOption};
 ghost use Rattle.ext_record.specs.Lines.{number_line};
-ghost use Rattle.ext_reading.specs.Reading.{Takes};
+ghost use Rattle.ext_reading.specs.Reading.{LeadsTo};
 ghost use Rattle.ext_reading.specs.State.{at};
 ghost use Rattle.ext_reading.specs.Step.{MayBePast};
+ghost use Rattle.ext_reading.specs.declared.state.SoFar.{SoFar};
 ghost use Rattle.ext_reading.specs.declared.state.Stage.TheVariants as stages;
 
 use crate::following::follows_as_generation;
-use crate::next::{at, at_part, then_past};
-use crate::state::{PartStage, Reading, SoFar, Stage, Whose};
+use crate::next::then_past;
+use crate::state::{PartStage, SoFar, Stage, Whose};
 use ext_record::{MOST_COUNT, number_after};
 
 /// The last line of an index.
@@ -21,35 +22,35 @@ const LAST_GENERATION: u64 = 4_294_967_295;
 const MOST_PAST: usize = 16;
 
 /// After the line that tells how many past trees there are.
-pub(crate) fn past_line(so_far: SoFar, line: &[u8]) -> Option<Reading>
-    ensures { (g : ℕ) → Takes g (at so_far stages.Past) line.now result }
+pub(crate) fn past_line(line: &[u8]) -> Option<Stage>
+    ensures { (g : ℕ) (s : SoFar) → LeadsTo g (at s stages.Past) s line.now result }
 {
     match number_after(line, b"past", MOST_COUNT) {
         None => None,
-        Some(count) => Some(then_past(so_far, count)),
+        Some(count) => Some(then_past(count)),
     }
 }
 
 /// After the line of the generation of a past tree.
 pub(crate) fn generation_line(
     generation: u32,
-    mut so_far: SoFar,
+    so_far: &mut SoFar,
     more: u64,
     line: &[u8],
-) -> Option<Reading>
-    ensures { Takes generation (at so_far (stages.Generation more)) line.now result }
+) -> Option<Stage>
+    ensures { LeadsTo generation (at so_far.old (stages.Generation more)) so_far.new line.now result }
 {
     match generation_before(generation, line) {
         None => None,
         Some(past) => {
-            if !may_be_past(&so_far, past) {
+            if !may_be_past(so_far, past) {
                 return None;
             }
             so_far.whose = Whose::Past {
                 generation: past,
                 more,
             };
-            Some(at_part(so_far, PartStage::Sysext))
+            Some(Stage::Part(PartStage::Sysext))
         }
     }
 }
@@ -86,11 +87,11 @@ fn may_be_past(so_far: &SoFar, generation: u32) -> bool
 }
 
 /// After the last line.
-pub(crate) fn end_line(so_far: SoFar, line: &[u8]) -> Option<Reading>
-    ensures { (g : ℕ) → Takes g (at so_far stages.End) line.now result }
+pub(crate) fn end_line(line: &[u8]) -> Option<Stage>
+    ensures { (g : ℕ) (s : SoFar) → LeadsTo g (at s stages.End) s line.now result }
 {
     if line != END {
         return None;
     }
-    Some(at(so_far, Stage::Done))
+    Some(Stage::Done)
 }

@@ -1,7 +1,7 @@
 // Reads an index line by line.
 ghost use Rattle.std.specs.Prelude.{◌≡◌};
-ghost use Rattle.ext_reading.specs.Reading.{Finishes, ReadsLines};
-ghost use Rattle.ext_reading.specs.State.{host_of};
+ghost use Rattle.ext_reading.specs.Reading.{Finishes, ReadsAll, ReadsLines};
+ghost use Rattle.ext_reading.specs.State.{host_of, start};
 
 use crate::err::IndexErr;
 use crate::said::Said;
@@ -21,13 +21,27 @@ pub fn read_lines(alloc: Global, bytes: &[u8], generation: u32) -> Result<Said, 
     ensures { ReadsLines generation bytes.now result }
 {
     let mut reading = start(alloc);
+    read_all(alloc, bytes, generation, &mut reading)?;
+    Ok(said_of(reading.so_far))
+}
+
+// Reads the lines from the first one to the end. Where it fails, what was read is of no use.
+fn read_all(
+    alloc: Global,
+    bytes: &[u8],
+    generation: u32,
+    reading: &mut Reading,
+) -> Result<(), IndexErr>
+    requires { reading.old ≡ start }
+    ensures { ReadsAll generation bytes.now reading.new.so_far result }
+{
     let mut rest = bytes;
     let mut line = 1;
     'lines: loop {
         match split_line(rest) {
-            None => return finished(reading, rest, line),
+            None => return finished(&reading.stage, rest, line),
             Some((text, after)) => {
-                if !read_line(alloc, generation, &mut reading, text)? {
+                if !read_line(alloc, generation, reading, text)? {
                     return Err(IndexErr::Broken { line });
                 }
                 rest = after;
@@ -37,16 +51,16 @@ pub fn read_lines(alloc: Global, bytes: &[u8], generation: u32) -> Result<Said, 
     }
 }
 
-// What was read where no more lines follow, and the next one has this number.
-fn finished(reading: Reading, rest: &[u8], line: u64) -> Result<Said, IndexErr>
-    ensures { Finishes reading rest.now line result }
+// Whether all was read, where no more lines follow and the next one has this number.
+fn finished(stage: &Stage, rest: &[u8], line: u64) -> Result<(), IndexErr>
+    ensures { Finishes stage.now rest.now line result }
 {
-    match reading.stage {
+    match stage {
         Stage::Done => {
             if !rest.is_empty() {
                 return Err(IndexErr::Broken { line });
             }
-            Ok(said_of(reading.so_far))
+            Ok(())
         }
         _ => Err(IndexErr::Broken { line }),
     }

@@ -1,7 +1,7 @@
 // What is read after a line.
 ghost use Rattle.std.specs.Prelude.{◌≡◌, IfOk};
-ghost use Rattle.ext_reading.specs.Reading.{Reads, Takes};
-ghost use Rattle.ext_reading.specs.State.{at_part};
+ghost use Rattle.ext_reading.specs.Reading.{LeadsTo, Reads};
+ghost use Rattle.ext_reading.specs.State.{at, at_part};
 
 use crate::attachment_lines::{added_line, attachment_line, image_line, kept_line, place_line};
 use crate::machine_lines::{header_line, hierarchies_line, hierarchy_line, machine_line};
@@ -10,7 +10,7 @@ use crate::merged_lines::{
     attached_line, confext_line, confext_name_line, sysext_line, sysext_name_line,
 };
 use crate::past_lines::{end_line, generation_line, past_line};
-use crate::state::{PartStage, Reading, SoFar, Stage, start};
+use crate::state::{PartStage, Reading, SoFar, Stage};
 use crate::tree_lines::{add_lower, add_root, lower_entry_line, lower_line, root_entry_line};
 use ext_lines::OutOfMemory;
 use std::alloc::Global;
@@ -56,48 +56,48 @@ fn read_last(
 ) -> Result<bool, OutOfMemory>
     ensures { IfOk result (Reads generation reading.old reading.new line.now) }
 {
-    let before = mem::replace(reading, start(alloc));
-    match step(alloc, generation, before, line)? {
+    let stage = mem::replace(&mut reading.stage, Stage::Done);
+    match step(alloc, generation, &mut reading.so_far, stage, line)? {
         None => Ok(false),
         Some(next) => {
-            *reading = next;
+            reading.stage = next;
             Ok(true)
         }
     }
 }
 
-// What is read after a line; `None` where it may not stand next.
+// What stands next after a line, which is read into what was read before; `None` where it may not stand next.
 fn step(
     alloc: Global,
     generation: u32,
-    reading: Reading,
+    so_far: &mut SoFar,
+    stage: Stage,
     line: &[u8],
-) -> Result<Option<Reading>, OutOfMemory>
-    ensures { IfOk result (Takes generation reading line.now) }
+) -> Result<Option<Stage>, OutOfMemory>
+    ensures { IfOk result (LeadsTo generation (at so_far.old stage) so_far.new line.now) }
 {
-    let Reading { so_far, stage } = reading;
     match stage {
         Stage::Header => Ok(header_line(so_far, line)),
         Stage::Machine => machine_line(alloc, so_far, line),
-        Stage::Hierarchies => Ok(hierarchies_line(so_far, line)),
+        Stage::Hierarchies => Ok(hierarchies_line(line)),
         Stage::Hierarchy { more } => hierarchy_line(alloc, so_far, more, line),
         Stage::Part(part) => part_step(alloc, generation, so_far, part, line),
-        Stage::Past => Ok(past_line(so_far, line)),
+        Stage::Past => Ok(past_line(line)),
         Stage::Generation { more } => Ok(generation_line(generation, so_far, more, line)),
-        Stage::End => Ok(end_line(so_far, line)),
+        Stage::End => Ok(end_line(line)),
         Stage::Done => Ok(None),
     }
 }
 
-// What is read after a line of the parts.
+// What stands next after a line of the parts.
 fn part_step(
     alloc: Global,
     generation: u32,
-    so_far: SoFar,
+    so_far: &mut SoFar,
     part: PartStage,
     line: &[u8],
-) -> Result<Option<Reading>, OutOfMemory>
-    ensures { IfOk result (Takes generation (at_part so_far part) line.now) }
+) -> Result<Option<Stage>, OutOfMemory>
+    ensures { IfOk result (LeadsTo generation (at_part so_far.old part) so_far.new line.now) }
 {
     match part {
         PartStage::Sysext => Ok(sysext_line(alloc, so_far, line)),
@@ -108,8 +108,8 @@ fn part_step(
         PartStage::ConfextName { more, names } => {
             confext_name_line(alloc, so_far, more, names, line)
         }
-        PartStage::Attached => Ok(attached_line(so_far, line)),
-        PartStage::Attachment { more } => Ok(attachment_line(so_far, more, line)),
+        PartStage::Attached => Ok(attached_line(line)),
+        PartStage::Attachment { more } => Ok(attachment_line(more, line)),
         PartStage::Image {
             more,
             paths,
@@ -126,14 +126,14 @@ fn part_step(
             paths,
             attachment,
         } => added_line(alloc, so_far, more, paths, attachment, line),
-        PartStage::Kept => Ok(kept_line(so_far, line)),
+        PartStage::Kept => Ok(kept_line(line)),
         PartStage::Manifest { more } => manifest_line(alloc, so_far, more, line),
         PartStage::Item {
             more,
             items,
             manifest,
         } => item_line(alloc, so_far, more, items, manifest, line),
-        PartStage::Root => Ok(root_line(so_far, line)),
+        PartStage::Root => Ok(root_line(line)),
         PartStage::RootEntry { more } => root_entry_line(alloc, generation, so_far, more, line),
         PartStage::Lower => lower_line(alloc, so_far, line),
         PartStage::LowerEntry { more } => lower_entry_line(alloc, generation, so_far, more, line),

@@ -5,14 +5,14 @@ ghost use Rattle.ext_tree.specs.Tree.{IsTree};
 ghost use Rattle.ext_tree.specs.declared.entry.Entry.{Entry};
 ghost use Rattle.ext_host.specs.Held.{HeldFile};
 ghost use Rattle.ext_host.specs.Host.{is_in, where_merged};
-ghost use Rattle.ext_reading.specs.Reading.{Takes};
+ghost use Rattle.ext_reading.specs.Reading.{LeadsTo};
 ghost use Rattle.ext_reading.specs.State.{at_part, merged_so_far};
 ghost use Rattle.ext_reading.specs.Step.{AddsLower, AddsRoot};
 ghost use Rattle.ext_reading.specs.declared.state.PartStage.TheVariants as parts;
 
 use crate::entry_lines::entered;
 use crate::next::{then_lower, then_root};
-use crate::state::{Reading, SoFar};
+use crate::state::{SoFar, Stage};
 use ext_lines::OutOfMemory;
 use ext_record::{MOST_COUNT, number_after};
 use ext_text::{Name, Names, Path};
@@ -44,25 +44,25 @@ pub(crate) fn add_root(
 pub(crate) fn root_entry_line(
     alloc: Global,
     generation: u32,
-    mut so_far: SoFar,
+    so_far: &mut SoFar,
     more: u64,
     line: &[u8],
-) -> Result<Option<Reading>, OutOfMemory>
-    ensures { IfOk result (Takes generation (at_part so_far (parts.RootEntry more)) line.now) }
+) -> Result<Option<Stage>, OutOfMemory>
+    ensures { IfOk result (LeadsTo generation (at_part so_far.old (parts.RootEntry more)) so_far.new line.now) }
 {
-    if !add_root(alloc, generation, &mut so_far, line)? {
+    if !add_root(alloc, generation, so_far, line)? {
         return Ok(None);
     }
-    Ok(Some(then_root(so_far, more)))
+    Ok(Some(then_root(more)))
 }
 
 /// After the line that tells how many entries lie under them.
 pub(crate) fn lower_line(
     alloc: Global,
-    so_far: SoFar,
+    so_far: &mut SoFar,
     line: &[u8],
-) -> Result<Option<Reading>, OutOfMemory>
-    ensures { (g : ℕ) → IfOk result (Takes g (at_part so_far parts.Lower) line.now) }
+) -> Result<Option<Stage>, OutOfMemory>
+    ensures { (g : ℕ) → IfOk result (LeadsTo g (at_part so_far.old parts.Lower) so_far.new line.now) }
 {
     match number_after(line, b"lower", MOST_COUNT) {
         None => Ok(None),
@@ -96,13 +96,13 @@ pub(crate) fn add_lower(
 pub(crate) fn lower_entry_line(
     alloc: Global,
     generation: u32,
-    mut so_far: SoFar,
+    so_far: &mut SoFar,
     more: u64,
     line: &[u8],
-) -> Result<Option<Reading>, OutOfMemory>
-    ensures { IfOk result (Takes generation (at_part so_far (parts.LowerEntry more)) line.now) }
+) -> Result<Option<Stage>, OutOfMemory>
+    ensures { IfOk result (LeadsTo generation (at_part so_far.old (parts.LowerEntry more)) so_far.new line.now) }
 {
-    if !add_lower(alloc, generation, &mut so_far, line)? {
+    if !add_lower(alloc, generation, so_far, line)? {
         return Ok(None);
     }
     Ok(Some(then_lower(alloc, so_far, more)?))

@@ -1,6 +1,6 @@
 use Rattle.std.proofs.Common.{◌+◌, ◌≤◌, length}
 use Rattle.ext_reading.specs.Reading.{IsRead}
-use Rattle.ext_reading.proofs.reading.read_lines.Given as goal
+use Rattle.ext_reading.proofs.reading.read_all.Given as goal
 
 -- the bytes are the lines so far, which may stand where they do, and the rest
 abbrev pub invariant-lines : goal.invariant-lines
