@@ -1,32 +1,14 @@
-"""The launcher, in a repository of its own whose `rt` is a script: what it tells while the program is built, that it builds
-once and after an edit, and what it does where the build fails."""
+"""The launcher: which program it runs, what it tells while one is built, that it builds once and after an edit, what it does where
+nothing can be run, and what it costs. The kit is a script."""
 import os
-import re
 import shutil
-import subprocess
 import tempfile
 import time
-from pathlib import Path
 
-from scenes.running import SECONDS, TOP, Failed, expect, shortened
-
-
-def fill(place):
-    """Makes a repository of the launcher, a program that isn't built, a crate below it and one beside it."""
-    for part in ("low/src", "ext_cli/src", "ext_cli/out"):
-        Path(place, "crates", part).mkdir(parents=True)
-    Path(place, "crates.txt").write_text("# a comment\nlow:\nbeside: low\next_cli: low thiserror\n")
-    shutil.copy(TOP / "hostext", place)
-
-
-def launch(place, kit, words):
-    """Runs the launcher with an `rt` of these lines of a shell, and gives what it writes, tells and ends with."""
-    Path(place, "rt").write_text(f"#!/bin/sh\n{kit}\n")
-    Path(place, "rt").chmod(0o755)
-    around = {**os.environ, "PATH": f"{place}:{os.environ['PATH']}"}
-    ended = subprocess.run([place / "hostext", *words], env=around, stdin=subprocess.DEVNULL, capture_output=True, timeout=SECONDS)
-    return ended.stdout, re.sub(rb"\(\d+ min \d+ s\)", b"(TIME)", ended.stderr), ended.returncode
-
+from scenes.devices import become_nobody
+from scenes.repositories import CARRIED, clone, end, in_each, small
+from scenes.running import TOP, Failed, expect, shortened
+from scenes.sessions import the_first_session
 
 PROVES = r"""
 echo "crate low: modules loaded=1"
@@ -41,31 +23,202 @@ echo "this goal is open"
 echo "logic=not-proved" >&2
 exit 1"""
 
-BEGINS = b"hostext: proving and building the program; the first time this takes long\nhostext: 1 of 2 crates proved: low (TIME)\n"
-BUILT_IT = BEGINS + b"hostext: 2 of 2 crates proved: ext_cli (TIME)\nhostext: built (TIME)\n"
+BEGINS = b"hostext: proving and building the program; the first time this takes long\n"
+TELLS = BEGINS + b"hostext: 1 of 2 crates proved: low (TIME)\n"
+BUILT_IT = TELLS + b"hostext: 2 of 2 crates proved: ext_cli (TIME)\nhostext: built (TIME)\n"
+ECHO = b'#!/bin/sh\necho "carried $@"\n'
+OTHER_SOURCES = b"the carried program was made of other sources"
+OTHER_BYTES = b"the carried program has other bytes than dist/x86_64-linux/made-from says"
 
 
-def the_launcher_tells_each_crate_and_builds_once(place):
-    expect(launch(place, BUILDS, ["a", "b c"]), (b"a b c\n", BUILT_IT, 23))
-    expect(launch(place, "exit 1", ["a"]), (b"a\n", b"", 23))
+def needs_the_kit(why):
+    """The two lines where nothing fits and there is no kit."""
+    begin = b"hostext: %s, so it has to be proved and built; that takes the Rattle kit, whose command rt isn't on the PATH\n"
+    kit = b"hostext: the Rattle kit is the prover, the compiler and the libraries of Rattle, the language of hostext; README.md names its version\n"
+    return b"", begin % why + kit, 125
+
+
+def the_launcher_tells_each_crate_and_builds_once(repository):
+    repository.tool("rt", BUILDS)
+    expect(repository.run("hostext", "a", "b c"), (b"a b c\n", BUILT_IT, 23))
+    repository.tool("rt", "exit 1")
+    expect(repository.run("hostext", "a"), (b"a\n", b"", 23))
     time.sleep(0.01)
-    Path(place, "crates/low/src/lib.rt").write_text("edited")
-    expect(launch(place, BUILDS, []), (b"\n", BUILT_IT, 23))
+    repository.write("crates/beside/src/lib.rt", b"edited")
+    shutil.rmtree(repository.home / ".cache")
+    expect(repository.run("hostext", "a"), (b"a\n", b"", 23))
+    repository.write("crates/low/src/lib.rt", b"edited")
+    repository.tool("rt", BUILDS)
+    expect(repository.run("hostext"), (b"\n", BUILT_IT, 23))
 
 
-def a_build_that_fails_is_told_with_the_end_of_what_the_kit_says(place):
-    written, told, status = launch(place, FAILS, ["a"])
-    expect((written, told[: len(BEGINS)], status), (b"", BEGINS, 125))
-    end = b"\nthis goal is open\nlogic=not-proved\nthe kit ended with 1\nhostext: the build failed\n"
-    if not told.endswith(end):
-        raise Failed(f"it tells {shortened(told)}, whose end isn't {shortened(end)}")
+def a_build_that_fails_is_told_with_the_end_of_what_the_kit_says(repository):
+    repository.tool("rt", FAILS)
+    written, told, status = repository.run("hostext", "a")
+    expect((written, told[: len(TELLS)], status), (b"", TELLS, 125))
+    last = b"\nthis goal is open\nlogic=not-proved\nthe kit ended with 1\nhostext: the build failed\n"
+    if not told.endswith(last):
+        raise Failed(f"it tells {shortened(told)}, whose end isn't {shortened(last)}")
 
 
-def scenes(_program):
-    def in_a_repository(call):
-        with tempfile.TemporaryDirectory() as folder:
-            fill(Path(folder))
-            call(Path(folder))
+def an_edit_while_it_builds_is_newer_than_the_program(repository):
+    repository.tool("rt", "sleep 0.05\necho edited >../low/src/lib.rt\nsleep 0.05\n" + BUILDS)
+    expect(repository.run("hostext"), (b"\n", BUILT_IT, 23))
+    repository.tool("rt", BUILDS)
+    expect(repository.run("hostext"), (b"\n", BUILT_IT, 23))
+    expect(repository.run("hostext"), (b"\n", b"", 23))
 
-    for call in the_launcher_tells_each_crate_and_builds_once, a_build_that_fails_is_told_with_the_end_of_what_the_kit_says:
-        yield call.__name__.replace("_", " "), lambda call=call: in_a_repository(call)
+
+def two_launches_at_once_build_once(repository):
+    repository.tool("rt", "echo once >>../../times\nsleep 1\n" + BUILDS)
+    launches = [repository.start("hostext", "a") for _ in range(2)]
+    waits = b"hostext: waiting for another launch, which builds\n"
+    found = sorted((end(launch) for launch in launches), key=lambda ended: ended[1] != waits)
+    expect(found[0], (b"a\n", waits, 23))
+    expect(found[1], (b"a\n", BUILT_IT, 23))
+    if (repository.place / "times").read_text() != "once\n":
+        raise Failed("it was built twice")
+
+
+def the_built_program_goes_before_the_carried_one_where_it_is_newer(repository):
+    repository.carry("hostext", ECHO)
+    carried = b"carried a\n", b"", 0
+    expect(repository.run("hostext", "a"), carried)
+    built = repository.write("crates/ext_cli/out/ext_cli", b"#!/bin/sh\necho built\n")
+    os.utime(built, (0, 0))
+    expect(repository.run("hostext", "a"), carried)
+    os.utime(built)
+    expect(repository.run("hostext", "a"), (b"built\n", b"", 0))
+
+
+def the_program_has_the_input_and_the_folder_of_the_launch(repository):
+    repository.carry("hostext", b"#!/bin/sh\nwhile read -r line; do echo \"$line\"; done\npwd\n")
+    for _ in range(2):
+        with tempfile.TemporaryFile() as source:
+            source.write(b"one\ntwo\n")
+            source.seek(0)
+            wanted = b"one\ntwo\n" + os.fsencode(repository.home.resolve()) + b"\n"
+            expect(repository.run("hostext", stdin=source, cwd=repository.home), (wanted, b"", 0))
+
+
+def without_a_tool_that_tells_times_it_looks_each_time(repository):
+    for tool, fails in ("find", "-print0"), ("stat", "-c"):
+        repository.tool(tool, f'case " $* " in *" {fails} "*) exit 1 ;; esac\nexec {tool} "$@"')
+        repository.carry("hostext", ECHO)
+        for _ in range(2):
+            expect(repository.run("hostext", "a"), (b"carried a\n", b"", 0))
+        repository.write("crates/low/src/lib.rt", tool.encode())
+        expect(repository.run("hostext", "a"), needs_the_kit(OTHER_SOURCES))
+        repository.tool(tool, f'exec {tool} "$@"')
+
+
+def without_the_kit_two_lines_say_what_is_needed(repository):
+    expect(repository.run("hostext"), needs_the_kit(b"no program is carried here"))
+
+
+def on_another_machine_it_builds(repository):
+    repository.carry("hostext", ECHO)
+    repository.tool("uname", "echo Linux aarch64")
+    expect(repository.run("hostext"), needs_the_kit(b"the carried program is for Linux on x86-64"))
+    repository.tool("uname", "echo Linux x86_64")
+    repository.carry("hostext", b"#!/no/such/loader\n")
+    expect(repository.run("hostext"), needs_the_kit(b"the carried program doesn't run here"))
+    repository.tool("rt", BUILDS)
+    expect(repository.run("hostext"), (b"\n", b"hostext: the carried program doesn't run here\n" + BUILT_IT, 23))
+
+
+VERSION = b"hostext 0.1.0\n", b"", 0
+
+
+def a_clone_runs_the_carried_program_without_the_kit(repository):
+    for _ in range(2):
+        expect(repository.run("hostext", "--version"), VERSION)
+    kept = repository.home / f".cache/hostext{repository.place.resolve()}/hostext.program"
+    if not kept.is_file():
+        raise Failed(f"nothing is kept at {kept}")
+
+
+def a_fresh_clone_runs_the_first_session(repository):
+    shutil.copytree(TOP / "examples", repository.place / "examples")
+    repository.tool("dirname", 'exec dirname "$@"')
+    the_first_session(repository.place / "examples/first-session", repository.around())
+
+
+def a_clone_that_cannot_be_written_runs_it(repository):
+    """Neither can the home, at first."""
+    for path in (*repository.place.rglob("*"), repository.place, repository.home):
+        path.chmod(0o555)
+    for path in repository.place.parent, repository.bin:
+        path.chmod(0o755)
+    for mode in 0o555, 0o777, 0o777:
+        repository.home.chmod(mode)
+        expect(repository.run("hostext", "--version", before=become_nobody), VERSION)
+    for path in (repository.place, *(path for path in repository.place.rglob("*") if path.is_dir())):
+        path.chmod(0o755)
+
+
+def a_clone_with_a_changed_source_builds(repository):
+    expect(repository.run("hostext", "--version"), VERSION)
+    beside = repository.place / "crates/ext_folder_probe/src/main.rt"
+    beside.write_text(beside.read_text() + "\n")
+    expect(repository.run("hostext", "--version"), VERSION)
+    source = repository.place / "crates/ext_text/src/lib.rt"
+    before = source.read_text()
+    source.write_text(before + "\n")
+    expect(repository.run("hostext", "--version"), needs_the_kit(OTHER_SOURCES))
+    source.write_text(before)
+    expect(repository.run("hostext", "--version"), VERSION)
+    source.with_name("more.rt").touch()
+    expect(repository.run("hostext", "--version"), needs_the_kit(OTHER_SOURCES))
+    repository.tool("rt", 'mkdir out; printf "#!/bin/sh\\necho built\\n" >out/ext_cli; chmod 755 out/ext_cli')
+    told = b"hostext: %s\n%shostext: built (TIME)\n" % (OTHER_SOURCES, BEGINS)
+    expect(repository.run("hostext", "--version"), (b"built\n", told, 0))
+
+
+def a_clone_with_a_carried_program_of_other_bytes_builds(repository):
+    expect(repository.run("hostext", "--version"), VERSION)
+    with open(repository.place / CARRIED / "hostext", "ab") as program:
+        program.write(b"\n")
+    expect(repository.run("hostext", "--version"), needs_the_kit(OTHER_BYTES))
+
+
+def cost(repository, program):
+    """The least processor time in milliseconds that a run of the program takes, of several: what else runs doesn't count."""
+    found = []
+    for _ in range(15):
+        quiet = [(os.POSIX_SPAWN_OPEN, 1, os.devnull, os.O_WRONLY, 0)]
+        child = os.posix_spawn(program, [program, "--version"], repository.around(), file_actions=quiet)
+        _, status, usage = os.wait4(child, 0)
+        if status:
+            raise Failed(f"{program} ended with {os.waitstatus_to_exitcode(status)}")
+        found.append(1000 * (usage.ru_utime + usage.ru_stime))
+    return min(found)
+
+
+def a_launch_costs_little_beside_the_program(repository):
+    alone = cost(repository, repository.place / CARRIED / "hostext")
+    known = cost(repository, repository.place / "hostext") - alone
+    shutil.rmtree(repository.home)
+    repository.home.touch()
+    looking = cost(repository, repository.place / "hostext") - alone
+    if known > 20 or looking > 150:
+        raise Failed(f"it takes {known:.0f} ms of a processor, and {looking:.0f} ms where nothing can be kept")
+
+
+IN_A_SMALL_ONE = [
+    *(the_launcher_tells_each_crate_and_builds_once, a_build_that_fails_is_told_with_the_end_of_what_the_kit_says),
+    *(an_edit_while_it_builds_is_newer_than_the_program, two_launches_at_once_build_once),
+    *(the_built_program_goes_before_the_carried_one_where_it_is_newer, without_the_kit_two_lines_say_what_is_needed),
+    *(the_program_has_the_input_and_the_folder_of_the_launch, on_another_machine_it_builds),
+    without_a_tool_that_tells_times_it_looks_each_time,
+]
+IN_A_CLONE = [
+    *(a_clone_runs_the_carried_program_without_the_kit, a_clone_that_cannot_be_written_runs_it),
+    *(a_clone_with_a_changed_source_builds, a_clone_with_a_carried_program_of_other_bytes_builds),
+    *(a_fresh_clone_runs_the_first_session, a_launch_costs_little_beside_the_program),
+]
+
+
+def scenes(program):
+    yield from in_each(small, IN_A_SMALL_ONE)
+    yield from in_each(clone, IN_A_CLONE, program)

@@ -1,5 +1,7 @@
 """What scenes share: running the program, comparing what came of it, and the texts that they are run on."""
+import functools
 import os
+import shutil
 import subprocess
 from pathlib import Path
 
@@ -21,6 +23,20 @@ class Skipped(Exception):
 
 class Failed(Exception):
     """Something else came of a scene than it expects."""
+
+
+@functools.cache
+def found(name):
+    return subprocess.run([TOP / "tools/program", name], stdin=subprocess.DEVNULL, stdout=subprocess.PIPE)
+
+
+def program_of(name):
+    """The file that is run for the name of a program: built here, or carried, or proved and built first."""
+    if found(name).returncode and not shutil.which("rt"):
+        raise Skipped("there is no rt")
+    if found(name).returncode:
+        raise Failed(f"there is no {name}")
+    return Path(os.fsdecode(found(name).stdout).rstrip("\n"))
 
 
 def named(*calls):

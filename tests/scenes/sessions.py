@@ -72,10 +72,9 @@ sysext: unmerged
 """
 
 
-def the_first_session(program):
+def the_first_session(script, around):
     """Each command of examples/first-session up to the unmerged view, by its first word, and the lines that it writes."""
-    around = {**os.environ, "HOSTEXT": str(program)}
-    ended = subprocess.run([TOP / "examples/first-session"], env=around, timeout=SECONDS, stdout=subprocess.PIPE, stderr=subprocess.STDOUT)
+    ended = subprocess.run([script], env=around, timeout=SECONDS, stdout=subprocess.PIPE, stderr=subprocess.STDOUT)
     blocks = re.findall(r"^\$ hostext STORE DEPOT (\S+)[^\n]*\n((?:(?!\$ )[^\n]*\n)*)", ended.stdout.decode(), re.M)
     found = "".join(f"{word}: {'|'.join(written.splitlines())}\n" for word, written in blocks)
     if ended.returncode or not found.startswith(FIRST) or not found.endswith("check: ok 8 311\n"):
@@ -83,6 +82,7 @@ def the_first_session(program):
 
 
 def scenes(program):
-    yield "examples/first-session", lambda: the_first_session(program)
+    around = {**os.environ, "HOSTEXT": str(program)}
+    yield "examples/first-session", lambda: the_first_session(TOP / "examples/first-session", around)
     for session in sessions():
         yield f"README.md: {session[-1][0]}", lambda session=session: in_a_folder(session, program)
