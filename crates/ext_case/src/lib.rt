@@ -1,0 +1,31 @@
+//! Cases as text: a file of cases is read into cases, statements and words.
+//!
+//! A case is a name and statements, each with the lines that it should write; `tests/cases/README.md` shows the format.
+//! [`read_cases`] reads a file. What the words of all cases share stands here too: [`Trouble`], arguments as names, paths,
+//! digests and numbers, lines that a word writes, and the comparison of what was wanted with what came. The crates that
+//! carry words out stand on this one.
+#![tactic(auto)]
+
+mod arguments;
+mod case;
+mod cutting;
+mod difference;
+mod reader;
+mod repetition;
+mod texts;
+mod trouble;
+mod undoing;
+mod writing;
+
+pub use arguments::{
+    digest, five, flag, four, name, none, number, one, one_and_more, path, size, small, string,
+    three, two, two_and_more,
+};
+pub use case::{Case, Cases, Fault, Statement};
+pub use difference::{append_difference, append_shown};
+pub use reader::read_cases;
+pub use trouble::Trouble;
+pub use writing::{
+    append_line, append_number, append_path, append_str, line_of, number_line, number_text,
+    path_line, written,
+};

@@ -1,0 +1,96 @@
+// What a word writes.
+use crate::trouble::Trouble;
+use ext_lines::append_decimal;
+use ext_text::{Path, Text};
+use std::alloc::Global;
+
+/// These bytes, and no newline.
+///
+/// # Errors
+/// `OutOfMemory`.
+pub fn written(alloc: Global, bytes: &[u8]) -> Result<Text, Trouble> {
+    Ok(Text::from_bytes(alloc, bytes)?)
+}
+
+/// A line of this text.
+///
+/// # Errors
+/// `OutOfMemory`.
+pub fn line_of(alloc: Global, line: &str) -> Result<Text, Trouble> {
+    let mut text = Text::new(alloc);
+    append_line(&mut text, line.as_bytes())?;
+    Ok(text)
+}
+
+/// The digits of a number.
+///
+/// # Errors
+/// `OutOfMemory`.
+pub fn number_text(alloc: Global, number: u64) -> Result<Text, Trouble> {
+    let mut digits = Vec::new(alloc);
+    append_decimal(&mut digits, number)?;
+    Ok(Text::from_vec(digits))
+}
+
+/// A line of this number.
+///
+/// # Errors
+/// `OutOfMemory`.
+pub fn number_line(alloc: Global, number: u64) -> Result<Text, Trouble> {
+    let mut text = Text::new(alloc);
+    append_number(alloc, &mut text, number)?;
+    text.append(b"\n")?;
+    Ok(text)
+}
+
+/// A line of this path.
+///
+/// # Errors
+/// `OutOfMemory`.
+pub fn path_line(alloc: Global, path: &Path) -> Result<Text, Trouble> {
+    let mut text = Text::new(alloc);
+    append_path(alloc, &mut text, path)?;
+    text.append(b"\n")?;
+    Ok(text)
+}
+
+/// Adds bytes and a newline.
+///
+/// # Errors
+/// `OutOfMemory`.
+pub fn append_line(text: &mut Text, line: &[u8]) -> Result<(), Trouble> {
+    text.append(line)?;
+    text.append(b"\n")?;
+    Ok(())
+}
+
+/// Adds text.
+///
+/// # Errors
+/// `OutOfMemory`.
+pub fn append_str(text: &mut Text, more: &str) -> Result<(), Trouble> {
+    text.append(more.as_bytes())?;
+    Ok(())
+}
+
+/// Adds the digits of a number.
+///
+/// # Errors
+/// `OutOfMemory`.
+pub fn append_number(alloc: Global, text: &mut Text, number: u64) -> Result<(), Trouble> {
+    let mut digits = Vec::new(alloc);
+    append_decimal(&mut digits, number)?;
+    text.append(digits.as_slice())?;
+    Ok(())
+}
+
+/// Adds a path, with a slash between each two names.
+///
+/// # Errors
+/// `OutOfMemory`.
+pub fn append_path(alloc: Global, text: &mut Text, path: &Path) -> Result<(), Trouble> {
+    let mut bytes = Vec::new(alloc);
+    path.append_to(&mut bytes)?;
+    text.append(bytes.as_slice())?;
+    Ok(())
+}

@@ -1,0 +1,117 @@
+// The words of commands.
+use ext_case::{Trouble, append_number, append_path, append_str};
+use ext_cmd::{Chosen, CmdErr, Command, ViewCommand, read_words};
+use ext_text::{Names, Path, Text, Words};
+use std::alloc::Global;
+
+/// What `words WORD..` writes: the command that the words are, or `usage PLACE`.
+///
+/// # Errors
+/// `OutOfMemory`.
+pub(crate) fn words(alloc: Global, arguments: &[Text]) -> Result<Text, Trouble> {
+    let words = words_of(alloc, arguments)?;
+    let mut text = Text::new(alloc);
+    match read_words(alloc, &words) {
+        Ok(command) => append_command(alloc, &mut text, &command)?,
+        Err(CmdErr::Usage { place }) => append_usage(alloc, &mut text, place)?,
+        Err(CmdErr::OutOfMemory) => return Err(Trouble::OutOfMemory),
+    }
+    text.append(b"\n")?;
+    Ok(text)
+}
+
+fn words_of(alloc: Global, arguments: &[Text]) -> Result<Words, Trouble> {
+    let mut words = Words::new(alloc);
+    for argument in arguments {
+        words.push(argument.copy()?)?;
+    }
+    Ok(words)
+}
+
+fn append_usage(alloc: Global, text: &mut Text, place: u64) -> Result<(), Trouble> {
+    append_str(text, "usage ")?;
+    append_number(alloc, text, place)
+}
+
+fn append_command(alloc: Global, text: &mut Text, command: &Command) -> Result<(), Trouble> {
+    match command {
+        Command::Init {
+            arch,
+            scope,
+            hierarchies,
+        } => {
+            append_words(text, &["Init ", arch.name(), " ", scope.name()])?;
+            append_chosen(text, hierarchies)
+        }
+        Command::ImportFs { resource, path } => {
+            append_at(alloc, text, "ImportFs ", resource.path())?;
+            append_at(alloc, text, " ", resource.tree_text())?;
+            append_at(alloc, text, " ", path)
+        }
+        Command::Remove { path } => append_at(alloc, text, "Remove ", path),
+        Command::Sysext(view) => append_words(text, &["Sysext ", view_words(*view)]),
+        Command::Confext(view) => append_words(text, &["Confext ", view_words(*view)]),
+        Command::Tree { path: None } => append_str(text, "Tree"),
+        Command::Tree { path: Some(path) } => append_at(alloc, text, "Tree ", path),
+        Command::Cat { path } => append_at(alloc, text, "Cat ", path),
+        Command::Compare(first, second) => append_texts(text, first, second),
+        Command::Check => append_str(text, "Check"),
+        Command::Layer => append_str(text, "Layer"),
+        Command::Migrate => append_str(text, "Migrate"),
+    }
+}
+
+fn append_words(text: &mut Text, words: &[&str]) -> Result<(), Trouble> {
+    for word in words {
+        append_str(text, word)?;
+    }
+    Ok(())
+}
+
+// A word, and a path after a slash.
+fn append_at(alloc: Global, text: &mut Text, word: &str, path: &Path) -> Result<(), Trouble> {
+    append_words(text, &[word, "/"])?;
+    append_path(alloc, text, path)
+}
+
+fn append_texts(text: &mut Text, first: &Text, second: &Text) -> Result<(), Trouble> {
+    append_str(text, "Compare ")?;
+    text.append(first.bytes())?;
+    append_str(text, " ")?;
+    text.append(second.bytes())?;
+    Ok(())
+}
+
+fn view_words(view: ViewCommand) -> &'static str {
+    match view {
+        ViewCommand::List => "List",
+        ViewCommand::Status => "Status",
+        ViewCommand::Merge { force: false } => "Merge",
+        ViewCommand::Merge { force: true } => "Merge forced",
+        ViewCommand::Unmerge => "Unmerge",
+        ViewCommand::Refresh { force: false } => "Refresh",
+        ViewCommand::Refresh { force: true } => "Refresh forced",
+    }
+}
+
+fn append_chosen(text: &mut Text, chosen: &Chosen) -> Result<(), Trouble> {
+    match chosen {
+        Chosen::Default => Ok(()),
+        Chosen::Sysext(names) => append_list(text, names),
+        Chosen::Both { sysext, confext } => {
+            append_list(text, sysext)?;
+            append_list(text, confext)
+        }
+    }
+}
+
+// ` [NAME NAME ..]`.
+fn append_list(text: &mut Text, names: &Names) -> Result<(), Trouble> {
+    let mut before = " [";
+    for name in names.as_slice() {
+        append_str(text, before)?;
+        text.append(name.bytes())?;
+        before = " ";
+    }
+    append_str(text, "]")
+}

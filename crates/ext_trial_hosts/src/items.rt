@@ -1,0 +1,72 @@
+// The items of a list of what was found.
+use crate::parts::first_part;
+use ext_case::{Trouble, name, path};
+use ext_cmd::{Item, ItemKind, Items, Verdict, Why};
+use ext_lines::read_decimal;
+use ext_text::Text;
+use std::alloc::Global;
+
+/// The items of arguments, three each: its name, its place, and what it is. That is `masked`, `raw`, the verdict on an image,
+/// or why an image can't be used, where `bad-release:LINE` has the line.
+///
+/// # Errors
+/// `Unreadable` where they are no items, and `OutOfMemory`.
+pub(crate) fn items(alloc: Global, arguments: &[Text]) -> Result<Items, Trouble> {
+    let mut items = Items::new(alloc);
+    for item in arguments.chunks(3) {
+        items.push(item_of(alloc, item)?)?;
+    }
+    Ok(items)
+}
+
+fn item_of(alloc: Global, arguments: &[Text]) -> Result<Item, Trouble> {
+    match arguments {
+        [called, place, kind] => Ok(Item {
+            name: name(alloc, called)?,
+            place: path(alloc, place)?,
+            kind: kind_of(kind.bytes())?,
+        }),
+        _ => Err(Trouble::Unreadable("an item has a name, a place and a kind")),
+    }
+}
+
+fn kind_of(word: &[u8]) -> Result<ItemKind, Trouble> {
+    match word {
+        b"masked" => Ok(ItemKind::Masked),
+        b"raw" => Ok(ItemKind::Raw),
+        _ => match verdict_of(word) {
+            Some(verdict) => Ok(ItemKind::Image(verdict)),
+            None => Ok(ItemKind::Broken(why_of(word)?)),
+        },
+    }
+}
+
+fn verdict_of(word: &[u8]) -> Option<Verdict> {
+    match word {
+        b"fits" => Some(Verdict::Fits),
+        b"scope" => Some(Verdict::Scope),
+        b"architecture" => Some(Verdict::Architecture),
+        b"no-id" => Some(Verdict::NoId),
+        b"id" => Some(Verdict::Id),
+        b"level" => Some(Verdict::Level),
+        b"version" => Some(Verdict::Version),
+        _ => None,
+    }
+}
+
+fn why_of(word: &[u8]) -> Result<Why, Trouble> {
+    match first_part(word) {
+        (b"not-directory", None) => Ok(Why::NotDirectory),
+        (b"has-os-release", None) => Ok(Why::HasOsRelease),
+        (b"no-release", None) => Ok(Why::NoRelease),
+        (b"bad-release", Some(line)) => bad_release(line),
+        _ => Err(Trouble::Unreadable("no item is of this kind")),
+    }
+}
+
+fn bad_release(line: &[u8]) -> Result<Why, Trouble> {
+    match read_decimal(line, u64::MAX) {
+        Some(line) => Ok(Why::BadRelease { line }),
+        None => Err(Trouble::Unreadable("not the number of a line")),
+    }
+}

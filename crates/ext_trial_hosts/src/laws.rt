@@ -1,0 +1,38 @@
+// The laws of commands, hosts, indexes, searches and views.
+use ext_tree::Stamp;
+
+/// Calls each law, a generic one for stamps. A law has no body that could do anything; its contract is a theorem.
+pub(crate) fn call_laws() {
+    call_laws_of_hosts();
+    call_laws_of_indexes();
+    call_laws_of_views();
+    ext_find::laws::an_entry_gives_one_item::<Stamp>();
+    ext_find::laws::there_is_one_found_list::<Stamp>();
+    ext_cmd::laws::words_are_of_one_command();
+    ext_cmd::laws::words_have_one_first_fault();
+}
+
+fn call_laws_of_hosts() {
+    ext_host::laws::drawing_goes_on();
+    ext_host::laws::trees_are_drawn_one_by_one();
+    ext_host::laws::entries_are_of_sources::<Stamp>();
+    ext_host::laws::results_are_drawn();
+    ext_host::laws::a_touched_host_is_valid();
+}
+
+fn call_laws_of_indexes() {
+    ext_reading::laws::lines_are_read_in_one_way();
+    ext_reading::laws::what_is_said_is_listed();
+    ext_reading::laws::what_is_listed_is_said();
+    ext_index::laws::an_index_is_of_one_host();
+    ext_index::laws::an_index_is_not_faulty();
+    ext_index::laws::empty_host_has_this_index();
+}
+
+fn call_laws_of_views() {
+    ext_view::laws::refresh_is_unmerge_then_merge();
+    ext_view::laws::there_is_one_view();
+    ext_view::laws::nothing_hides_in_views();
+    ext_view::laws::merging_keeps_the_base();
+    ext_view::laws::unmerge_undoes_merge();
+}

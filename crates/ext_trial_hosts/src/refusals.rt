@@ -1,0 +1,107 @@
+// Refusals, their numbers and their lines.
+use ext_case::{Trouble, digest, five, none, number, number_line, one, one_and_more, path};
+use ext_cmd::{Refusal, refusal_text};
+use ext_text::{Text, Which};
+use ext_tree::Stamp;
+use std::alloc::Global;
+
+/// What `refusal REFUSAL ..` writes: its number, and its line.
+///
+/// # Errors
+/// `Unreadable` where the arguments are no refusal, and `OutOfMemory`.
+pub(crate) fn refusal(alloc: Global, arguments: &[Text]) -> Result<Text, Trouble> {
+    let (word, rest) = one_and_more(arguments)?;
+    let refusal = match plain_refusal(word.bytes()) {
+        Some(refusal) => {
+            none(rest)?;
+            refusal
+        }
+        None => full_refusal(alloc, word.bytes(), rest)?,
+    };
+    let mut text = number_line(alloc, u64::from(ext_cmd::number(&refusal)))?;
+    text.append(refusal_text(alloc, &refusal)?.bytes())?;
+    Ok(text)
+}
+
+// A refusal that is a word alone.
+fn plain_refusal(word: &[u8]) -> Option<Refusal> {
+    match word {
+        b"no-store" => Some(Refusal::NoStore),
+        b"store-exists" => Some(Refusal::StoreExists),
+        b"merged" => Some(Refusal::Merged),
+        b"no-host-release" => Some(Refusal::NoHostRelease),
+        _ => None,
+    }
+}
+
+// A refusal that tells more: `bad-host-release LINE`, `limit WHICH`, `bad-tree LINE [PATH]`, a word and a path, or
+// `mismatch PATH SIZE DIGEST SIZE DIGEST`.
+fn full_refusal(alloc: Global, word: &[u8], rest: &[Text]) -> Result<Refusal, Trouble> {
+    match word {
+        b"bad-host-release" => Ok(Refusal::BadHostRelease {
+            line: number(one(rest)?, u64::MAX)?,
+        }),
+        b"limit" => Ok(Refusal::Limit {
+            which: which_of(one(rest)?.bytes())?,
+        }),
+        b"bad-tree" => bad_tree(alloc, rest),
+        b"mismatch" => mismatch(alloc, rest),
+        _ => refusal_at(alloc, word, one(rest)?),
+    }
+}
+
+fn which_of(word: &[u8]) -> Result<Which, Trouble> {
+    match word {
+        b"entries" => Ok(Which::Entries),
+        b"bytes" => Ok(Which::Bytes),
+        b"file" => Ok(Which::File),
+        b"path" => Ok(Which::Path),
+        b"text" => Ok(Which::Text),
+        b"index" => Ok(Which::Index),
+        b"generations" => Ok(Which::Generations),
+        _ => Err(Trouble::Unreadable("no such limit")),
+    }
+}
+
+fn bad_tree(alloc: Global, arguments: &[Text]) -> Result<Refusal, Trouble> {
+    let (line, rest) = one_and_more(arguments)?;
+    let line = number(line, u64::MAX)?;
+    match rest {
+        [] => Ok(Refusal::BadTree { line, path: None }),
+        _ => Ok(Refusal::BadTree {
+            line,
+            path: Some(path(alloc, one(rest)?)?),
+        }),
+    }
+}
+
+fn mismatch(alloc: Global, arguments: &[Text]) -> Result<Refusal, Trouble> {
+    let (at, listed_size, listed_digest, found_size, found_digest) = five(arguments)?;
+    let listed = stamp(listed_size, listed_digest)?;
+    let found = stamp(found_size, found_digest)?;
+    Ok(Refusal::Mismatch {
+        path: path(alloc, at)?,
+        listed,
+        found,
+    })
+}
+
+fn stamp(size: &Text, digits: &Text) -> Result<Stamp, Trouble> {
+    Ok(Stamp {
+        size: number(size, u64::MAX)?,
+        digest: digest(digits)?,
+    })
+}
+
+// A refusal that tells a path.
+fn refusal_at(alloc: Global, word: &[u8], at: &Text) -> Result<Refusal, Trouble> {
+    let path = path(alloc, at)?;
+    match word {
+        b"read-only" => Ok(Refusal::ReadOnly { path }),
+        b"no-entry" => Ok(Refusal::NoEntry { path }),
+        b"not-directory" => Ok(Refusal::NotDirectory { path }),
+        b"not-file" => Ok(Refusal::NotFile { path }),
+        b"not-in-depot" => Ok(Refusal::NotInDepot { path }),
+        _ => Err(Trouble::Unreadable("no such refusal")),
+    }
+}

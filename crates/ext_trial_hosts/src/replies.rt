@@ -1,0 +1,63 @@
+// Answers and their texts.
+use crate::items::items;
+use ext_case::{Trouble, name, none, number, one, one_and_more, two};
+use ext_cmd::{Answer, answer_text};
+use ext_text::{Names, Text};
+use std::alloc::Global;
+use std::cmp::Ordering;
+
+/// What `reply ANSWER ..` writes: the text of the answer.
+///
+/// # Errors
+/// `Unreadable` where the arguments are no answer, and `OutOfMemory`.
+pub(crate) fn reply(alloc: Global, arguments: &[Text]) -> Result<Text, Trouble> {
+    let (word, rest) = one_and_more(arguments)?;
+    let answer = match plain_answer(word.bytes()) {
+        Some(answer) => {
+            none(rest)?;
+            answer
+        }
+        None => full_answer(alloc, word.bytes(), rest)?,
+    };
+    Ok(answer_text(alloc, answer)?)
+}
+
+// An answer that is a word alone.
+fn plain_answer(word: &[u8]) -> Option<Answer> {
+    match word {
+        b"done" => Some(Answer::Done),
+        b"unchanged" => Some(Answer::Unchanged),
+        b"unmerged" => Some(Answer::Unmerged),
+        b"less" => Some(Answer::Order(Ordering::Less)),
+        b"equal" => Some(Answer::Order(Ordering::Equal)),
+        b"greater" => Some(Answer::Order(Ordering::Greater)),
+        _ => None,
+    }
+}
+
+// An answer that tells more: `merged NAME..`, `found ITEM..`, `tree TEXT`, `checked FILES BYTES`.
+fn full_answer(alloc: Global, word: &[u8], rest: &[Text]) -> Result<Answer, Trouble> {
+    match word {
+        b"merged" => Ok(Answer::Merged(names_of(alloc, rest)?)),
+        b"found" => Ok(Answer::Found(items(alloc, rest)?)),
+        b"tree" => Ok(Answer::Tree(one(rest)?.copy()?)),
+        b"checked" => checked(rest),
+        _ => Err(Trouble::Unreadable("no such answer")),
+    }
+}
+
+fn names_of(alloc: Global, arguments: &[Text]) -> Result<Names, Trouble> {
+    let mut names = Names::new(alloc);
+    for argument in arguments {
+        names.push(name(alloc, argument)?)?;
+    }
+    Ok(names)
+}
+
+fn checked(arguments: &[Text]) -> Result<Answer, Trouble> {
+    let (files, bytes) = two(arguments)?;
+    Ok(Answer::Checked {
+        files: number(files, u64::MAX)?,
+        bytes: number(bytes, u64::MAX)?,
+    })
+}

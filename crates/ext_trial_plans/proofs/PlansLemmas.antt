@@ -1,0 +1,224 @@
+-- Hosts of what is seen alone, with small files, are valid; and changes of them make plans.
+use Rattle.std.proofs.Common.{◌≡◌, ℕ, suc, zero, ◌*◌, ◌≤◌, true, false, cond, List, [], ◌∷◌, ◌++◌, length, get_or, Option, Some, None, is_some, refl, sym, ap, ◌∙◌, subst, arith}
+use Rattle.std.specs.Prelude.{Contains, IsTrue, codes, eqb}
+use Rattle.std.specs.List.{AllByRecursion, flat_map}
+use Rattle.std.specs.Ordering.{eq_by_cmp}
+use Rattle.std.proofs.lemmas.Bool.{false≢true}
+use Rattle.std.proofs.lemmas.List.Sums.{sum_by-cons}
+use Rattle.ext_text.specs.Path.{path_cmp}
+use Rattle.ext_text.specs.declared.arch.Arch.{Arch}
+use Rattle.ext_text.specs.declared.class.Class.TheVariants.{Sysext, Confext}
+use Rattle.ext_text.specs.declared.scope.Scope.TheVariants.{System, Portable}
+use Rattle.ext_tree.specs.Tree.{Entries, lookup}
+use Rattle.ext_tree.specs.declared.entry.Entry.{Entry}
+use Rattle.ext_tree.specs.declared.entry.Entry.TheVariants.{Dir, Opaque, File, Link, Hide}
+use Rattle.ext_tree.specs.Graft.{IsGraft}
+use Rattle.ext_tree.specs.declared.stamp.Stamp.{Stamp}
+use Rattle.ext_host.specs.DepotBodies.{from_depot, in_depot}
+use Rattle.ext_host.specs.Drawn.{AreDrawnFrom, HasFile, IsFileOf}
+use Rattle.ext_host.specs.Held.{HeldFile}
+use Rattle.ext_host.specs.Host.{Hierarchies, default_hierarchies, present}
+use Rattle.ext_host.specs.Valid.{AreInRange, AreOfClasses, IsValidTree, all_bytes, bytes_of}
+use Rattle.ext_host.specs.declared.attachment.Attachment.{Attachment}
+use Rattle.ext_host.specs.declared.body.Body.{Body}
+use Rattle.ext_host.specs.declared.body.Body.TheVariants.{Kept, Depot}
+use Rattle.ext_host.specs.declared.home.Home.{Home}
+use Rattle.ext_host.specs.declared.host.Host.{Host}
+use Rattle.ext_host.proofs.ForCallers.{graft_is_drawn}
+use Rattle.ext_homes.specs.Giving.{trees_before}
+use Rattle.ext_host.specs.declared.manifest.Manifest.{Manifest}
+use Rattle.ext_host.specs.declared.past.Past.{Past}
+use Rattle.ext_gen.specs.Opened.{Generation}
+use Rattle.ext_gen.specs.Preparing.{host_before}
+use Rattle.ext_trial_plans.specs.Plans.{IsPlain, IsPlanAfter, IsSmall, root_before}
+
+-- ---- the default hierarchies
+
+letter : List ℕ → ℕ
+letter name = get_or name 0 0
+
+default_apart : (name : List ℕ) → eqb (letter name) 101 ≡ false → ¬ Contains (codes "etc" ∷ []) name
+unfolding letter
+default_apart name other (zero, inside, same) = false≢true (sym other ∙ ap (λ n. eqb (letter n) 101) (sym same) ∙ refl)
+default_apart name other (suc k, inside, same) = absurd (omega arith)
+
+abbrev defaults : Hierarchies
+defaults = record { sysext = default_hierarchies Sysext; confext = default_hierarchies Confext }
+
+default_classes : AreOfClasses defaults
+unfolding letter
+default_classes = record {
+  sysext = record { non_empty = omega arith; at_most_16 = omega arith; order = ((refl, tt), (tt, tt)) };
+  confext = record { non_empty = omega arith; at_most_16 = omega arith; order = (tt, tt) };
+  apart = (default_apart (codes "opt") refl, (default_apart (codes "usr") refl, tt));
+}
+
+-- the first item of a list is in it
+first_among : {X : Type 0} (x : X) (xs : List X) → Contains (x ∷ xs) x
+first_among x xs = (zero, omega arith, refl)
+
+-- ---- valid hosts
+
+small_in_range : (es : Entries HeldFile) → AllByRecursion (λ e. IsSmall e.1) es → AreInRange es
+small_in_range [] small = tt
+small_in_range (x ∷ es) small = (small.0.0, small_in_range es small.1)
+
+small_bytes : (es : Entries HeldFile) → AllByRecursion (λ e. IsSmall e.1) es → all_bytes es ≤ 1000000 * length es
+small_bytes [] small = omega arith
+small_bytes (x ∷ es) small =
+    let one = small.0.1 in
+    let rest = small_bytes es small.1 in
+    omega (arith, sum_by-cons (λ (e : List (List ℕ) × Entry HeldFile). bytes_of e.1) x es)
+
+no_portable : System ≡ Portable → ⊥
+no_portable same = cc
+
+nothing_there : (path : List (List ℕ)) → IsTrue (is_some (lookup {C = HeldFile} [] path)) → ⊥
+nothing_there path there = false≢true there
+
+-- a host of which this is seen and nothing else is
+abbrev plain : Arch → Entries HeldFile → Host
+plain arch root = record {
+  arch = arch;
+  scope = System;
+  root = root;
+  lower = [];
+  sysext = None;
+  confext = None;
+  attached = [];
+  kept = [];
+  sysext_hier = default_hierarchies Sysext;
+  confext_hier = default_hierarchies Confext;
+  past = [];
+}
+
+plain_tree : (arch : Arch) (root : Entries HeldFile) → length root ≤ 1000 → AllByRecursion (λ e. IsSmall e.1) root → IsValidTree defaults (present (plain arch root))
+plain_tree arch root few small =
+    let bytes = small_bytes root small in
+    record {
+      lower = λ path there. absurd (nothing_there path there);
+      limits = record { root = small_in_range root small; lower = tt; entries = omega arith; bytes = omega arith };
+      sysext = tt;
+      confext = tt;
+      attached = record { each = tt; order = tt };
+      kept = record { each = tt; order = tt; apart = tt; items = tt };
+    }
+
+plain_valid : (arch : Arch) (root : Entries HeldFile) → length root ≤ 1000 → AllByRecursion (λ e. IsSmall e.1) root → IsPlain root (plain arch root)
+plain_valid arch root few small = record {
+  valid = record {
+    scope = no_portable;
+    hierarchies = default_classes;
+    present = plain_tree arch root few small;
+    past = tt;
+    past_count = omega arith;
+    past_order = tt;
+  };
+  root_is = refl;
+  lower_is = refl;
+  past_is = refl;
+}
+
+-- it is made of such parts
+pub made_plain : (arch : Arch) (root pairs lower : Entries HeldFile) (attached : List Attachment) (kept : List Manifest) (sysext_hier confext_hier : List (List ℕ)) (past : List Past) → lower ≡ [] → attached ≡ [] → kept ≡ []
+    → sysext_hier ≡ default_hierarchies Sysext → confext_hier ≡ default_hierarchies Confext → past ≡ [] → pairs ≡ root → length pairs ≤ 1000 → AllByRecursion (λ e. IsSmall e.1) pairs
+    → IsPlain root (record { arch = arch; scope = System; root = root; lower = lower; sysext = None; confext = None; attached = attached; kept = kept; sysext_hier = sysext_hier; confext_hier = confext_hier; past = past })
+made_plain arch root pairs lower attached kept sysext_hier confext_hier past lower_is attached_is kept_is first second past_is same few small =
+    let host : plain arch root ≡ record { arch = arch; scope = System; root = root; lower = lower; sysext = None; confext = None; attached = attached; kept = kept; sysext_hier = sysext_hier; confext_hier = confext_hier; past = past } =
+    λ i. record {
+      arch = arch;
+      scope = System;
+      root = root;
+      lower = sym lower_is i;
+      sysext = None;
+      confext = None;
+      attached = sym attached_is i;
+      kept = sym kept_is i;
+      sysext_hier = sym first i;
+      confext_hier = sym second i;
+      past = sym past_is i;
+    } in
+    subst (IsPlain root) host (plain_valid arch root (subst (λ (l : Entries HeldFile). length l ≤ 1000) same few) (subst (λ l. AllByRecursion (λ e. IsSmall e.1) l) same small))
+
+-- ---- changes
+
+abbrev body_in : List (List ℕ) → Entry HeldFile → Body
+body_in path (Dir m) = Depot path
+body_in path (Opaque m) = Depot path
+body_in path (File m held) = held.body
+body_in path (Link t) = Depot path
+body_in path Hide = Depot path
+
+depot_kept : (path : List (List ℕ)) (home : Home) → Depot path ≡ Kept home → ⊥
+depot_kept path home same = cc
+
+same_entry : {X : Type 0} {x y : X} → Some x ≡ Some y → x ≡ y
+same_entry same = cc
+
+-- no file of a tree whose files are in the depot is kept
+entry_in_depot : (path : List (List ℕ)) (e : Entry Stamp) (mode : ℕ) (held : HeldFile) (home : Home) → in_depot path e ≡ File mode held → held.body ≡ Kept home → ⊥
+entry_in_depot path (Dir m) mode held home is kept = cc
+entry_in_depot path (Opaque m) mode held home is kept = cc
+entry_in_depot path (File m stamp) mode held home is kept = depot_kept path home (ap (body_in path) is ∙ kept)
+entry_in_depot path (Link t) mode held home is kept = cc
+entry_in_depot path Hide mode held home is kept = cc
+
+none_in_depot : (res : List (List ℕ)) (es : Entries Stamp) (p : List (List ℕ)) (mode : ℕ) (held : HeldFile) (home : Home) → lookup (from_depot res es) p ≡ Some (File mode held) → held.body ≡ Kept home → ⊥
+none_in_depot res [] p mode held home is kept = cc
+none_in_depot res (x ∷ es) p mode held home is kept =
+    elim (eq_by_cmp path_cmp p x.0) as (λ b. cond b (Some (in_depot (res ++ x.0) x.1)) (lookup (from_depot res es) p) ≡ Some (File mode held) → ⊥) [
+      | true ↦ λ here. entry_in_depot (res ++ x.0) x.1 mode held home (same_entry here) kept
+      | false ↦ λ there. none_in_depot res es p mode held home there kept
+    ] is
+
+graft_side : (root part : Entries HeldFile) (held : HeldFile) (home : Home) → held.body ≡ Kept home → ((p : List (List ℕ)) (mode : ℕ) → lookup part p ≡ Some (File mode held) → ⊥) → IsFileOf (root ∷ part ∷ []) held → IsFileOf (root ∷ []) held
+graft_side root part held home kept none is = at_index is.tree is.among is.file
+  where
+    at_index : (tree : Entries HeldFile) → Contains (root ∷ part ∷ []) tree → HasFile tree held → IsFileOf (root ∷ []) held
+    at_index tree (zero, inside, same) file = record { tree = root; among = first_among root []; file = subst (λ t. HasFile t held) (sym same) file }
+    at_index tree (suc zero, inside, same) file = let here = subst (λ t. HasFile t held) (sym same) file in absurd (none here.path here.mode here.stands)
+    at_index tree (suc (suc k), inside, same) file = absurd (omega arith)
+
+-- a tree into which one of the depot was hung
+pub import_is_drawn : (root part new : Entries HeldFile) (at res : List (List ℕ)) (es : Entries Stamp) → IsGraft root at part new → part ≡ from_depot res es → AreDrawnFrom (root ∷ []) (new ∷ [])
+import_is_drawn root part new at res es graft is = λ held home kept file.
+    graft_side root part held home kept (λ p mode stands. none_in_depot res es p mode held home (subst (λ t. lookup t p ≡ Some (File mode held)) is stands) kept)
+    (graft_is_drawn root part new at graft held home kept file)
+
+-- ---- plans
+
+no_file : (held : HeldFile) → HasFile [] held → ⊥
+no_file held has = false≢true (ap is_some has.stands)
+
+tree_of_plain : (old host_root : Entries HeldFile) (lower : Entries HeldFile) (past : List Past) (held : HeldFile) → lower ≡ [] → past ≡ []
+    → IsFileOf (host_root ∷ lower ∷ flat_map (λ p. p.root ∷ p.lower ∷ []) past) held → IsFileOf (host_root ∷ []) held
+tree_of_plain old host_root lower past held lower_is past_is is =
+    at_index is.tree (subst (λ l. Contains l is.tree) (λ i. host_root ∷ lower_is i ∷ flat_map (λ p. p.root ∷ p.lower ∷ []) (past_is i)) is.among) is.file
+  where
+    at_index : (tree : Entries HeldFile) → Contains (host_root ∷ [] ∷ []) tree → HasFile tree held → IsFileOf (host_root ∷ []) held
+    at_index tree (zero, inside, same) file = record { tree = host_root; among = first_among host_root []; file = subst (λ t. HasFile t held) (sym same) file }
+    at_index tree (suc zero, inside, same) file = absurd (no_file held (subst (λ t. HasFile t held) (sym same) file))
+    at_index tree (suc (suc k), inside, same) file = absurd (omega arith)
+
+-- a file of a single tree
+only : (tree : Entries HeldFile) (held : HeldFile) → IsFileOf (tree ∷ []) held → HasFile tree held
+only tree held is = at_index is.tree is.among is.file
+  where
+    at_index : (t : Entries HeldFile) → Contains (tree ∷ []) t → HasFile t held → HasFile tree held
+    at_index t (zero, inside, same) file = subst (λ u. HasFile u held) (sym same) file
+    at_index t (suc k, inside, same) file = absurd (omega arith)
+
+one_of_before : (from : Option Generation) (held : HeldFile) → IsFileOf (root_before from ∷ []) held → IsFileOf (trees_before (host_before from)) held
+one_of_before None held is = absurd (no_file held (only [] held is))
+one_of_before (Some g) held is = record { tree = g.host.root; among = first_among g.host.root (g.host.lower ∷ flat_map (λ p. p.root ∷ p.lower ∷ []) g.host.past); file = only g.host.root held is }
+
+-- a change of what was seen makes a plan
+pub plan_after : (from : Option Generation) (old new : Entries HeldFile) (host : Host) → old ≡ root_before from → AreDrawnFrom (old ∷ []) (new ∷ []) → IsPlain new host → IsPlanAfter from host
+plan_after from old new host old_is drawn plain_host = record {
+  valid = plain_host.valid;
+  drawn = λ held home kept file.
+      one_of_before from held
+      (subst (λ t. IsFileOf (t ∷ []) held) old_is
+      (drawn held home kept (subst (λ t. IsFileOf (t ∷ []) held) plain_host.root_is (tree_of_plain old host.root host.lower host.past held plain_host.lower_is plain_host.past_is file))));
+  past_is = plain_host.past_is;
+}

@@ -1,0 +1,102 @@
+// How a command or a change ended.
+use ext_case::{Trouble, append_number, append_str};
+use ext_host::Home;
+use ext_text::Text;
+use ext_top::{BadStore, Status};
+use ext_tree::Stamp;
+use std::alloc::Global;
+
+/// How a command ended: the number of its status with what it tells beside it, and what was written.
+#[derive(Debug, Drop)]
+pub struct Outcome {
+    /// The status, as a `status` statement states it.
+    pub status: Text,
+    /// What was written.
+    pub reply: Text,
+}
+
+impl Outcome {
+    /// Whether both ended so, and wrote so.
+    pub(crate) fn is_same(&self, other: &Outcome) -> bool {
+        self.status.bytes() == other.status.bytes() && self.reply.bytes() == other.reply.bytes()
+    }
+
+    /// Whether it ended with this status, which tells nothing beside its number.
+    pub(crate) fn is_status(&self, status: &str) -> bool {
+        self.status.bytes() == status.as_bytes()
+    }
+}
+
+/// A status as a statement states it: its number; of words that are no command, with the place of the fault; of a bad store,
+/// with what is wrong.
+///
+/// # Errors
+/// `OutOfMemory`.
+pub(crate) fn status_text(alloc: Global, status: &Status) -> Result<Text, Trouble> {
+    let mut text = Text::new(alloc);
+    append_number(alloc, &mut text, u64::from(status.number()))?;
+    match status {
+        Status::Usage { place } => append_field(alloc, &mut text, *place)?,
+        Status::BadStore(bad) => append_bad_store(alloc, &mut text, bad)?,
+        _ => {}
+    }
+    Ok(text)
+}
+
+fn append_bad_store(alloc: Global, text: &mut Text, bad: &BadStore) -> Result<(), Trouble> {
+    match bad {
+        BadStore::Broken { line } => {
+            append_str(text, " broken")?;
+            append_field(alloc, text, *line)
+        }
+        BadStore::Damaged {
+            home,
+            listed,
+            found,
+        } => {
+            append_str(text, " ")?;
+            append_damage(alloc, text, home, listed, found)
+        }
+    }
+}
+
+/// Adds where a damaged file is kept, its stamp, and that of what stands there, or `-`.
+///
+/// # Errors
+/// `OutOfMemory`.
+pub(crate) fn append_damage(
+    alloc: Global,
+    text: &mut Text,
+    home: &Home,
+    listed: &Stamp,
+    found: &Option<Stamp>,
+) -> Result<(), Trouble> {
+    append_str(text, "damaged")?;
+    append_field(alloc, text, u64::from(home.generation))?;
+    append_field(alloc, text, u64::from(home.file))?;
+    append_stamp(alloc, text, listed)?;
+    match found {
+        Some(stamp) => append_stamp(alloc, text, stamp),
+        None => append_str(text, " -"),
+    }
+}
+
+/// Adds a space, a size, a space and a digest.
+///
+/// # Errors
+/// `OutOfMemory`.
+pub(crate) fn append_stamp(alloc: Global, text: &mut Text, stamp: &Stamp) -> Result<(), Trouble> {
+    append_field(alloc, text, stamp.size)?;
+    append_str(text, " ")?;
+    text.append(stamp.digest.digits().as_slice())?;
+    Ok(())
+}
+
+/// Adds a space and a number.
+///
+/// # Errors
+/// `OutOfMemory`.
+pub(crate) fn append_field(alloc: Global, text: &mut Text, number: u64) -> Result<(), Trouble> {
+    append_str(text, " ")?;
+    append_number(alloc, text, number)
+}

@@ -1,0 +1,72 @@
+// The streams of a command, and its run.
+use crate::outcome::{Outcome, status_text};
+use ext_case::Trouble;
+use ext_depot::Depot;
+use ext_disk::Disk;
+use ext_io::{Calls, MemorySink, MemorySource};
+use ext_text::{Text, Words};
+use ext_top::run;
+use std::alloc::Global;
+
+/// What a command reads and how it is written: the bytes of its source, how many bytes a call moves, and which call of
+/// each stream fails, 0 where none does.
+#[derive(Debug, Drop)]
+pub struct Streams {
+    /// The bytes of the source.
+    pub source: Text,
+    /// The most bytes that a call moves; of a 0, one.
+    pub piece: usize,
+    /// The call of the source that fails.
+    pub source_fails: u64,
+    /// The call of the sink that fails.
+    pub sink_fails: u64,
+}
+
+impl Streams {
+    /// An empty source, and streams that move many bytes a call and never fail.
+    pub fn new(alloc: Global) -> Streams {
+        Streams {
+            source: Text::new(alloc),
+            piece: 65_536,
+            source_fails: 0,
+            sink_fails: 0,
+        }
+    }
+}
+
+/// Runs a command over streams in memory, a disk and a depot.
+///
+/// # Errors
+/// `OutOfMemory`, of the runner and not of the run.
+pub fn run_over<D: Disk, P: Depot>(
+    alloc: Global,
+    words: &Words,
+    streams: &Streams,
+    disk: &mut D,
+    depot: &mut P,
+) -> Result<Outcome, Trouble> {
+    let piece = streams.piece.max(1);
+    let mut source = MemorySource::new(
+        streams.source.copy()?,
+        piece,
+        only(alloc, streams.source_fails)?,
+    );
+    let mut sink = MemorySink::new(alloc, piece, only(alloc, streams.sink_fails)?);
+    let status = run(alloc, words, &mut source, &mut sink, disk, depot);
+    Ok(Outcome {
+        status: status_text(alloc, &status)?,
+        reply: Text::from_bytes(alloc, sink.written())?,
+    })
+}
+
+/// The calls of a device of which only this one fails; none where it is 0.
+///
+/// # Errors
+/// `OutOfMemory`.
+pub(crate) fn only(alloc: Global, call: u64) -> Result<Calls, Trouble> {
+    let mut calls = Calls::new(alloc);
+    if call > 0 {
+        calls.push(call)?;
+    }
+    Ok(calls)
+}

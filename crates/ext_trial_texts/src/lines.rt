@@ -1,0 +1,100 @@
+// The words `split`, `line`, `blanks`, `word` and `plain`: texts are split into lines and words.
+use crate::replies::{bytes_line, two_lines, two_lines_or_none, yes_or_no};
+use ext_case::{Trouble, one, string, two};
+use ext_lines::{
+    has_word, is_plain, next_line, next_word, plain_text, plain_text_with_tabs, split_at_byte,
+    split_str_at_byte, strip_carriage_return, trimmed,
+};
+use ext_text::Text;
+use std::alloc::Global;
+
+/// What a word of this file writes.
+///
+/// # Errors
+/// `Unreadable` where the arguments are no arguments of the word; `OutOfMemory`.
+pub(crate) fn reply(
+    alloc: Global,
+    word: &str,
+    asked: &[u8],
+    rest: &[Text],
+) -> Result<Option<Text>, Trouble> {
+    match (word, asked) {
+        ("split", b"bytes") => Ok(Some(split_bytes(alloc, rest)?)),
+        ("split", b"text") => Ok(Some(split_text(alloc, rest)?)),
+        ("line", b"next") => Ok(Some(first_line(alloc, rest)?)),
+        ("line", b"strip") => Ok(Some(strip(alloc, rest)?)),
+        ("blanks", b"trim") => Ok(Some(trim(alloc, rest)?)),
+        ("word", b"next") => Ok(Some(first_word(alloc, rest)?)),
+        ("word", b"has") => Ok(Some(has(alloc, rest)?)),
+        ("plain", _) => is_plain_as(alloc, asked, rest),
+        _ => Ok(None),
+    }
+}
+
+// The one byte of an argument.
+fn byte(argument: &Text) -> Result<u8, Trouble> {
+    match argument.bytes() {
+        [byte] => Ok(*byte),
+        _ => Err(Trouble::Unreadable("one byte is wanted")),
+    }
+}
+
+// `split bytes BYTE TEXT`: what stands before and after the first such byte.
+fn split_bytes(alloc: Global, rest: &[Text]) -> Result<Text, Trouble> {
+    let (at, text) = two(rest)?;
+    two_lines_or_none(alloc, split_at_byte(text.bytes(), byte(at)?))
+}
+
+// `split text BYTE TEXT`: the same of text, at a byte of ASCII.
+fn split_text(alloc: Global, rest: &[Text]) -> Result<Text, Trouble> {
+    let (at, text) = two(rest)?;
+    let at = byte(at)?;
+    if at >= 128 {
+        return Err(Trouble::Unreadable("a byte of ASCII is wanted"));
+    }
+    match split_str_at_byte(string(text)?, at) {
+        None => two_lines_or_none(alloc, None),
+        Some((before, after)) => two_lines(alloc, before.as_bytes(), after.as_bytes()),
+    }
+}
+
+// `line next TEXT`: the first line, and the text after it where a newline ends it.
+fn first_line(alloc: Global, rest: &[Text]) -> Result<Text, Trouble> {
+    match next_line(one(rest)?.bytes()) {
+        (line, None) => bytes_line(alloc, line),
+        (line, Some(after)) => two_lines(alloc, line, after),
+    }
+}
+
+// `line strip LINE`: the line without one carriage return at its end.
+fn strip(alloc: Global, rest: &[Text]) -> Result<Text, Trouble> {
+    bytes_line(alloc, strip_carriage_return(one(rest)?.bytes()))
+}
+
+// `blanks trim TEXT`: the text without the blanks at both ends.
+fn trim(alloc: Global, rest: &[Text]) -> Result<Text, Trouble> {
+    bytes_line(alloc, trimmed(string(one(rest)?)?).as_bytes())
+}
+
+// `word next TEXT`: the first word, and the text after it.
+fn first_word(alloc: Global, rest: &[Text]) -> Result<Text, Trouble> {
+    two_lines_or_none(alloc, next_word(one(rest)?.bytes()))
+}
+
+// `word has TEXT WORD`: whether it is a word of the text.
+fn has(alloc: Global, rest: &[Text]) -> Result<Text, Trouble> {
+    let (text, word) = two(rest)?;
+    yes_or_no(alloc, has_word(text.bytes(), word.bytes()))
+}
+
+// `plain bytes|text|tabs BYTES`: whether no byte is a control byte, whether they are plain text, and whether they are one
+// in which tabs may stand.
+fn is_plain_as(alloc: Global, asked: &[u8], rest: &[Text]) -> Result<Option<Text>, Trouble> {
+    let bytes = one(rest)?.bytes();
+    match asked {
+        b"bytes" => Ok(Some(yes_or_no(alloc, is_plain(bytes))?)),
+        b"text" => Ok(Some(yes_or_no(alloc, plain_text(bytes).is_some())?)),
+        b"tabs" => Ok(Some(yes_or_no(alloc, plain_text_with_tabs(bytes).is_some())?)),
+        _ => Ok(None),
+    }
+}

@@ -1,0 +1,96 @@
+// The word `path`: paths are read, lengthened, cut and compared.
+use crate::replies::{append_where, count_line, names_line, order_word, path_refusal};
+use ext_case::{Trouble, line_of, name, none, one, path, path_line, size, two};
+use ext_text::{Path, PathErr, Text};
+use std::alloc::Global;
+
+/// What the word writes.
+///
+/// # Errors
+/// `Unreadable` where the arguments are no arguments of the word; `OutOfMemory`.
+pub(crate) fn reply(alloc: Global, asked: &[u8], rest: &[Text]) -> Result<Option<Text>, Trouble> {
+    match asked {
+        b"read" => Ok(Some(read(alloc, rest)?)),
+        b"root" => Ok(Some(root(alloc, rest)?)),
+        b"child" => Ok(Some(child(alloc, rest)?)),
+        b"join" => Ok(Some(join(alloc, rest)?)),
+        b"parent" => Ok(Some(parent(alloc, rest)?)),
+        b"prefix" => Ok(Some(prefix(alloc, rest)?)),
+        b"compare" => Ok(Some(compare(alloc, rest)?)),
+        _ => Ok(None),
+    }
+}
+
+// `path read TEXT`: how many names the path of a text has.
+fn read(alloc: Global, rest: &[Text]) -> Result<Text, Trouble> {
+    match Path::read(alloc, one(rest)?.bytes()) {
+        Ok(path) => depth(alloc, &path),
+        Err(refusal) => line_of(alloc, path_refusal(refusal)?),
+    }
+}
+
+// How many names a path has.
+fn depth(alloc: Global, path: &Path) -> Result<Text, Trouble> {
+    count_line(alloc, "names", path.names().len() as u64)
+}
+
+// `path root`: how many names the path of no names has.
+fn root(alloc: Global, rest: &[Text]) -> Result<Text, Trouble> {
+    none(rest)?;
+    depth(alloc, &Path::from_names(Vec::new(alloc)))
+}
+
+// `path child PATH NAME`: the path of a name below a path.
+fn child(alloc: Global, rest: &[Text]) -> Result<Text, Trouble> {
+    let (above, below) = two(rest)?;
+    let above = path(alloc, above)?;
+    longer(alloc, above.child(&name(alloc, below)?))
+}
+
+// `path join PATH PATH`: the second path below the first.
+fn join(alloc: Global, rest: &[Text]) -> Result<Text, Trouble> {
+    let (above, below) = two(rest)?;
+    let above = path(alloc, above)?;
+    longer(alloc, above.join(&path(alloc, below)?))
+}
+
+// A longer path, by its copy, or why there is none.
+fn longer(alloc: Global, path: Result<Path, PathErr>) -> Result<Text, Trouble> {
+    match path {
+        Ok(path) => path_line(alloc, &path.copy()?),
+        Err(refusal) => line_of(alloc, path_refusal(refusal)?),
+    }
+}
+
+// `path parent PATH`: all names but the last.
+fn parent(alloc: Global, rest: &[Text]) -> Result<Text, Trouble> {
+    let path = path(alloc, one(rest)?)?;
+    names_line(alloc, path.parent())
+}
+
+// `path prefix PATH COUNT`: the path of the first names.
+fn prefix(alloc: Global, rest: &[Text]) -> Result<Text, Trouble> {
+    let (text, count) = two(rest)?;
+    let path = path(alloc, text)?;
+    path_line(alloc, &path.prefix(size(count)?)?)
+}
+
+// `path compare PATH PATH`: their order, and which relations hold.
+fn compare(alloc: Global, rest: &[Text]) -> Result<Text, Trouble> {
+    let (first, second) = two(rest)?;
+    let first = path(alloc, first)?;
+    let second = path(alloc, second)?;
+    relations(alloc, &first, &second)
+}
+
+// The order of two paths, whether they are the same, and whether the first starts with the other, is below it, and is
+// related to it.
+fn relations(alloc: Global, path: &Path, other: &Path) -> Result<Text, Trouble> {
+    let mut text = Text::from_bytes(alloc, order_word(path.cmp(other)).as_bytes())?;
+    append_where(&mut text, path == other, b" same")?;
+    append_where(&mut text, path.starts_with(other), b" starts")?;
+    append_where(&mut text, path.is_below(other), b" below")?;
+    append_where(&mut text, path.is_related(other), b" related")?;
+    text.append(b"\n")?;
+    Ok(text)
+}

@@ -1,6 +1,0 @@
-use Rattle.std.specs.Option.{option_copied}
-use Rattle.ext_trials.proofs.PlansLemmas.{plan_after}
-use Rattle.ext_trials.proofs.generations.plans.planned.Goals as goal
-
-pub returns : goal.returns
-returns c = plan_after (option_copied c.args.from) c.in_ok-root.root _ c.in_ok-next.next c.in_ok-root.ensures c.in_ok-changed.ensures c.in_ok-next.ensures
