@@ -23,8 +23,6 @@ mod settling;
 mod spot;
 mod spots;
 mod stopped;
-#[cfg(test)]
-mod tests;
 
 pub use disk::Disk;
 pub use disk_call::{DiskCall, DiskOp};

@@ -13,8 +13,6 @@ mod kept_files;
 pub mod laws;
 mod placing;
 mod sought;
-#[cfg(test)]
-mod tests;
 mod writing;
 
 pub use errors::HomesErr;
