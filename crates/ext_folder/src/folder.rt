@@ -235,6 +235,18 @@ impl<R: Files> Folder<R> {
         entry.kind()
     }
 
+    /// Where the last look found a file at a path below the root, if it did. What was found is then used once.
+    pub(crate) fn take_found(&mut self, path: &Path) -> Option<String>
+        ensures { self.new ≡ self.old }
+    {
+        match self.found.take() {
+            Some(found) if !path.names().is_empty() && self.is_location(found.as_str(), path) => {
+                Some(found)
+            }
+            _ => None,
+        }
+    }
+
     /// Whether a location is that of a path.
     pub(crate) fn is_location(&self, location: &str, path: &Path) -> bool {
         is_location(location, &self.root, path)

@@ -219,18 +219,37 @@ impl<R: Files> FolderDisk<R> {
         Ok(())
     }
 
+    // Where the last look found a file at the path, the system is not asked again what stands there.
     fn try_remove(&mut self, path: &Path) -> Result<(), FolderErr>
         ensures { self.new ≡ self.old }
     {
         self.need_synced()?;
-        let location = self.folder.location_below_root(path)?;
-        self.may_lead_elsewhere();
-        match self.folder.entry(location.as_str())?.kind()? {
-            Some(Kind::Dir) => fs::remove_dir(&self.folder.rt, location.as_str())?,
-            Some(Kind::File(_size)) => fs::remove_file(&self.folder.rt, location.as_str())?,
-            None => return Err(FolderErr::Missing),
+        if let Some(location) = self.folder.take_found(path) {
+            return self.remove_file(location.as_str());
         }
-        self.close_at(location.as_str());
+        let location = self.folder.location_below_root(path)?;
+        match self.folder.entry(location.as_str())?.kind()? {
+            Some(Kind::Dir) => self.remove_dir(location.as_str()),
+            Some(Kind::File(_size)) => self.remove_file(location.as_str()),
+            None => Err(FolderErr::Missing),
+        }
+    }
+
+    fn remove_file(&mut self, location: &str) -> Result<(), FolderErr>
+        ensures { self.new ≡ self.old }
+    {
+        self.may_lead_elsewhere();
+        fs::remove_file(&self.folder.rt, location)?;
+        self.close_at(location);
+        Ok(())
+    }
+
+    fn remove_dir(&mut self, location: &str) -> Result<(), FolderErr>
+        ensures { self.new ≡ self.old }
+    {
+        self.may_lead_elsewhere();
+        fs::remove_dir(&self.folder.rt, location)?;
+        self.close_at(location);
         Ok(())
     }
 
