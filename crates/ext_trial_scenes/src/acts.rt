@@ -1,5 +1,6 @@
 // What a case did to its store, so that it can be done again.
 use crate::changing::carry_change;
+use crate::disk_calls::call_text;
 use crate::outcome::Outcome;
 use crate::placing::{put_file, put_files, put_folder, settle};
 use crate::streams::{Streams, run_over};
@@ -21,6 +22,8 @@ pub(crate) enum Act {
     Files(Text, u32),
     /// The names in a folder are settled.
     Settle(Text),
+    /// The disk is asked for a call.
+    Call(Words),
     /// A command is run.
     Run(Words),
     /// A change is carried out.
@@ -40,9 +43,10 @@ pub(crate) fn act_on(
     match act {
         Act::Run(words) => run_over(alloc, words, &Streams::new(alloc), disk, depot),
         Act::Change(change) => carry_change(alloc, disk, depot, change),
+        Act::Call(words) => done(alloc, call_text(alloc, disk, words.as_slice())?),
         _ => {
             place(alloc, act, disk)?;
-            done(alloc)
+            done(alloc, Text::new(alloc))
         }
     }
 }
@@ -54,15 +58,15 @@ fn place(alloc: Global, act: &Act, disk: &mut MemoryDisk) -> Result<(), Trouble>
         Act::File(at, bytes) => put_file(alloc, disk, at, bytes.bytes()),
         Act::Files(dir, count) => put_files(alloc, disk, dir, *count),
         Act::Settle(dir) => settle(alloc, disk, dir),
-        Act::Run(_) | Act::Change(_) => Ok(()),
+        Act::Call(_) | Act::Run(_) | Act::Change(_) => Ok(()),
     }
 }
 
-// It ended well, and wrote nothing.
-fn done(alloc: Global) -> Result<Outcome, Trouble> {
+// It ended well, and wrote this.
+fn done(alloc: Global, reply: Text) -> Result<Outcome, Trouble> {
     Ok(Outcome {
         status: Text::from_bytes(alloc, b"0")?,
-        reply: Text::new(alloc),
+        reply,
     })
 }
 

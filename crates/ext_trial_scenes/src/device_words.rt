@@ -26,6 +26,7 @@ pub(crate) fn answer_devices(
         "input" => scene.give_source(one(arguments)?.copy()?),
         "pieces" => scene.cut_streams(sizes(alloc, arguments)?),
         "after" => after_stop(alloc, scene, arguments)?,
+        "call" => return Ok(Some(scene.call(alloc, arguments)?)),
         "fail" => return Ok(Some(fail(alloc, scene, arguments)?)),
         "stop" => return Ok(Some(stop(alloc, scene, arguments)?)),
         _ => return Ok(None),
@@ -73,7 +74,11 @@ fn after_stop(alloc: Global, scene: &mut Scene, arguments: &[Text]) -> Result<()
     }
 }
 
-fn pick_of(word: &Text) -> Result<Pick, Trouble> {
+/// The pick of a word.
+///
+/// # Errors
+/// `Unreadable` where it is none.
+pub(crate) fn pick_of(word: &Text) -> Result<Pick, Trouble> {
     match string(word)? {
         "old" => Ok(Pick::Old),
         "new" => Ok(Pick::New),

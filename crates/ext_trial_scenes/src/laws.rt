@@ -3,6 +3,13 @@
 
 /// Calls them.
 pub(crate) fn call_laws() {
+    ext_disk::laws::disks_follow();
+    ext_disk::laws::each_call_follows();
+    ext_disk::laws::a_stop_since_a_moment();
+    ext_disk::laws::now_may_be_left();
+    ext_disk::laws::fixed_paths_stay();
+    ext_homes::laws::a_brought_file_takes_the_least_home_of_its_bytes();
+    ext_homes::laws::a_host_is_placed_in_one_way();
     ext_store::laws::a_name_is_of_one_generation();
     ext_store::laws::left_overs();
     ext_store::laws::worked_rows();

@@ -11,6 +11,7 @@ mod changing;
 mod command_words;
 mod depot_words;
 mod device_words;
+mod disk_calls;
 mod ends;
 mod every;
 mod kept_words;

@@ -1,4 +1,5 @@
 // What the statements of a case have made so far.
+mod calls;
 mod plays;
 mod runs;
 

@@ -3,13 +3,14 @@ use crate::acts::Act;
 use crate::changing::{change_of, refusal_text, standing_text};
 use crate::command_words::may_change_text;
 use crate::depot_words::{read_text, size_text};
-use crate::device_words::answer_devices;
+use crate::device_words::{answer_devices, pick_of};
 use crate::kept_words::{compare, copy, give, give_piece};
 use crate::laws::call_laws;
-use crate::looking::{appends_text, calls_text, file_text, kind_text, most_bytes};
+use crate::looking::{appends_text, calls_text, file_text, kind_text, most_bytes, whole_text};
 use crate::scene::Scene;
 use crate::store_words::{clean, current_text, left_over_text, paths_text};
-use ext_case::{Trouble, none, number_text, one, one_and_more, size, two};
+use ext_case::{Trouble, none, number, number_text, one, one_and_more, size, two};
+use ext_disk::MemoryDisk;
 use ext_text::{Text, Words};
 use ext_trial_plans::prepare_first;
 use std::alloc::Global;
@@ -155,9 +156,11 @@ fn answer_calls(
     arguments: &[Text],
 ) -> Result<Option<Text>, Trouble> {
     match word {
-        "called" => {
-            none(arguments)?;
-            Ok(Some(calls_text(alloc, scene.disk(alloc)?)?))
+        "called" => Ok(Some(called(alloc, scene.disk(alloc)?, arguments)?)),
+        "whole" => Ok(Some(whole(alloc, scene, arguments)?)),
+        "starved" => {
+            let found = number_text(alloc, scene.disk(alloc)?.starved())?;
+            Ok(Some(stated(alloc, &found, arguments)?))
         }
         "appends" => Ok(Some(appends_text(alloc, scene.disk(alloc)?, one(arguments)?)?)),
         "most" => {
@@ -165,6 +168,22 @@ fn answer_calls(
             Ok(Some(stated(alloc, &found, arguments)?))
         }
         _ => Ok(None),
+    }
+}
+
+// `called`, or `called COUNT` for the last so many.
+fn called(alloc: Global, disk: &MemoryDisk, arguments: &[Text]) -> Result<Text, Trouble> {
+    match arguments {
+        [] => calls_text(alloc, disk, u64::MAX),
+        _ => calls_text(alloc, disk, number(one(arguments)?, u64::MAX)?),
+    }
+}
+
+// `whole`, or `whole PICK` for what a stop now would leave.
+fn whole(alloc: Global, scene: &mut Scene, arguments: &[Text]) -> Result<Text, Trouble> {
+    match arguments {
+        [] => whole_text(alloc, scene.disk(alloc)?),
+        _ => scene.left_by_stop(alloc, pick_of(one(arguments)?)?),
     }
 }
 

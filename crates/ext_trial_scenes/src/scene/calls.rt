@@ -1,0 +1,38 @@
+// Calls of the disk of a scene, and what a stop would leave of it.
+use super::Scene;
+use crate::acts::Act;
+use crate::disk_calls::call_text;
+use crate::ends::prepared;
+use crate::every::depot_of;
+use crate::looking::whole_text;
+use crate::words::words_of;
+use ext_case::Trouble;
+use ext_disk::Pick;
+use ext_io::Calls;
+use ext_text::Text;
+use std::alloc::Global;
+
+impl Scene {
+    /// Asks the disk for a call, and keeps it where it changed something.
+    ///
+    /// # Errors
+    /// `Unreadable` where the words are no call, and `OutOfMemory`.
+    pub(crate) fn call(&mut self, alloc: Global, words: &[Text]) -> Result<Text, Trouble> {
+        let text = call_text(alloc, self.disk(alloc)?, words)?;
+        if text.bytes() == b"done\n".as_slice() {
+            self.acts.push(Act::Call(words_of(alloc, words)?))?;
+        }
+        Ok(text)
+    }
+
+    /// What a stop now would leave of the disk. All that was done is done again on another disk, which is stopped.
+    ///
+    /// # Errors
+    /// `Unreadable` where something of it is not done, and `OutOfMemory`.
+    pub(crate) fn left_by_stop(&self, alloc: Global, pick: Pick) -> Result<Text, Trouble> {
+        let mut depot = depot_of(alloc, self.files.as_slice(), Calls::new(alloc))?;
+        let acts = self.acts.as_slice();
+        let disk = prepared(alloc, acts, &mut depot, Calls::new(alloc), None)?;
+        whole_text(alloc, &mut disk.after_stop(pick)?)
+    }
+}
