@@ -1,10 +1,13 @@
 -- Hosts of what is seen alone, with small files, are valid; and changes of them make plans.
 use Rattle.std.proofs.Common.{◌≡◌, ℕ, suc, zero, ◌*◌, ◌≤◌, true, false, cond, List, [], ◌∷◌, ◌++◌, length, get_or, Option, Some, None, is_some, refl, sym, ap, ◌∙◌, subst, arith}
-use Rattle.std.specs.Prelude.{Contains, IsTrue, codes, eqb}
+use Rattle.std.specs.Prelude.{Contains, IfOk, IsTrue, Result, Ok, Err, codes, eqb}
 use Rattle.std.specs.List.{AllByRecursion, flat_map}
+use Rattle.std.specs.FinMap.{put}
+use Rattle.std.specs.FinMap.Entries.{find-put}
 use Rattle.std.specs.Ordering.{eq_by_cmp}
 use Rattle.std.proofs.lemmas.Bool.{false≢true}
 use Rattle.std.proofs.lemmas.List.Sums.{sum_by-cons}
+use Rattle.ext_text.specs.Order.{paths_total}
 use Rattle.ext_text.specs.Path.{path_cmp}
 use Rattle.ext_text.specs.declared.arch.Arch.{Arch}
 use Rattle.ext_text.specs.declared.class.Class.TheVariants.{Sysext, Confext}
@@ -21,7 +24,7 @@ use Rattle.ext_host.specs.Host.{Hierarchies, default_hierarchies, present}
 use Rattle.ext_host.specs.Valid.{AreInRange, AreOfClasses, IsValidTree, all_bytes, bytes_of}
 use Rattle.ext_host.specs.declared.attachment.Attachment.{Attachment}
 use Rattle.ext_host.specs.declared.body.Body.{Body}
-use Rattle.ext_host.specs.declared.body.Body.TheVariants.{Kept, Depot}
+use Rattle.ext_host.specs.declared.body.Body.TheVariants.{Here, Kept, Depot}
 use Rattle.ext_host.specs.declared.home.Home.{Home}
 use Rattle.ext_host.specs.declared.host.Host.{Host}
 use Rattle.ext_host.proofs.ForCallers.{graft_is_drawn}
@@ -185,6 +188,42 @@ import_is_drawn root part new at res es graft is = λ held home kept file.
     graft_side root part held home kept (λ p mode stands. none_in_depot res es p mode held home (subst (λ t. lookup t p ≡ Some (File mode held)) is stands) kept)
     (graft_is_drawn root part new at graft held home kept file)
 
+-- a file of a single tree
+only : (tree : Entries HeldFile) (held : HeldFile) → IsFileOf (tree ∷ []) held → HasFile tree held
+only tree held is = at_index is.tree is.among is.file
+  where
+    at_index : (t : Entries HeldFile) → Contains (tree ∷ []) t → HasFile t held → HasFile tree held
+    at_index t (zero, inside, same) file = subst (λ u. HasFile u held) (sym same) file
+    at_index t (suc k, inside, same) file = absurd (omega arith)
+
+here_kept : (bytes : List ℕ) (home : Home) → Here bytes ≡ Kept home → ⊥
+here_kept bytes home same = cc
+
+-- a file whose bytes are here is not kept
+here_not_kept : (mode m : ℕ) (here held : HeldFile) (bytes : List ℕ) (home : Home) → here.body ≡ Here bytes → File mode here ≡ File m held → held.body ≡ Kept home → ⊥
+here_not_kept mode m here held bytes home body is kept = here_kept bytes home (sym body ∙ ap (body_in []) is ∙ kept)
+
+-- a tree into which a file was put whose bytes are here
+pub put_is_drawn : (es new : Entries HeldFile) (p : List (List ℕ)) (mode : ℕ) (here : HeldFile) (bytes : List ℕ) → here.body ≡ Here bytes → new ≡ put path_cmp p (File mode here) es → AreDrawnFrom (es ∷ []) (new ∷ [])
+put_is_drawn es new p mode here bytes body is held home kept file =
+    let found = only new held file in
+    record { tree = es; among = first_among es []; file = record { path = found.path; mode = found.mode; stands = at found.path found.mode (subst (λ t. lookup t found.path ≡ Some (File found.mode held)) is found.stands) } }
+  where
+    at : (q : List (List ℕ)) (m : ℕ) → lookup (put path_cmp p (File mode here) es) q ≡ Some (File m held) → lookup es q ≡ Some (File m held)
+    at q m stands =
+        elim (eq_by_cmp path_cmp q p) as (λ b. cond b (Some (File mode here)) (lookup es q) ≡ Some (File m held) → lookup es q ≡ Some (File m held)) [
+          | true ↦ λ there. absurd (here_not_kept mode m here held bytes home body (same_entry there) kept)
+          | false ↦ λ was. was
+        ] (sym (find-put path_cmp paths_total q p (File mode here) es) ∙ stands)
+
+-- one change after another
+drawn_twice : (a b c : Entries HeldFile) → AreDrawnFrom (a ∷ []) (b ∷ []) → AreDrawnFrom (b ∷ []) (c ∷ []) → AreDrawnFrom (a ∷ []) (c ∷ [])
+drawn_twice a b c first second held home kept file = first held home kept (second held home kept file)
+
+pub then_drawn : {E : Type 0} (a b : Entries HeldFile) (r : Result (Entries HeldFile) E) → AreDrawnFrom (a ∷ []) (b ∷ []) → IfOk r (λ c. AreDrawnFrom (b ∷ []) (c ∷ [])) → IfOk r (λ c. AreDrawnFrom (a ∷ []) (c ∷ []))
+then_drawn a b (Ok c) first second = drawn_twice a b c first second
+then_drawn a b (Err e) first second = tt
+
 -- ---- plans
 
 no_file : (held : HeldFile) → HasFile [] held → ⊥
@@ -199,14 +238,6 @@ tree_of_plain old host_root lower past held lower_is past_is is =
     at_index tree (zero, inside, same) file = record { tree = host_root; among = first_among host_root []; file = subst (λ t. HasFile t held) (sym same) file }
     at_index tree (suc zero, inside, same) file = absurd (no_file held (subst (λ t. HasFile t held) (sym same) file))
     at_index tree (suc (suc k), inside, same) file = absurd (omega arith)
-
--- a file of a single tree
-only : (tree : Entries HeldFile) (held : HeldFile) → IsFileOf (tree ∷ []) held → HasFile tree held
-only tree held is = at_index is.tree is.among is.file
-  where
-    at_index : (t : Entries HeldFile) → Contains (tree ∷ []) t → HasFile t held → HasFile tree held
-    at_index t (zero, inside, same) file = subst (λ u. HasFile u held) (sym same) file
-    at_index t (suc k, inside, same) file = absurd (omega arith)
 
 one_of_before : (from : Option Generation) (held : HeldFile) → IsFileOf (root_before from ∷ []) held → IsFileOf (trees_before (host_before from)) held
 one_of_before None held is = absurd (no_file held (only [] held is))

@@ -1,5 +1,5 @@
 // Plans: what a change makes of a host of which only small files are seen.
-ghost use Rattle.std.specs.Prelude.{◌≡◌, ◌≤◌, [], ◌∷◌, length, IsTrue, IfOk};
+ghost use Rattle.std.specs.Prelude.{◌≡◌, ◌≤◌, [], ◌∷◌, length, IsTrue, IfOk, OnOk};
 ghost use Rattle.std.specs.List.{AllByRecursion};
 ghost use Rattle.std.specs.Option.{option_copied};
 ghost use Rattle.ext_text.specs.Digest.{IsDigest};
@@ -10,7 +10,7 @@ ghost use Rattle.ext_trial_plans.specs.Plans.{IsPlain, IsPlanAfter, IsSmall, roo
 use crate::refused::Refused;
 use ext_gen::Opened;
 use ext_host::{Attachments, Held, Host, Manifests, Pasts, Plan, default_hierarchies, from_depot};
-use ext_text::{Arch, Class, Path, Scope, Text};
+use ext_text::{Arch, Class, Mode, Path, Scope, Text};
 use ext_tree::{Entry, Stamp, Tree, read_tree};
 use std::alloc::Global;
 
@@ -19,8 +19,9 @@ use std::alloc::Global;
 pub enum Change {
     /// Nothing: it makes a generation all the same.
     Keep,
-    /// Hangs the tree of a text in at a path. Its files are in the depot, below `files`.
-    Import(Path, Text),
+    /// Hangs the tree of a text in at a path. Its files are in the depot, below `files`. Then files are put at paths where
+    /// nothing stands, whose bytes are here.
+    Import(Path, Text, Vec<(Path, Text)>),
     /// Takes away what stands at and below a path.
     Remove(Path),
 }
@@ -54,7 +55,10 @@ fn changed(alloc: Global, root: Tree<Held>, change: &Change) -> Result<Tree<Held
 {
     match change {
         Change::Keep => Ok(root),
-        Change::Import(at, text) => imported(alloc, root, at, text),
+        Change::Import(at, text, here) => {
+            let new = imported(alloc, root, at, text)?;
+            with_files(new, here.as_slice())
+        }
         Change::Remove(at) => removed(root, at),
     }
 }
@@ -73,6 +77,27 @@ fn imported(
     let mut new = root;
     new.graft(path, part)?;
     Ok(new)
+}
+
+// The tree with these files put into it, whose bytes are here.
+fn with_files(root: Tree<Held>, files: &[(Path, Text)]) -> Result<Tree<Held>, Refused>
+    ensures { IfOk result (λ new. AreDrawnFrom (root ∷ []) (new ∷ [])) }
+{
+    let mut new = root;
+    'files: for file in files {
+        put_file(&mut new, &file.0, &file.1)?;
+    }
+    Ok(new)
+}
+
+// Puts a file at a path where nothing stands, whose bytes are here.
+fn put_file(tree: &mut Tree<Held>, path: &Path, bytes: &Text) -> Result<(), Refused>
+    ensures { OnOk result (AreDrawnFrom (tree.old ∷ []) (tree.new ∷ [])) }
+{
+    let mode = Mode::new(0o644).ok_or(Refused)?;
+    let held = Held::here(bytes.copy()?);
+    tree.insert(path.copy()?, Entry::File(mode, held))?;
+    Ok(())
 }
 
 fn removed(root: Tree<Held>, path: &Path) -> Result<Tree<Held>, Refused>

@@ -2,16 +2,17 @@
 use crate::outcome::{Outcome, append_damage, append_field, append_stamp};
 use ext_case::{
     Trouble, append_line, append_path, append_str, one, one_and_more, path, string, two,
+    two_and_more,
 };
 use ext_depot::MemoryDepot;
 use ext_disk::MemoryDisk;
 use ext_gen::StoreErr;
 use ext_host::ShelfErr;
-use ext_text::{Text, Which};
+use ext_text::{Path, Text, Which};
 use ext_trial_plans::{Change, Standing, carry_out, stands_for};
 use std::alloc::Global;
 
-/// The change that words are: `keep`, `import PATH TEXT` or `remove PATH`.
+/// The change that words are: `keep`, `import PATH TEXT [FILE BYTES] ..` or `remove PATH`.
 ///
 /// # Errors
 /// `Unreadable` where they are none, and `OutOfMemory`.
@@ -22,13 +23,26 @@ pub(crate) fn change_of(alloc: Global, arguments: &[Text]) -> Result<Change, Tro
             ext_case::none(rest)?;
             Ok(Change::Keep)
         }
-        "import" => {
-            let (at, text) = two(rest)?;
-            Ok(Change::Import(path(alloc, at)?, text.copy()?))
-        }
+        "import" => import_of(alloc, rest),
         "remove" => Ok(Change::Remove(path(alloc, one(rest)?)?)),
         _ => Err(Trouble::Unreadable("no such change")),
     }
+}
+
+fn import_of(alloc: Global, arguments: &[Text]) -> Result<Change, Trouble> {
+    let (at, text, files) = two_and_more(arguments)?;
+    let here = files_of(alloc, files)?;
+    Ok(Change::Import(path(alloc, at)?, text.copy()?, here))
+}
+
+// Files whose bytes are here: a path and bytes, in turn.
+fn files_of(alloc: Global, arguments: &[Text]) -> Result<Vec<(Path, Text)>, Trouble> {
+    let mut files = Vec::new(alloc);
+    for pair in arguments.chunks(2) {
+        let (at, bytes) = two(pair)?;
+        files.push((path(alloc, at)?, bytes.copy()?))?;
+    }
+    Ok(files)
 }
 
 /// How a change ends, as a command would: 5 where the disk failed, 6 where the depot did, 1 where it was refused.

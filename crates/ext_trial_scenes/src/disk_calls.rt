@@ -1,8 +1,8 @@
 // The ten calls of a disk, each made where its condition holds.
-ghost use Rattle.std.specs.Prelude.{◌≡◌, ◌<◌, ◌∷◌, ◌++◌, [], true, length, IsTrue, IfOk, IfSome};
+ghost use Rattle.std.specs.Prelude.{◌≡◌, ◌<◌, ◌∷◌, ◌++◌, [], true, length, IsTrue, IfOk, IfSome, Option};
 ghost use Rattle.ext_disk.specs.Calls.{remove, rename, MayCall};
-ghost use Rattle.ext_disk.specs.Disk.{is_file};
-ghost use Rattle.ext_disk.specs.Lookups.{IsKindAt, MayList};
+ghost use Rattle.ext_disk.specs.Disk.{Node, is_file, is_no_folder};
+ghost use Rattle.ext_disk.specs.Lookups.{IsKindAt, MayList, kind_of};
 
 use crate::looking::append_kind;
 use crate::placing::{below, cut, is_free};
@@ -328,11 +328,42 @@ fn may_rename<D: Disk>(
     requires to { to.now ≡ dir.now ++ names.1.now ∷ [] }
     ensures { IfOk result (λ may. IsTrue may → MayCall (rename from.now to.now) (D.state disk.new)) }
 {
+    let both = look_at_both(disk, from, to)?;
+    if from.cmp(to).is_eq() {
+        return Ok(false);
+    }
+    Ok(is_file_kind(both.0) && is_no_folder_kind(both.1))
+}
+
+// What stands at both paths.
+fn look_at_both<D: Disk>(
+    disk: &mut D,
+    from: &Path,
+    to: &Path,
+) -> Result<(Option<Kind>, Option<Kind>), Failed>
+    ensures from { IfOk result (λ both. IsKindAt (D.state disk.new) from.now both.0) }
+    ensures to { IfOk result (λ both. IsKindAt (D.state disk.new) to.now both.1) }
+{
     let moved = disk.kind(from)?;
     let there = disk.kind(to)?;
-    match (moved, there) {
-        (Some(Kind::File(_)), Some(Kind::File(_)) | None) => Ok(!from.cmp(to).is_eq()),
-        _ => Ok(false),
+    Ok((moved, there))
+}
+
+fn is_file_kind(kind: Option<Kind>) -> bool
+    ensures { (node : Option Node) → kind ≡ kind_of node → IsTrue result → is_file node ≡ true }
+{
+    match kind {
+        Some(Kind::File(_)) => true,
+        Some(Kind::Dir) | None => false,
+    }
+}
+
+fn is_no_folder_kind(kind: Option<Kind>) -> bool
+    ensures { (node : Option Node) → kind ≡ kind_of node → IsTrue result → is_no_folder node ≡ true }
+{
+    match kind {
+        Some(Kind::File(_)) | None => true,
+        Some(Kind::Dir) => false,
     }
 }
 

@@ -182,16 +182,21 @@ pub(crate) fn name_of(op: DiskOp) -> &'static str {
     }
 }
 
-/// A line of the sizes of the appends to a path, with a space between each two.
+/// A line of the sizes of the calls of one kind at a path, with a space between each two.
 ///
 /// # Errors
 /// `Unreadable` where it is no path, and `OutOfMemory`.
-pub(crate) fn appends_text(alloc: Global, disk: &MemoryDisk, at: &Text) -> Result<Text, Trouble> {
+pub(crate) fn sizes_text(
+    alloc: Global,
+    disk: &MemoryDisk,
+    op: DiskOp,
+    at: &Text,
+) -> Result<Text, Trouble> {
     let at = path(alloc, at)?;
     let mut text = Text::new(alloc);
     for index in 0..disk.calls() {
         if let Some(call) = disk.call(index)
-            && is_append_to(call, &at)
+            && is_at(call, op, &at)
         {
             append_size(alloc, &mut text, call.bytes)?;
         }
@@ -200,8 +205,8 @@ pub(crate) fn appends_text(alloc: Global, disk: &MemoryDisk, at: &Text) -> Resul
     Ok(text)
 }
 
-fn is_append_to(call: &DiskCall, at: &Path) -> bool {
-    call.op == DiskOp::Append && call.path == *at
+fn is_at(call: &DiskCall, op: DiskOp, at: &Path) -> bool {
+    call.op == op && call.path == *at
 }
 
 fn append_size(alloc: Global, text: &mut Text, size: u64) -> Result<(), Trouble> {

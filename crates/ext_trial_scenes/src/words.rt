@@ -6,11 +6,11 @@ use crate::depot_words::{read_text, size_text};
 use crate::device_words::{answer_devices, pick_of};
 use crate::kept_words::{compare, copy, give, give_piece};
 use crate::laws::call_laws;
-use crate::looking::{appends_text, calls_text, file_text, kind_text, most_bytes, whole_text};
+use crate::looking::{calls_text, file_text, kind_text, most_bytes, sizes_text, whole_text};
 use crate::scene::Scene;
 use crate::store_words::{clean, current_text, left_over_text, paths_text};
 use ext_case::{Trouble, none, number, number_text, one, one_and_more, size, two};
-use ext_disk::MemoryDisk;
+use ext_disk::{DiskOp, MemoryDisk};
 use ext_text::{Text, Words};
 use ext_trial_plans::prepare_first;
 use std::alloc::Global;
@@ -162,7 +162,8 @@ fn answer_calls(
             let found = number_text(alloc, scene.disk(alloc)?.starved())?;
             Ok(Some(stated(alloc, &found, arguments)?))
         }
-        "appends" => Ok(Some(appends_text(alloc, scene.disk(alloc)?, one(arguments)?)?)),
+        "appends" => Ok(Some(sizes(alloc, scene, DiskOp::Append, arguments)?)),
+        "reads" => Ok(Some(sizes(alloc, scene, DiskOp::Read, arguments)?)),
         "most" => {
             let found = number_text(alloc, most_bytes(scene.disk(alloc)?))?;
             Ok(Some(stated(alloc, &found, arguments)?))
@@ -177,6 +178,16 @@ fn called(alloc: Global, disk: &MemoryDisk, arguments: &[Text]) -> Result<Text, 
         [] => calls_text(alloc, disk, u64::MAX),
         _ => calls_text(alloc, disk, number(one(arguments)?, u64::MAX)?),
     }
+}
+
+// `appends PATH`, or `reads PATH`.
+fn sizes(
+    alloc: Global,
+    scene: &mut Scene,
+    op: DiskOp,
+    arguments: &[Text],
+) -> Result<Text, Trouble> {
+    sizes_text(alloc, scene.disk(alloc)?, op, one(arguments)?)
 }
 
 // `whole`, or `whole PICK` for what a stop now would leave.
