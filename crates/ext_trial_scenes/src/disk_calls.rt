@@ -40,12 +40,7 @@ pub(crate) fn call_text(
 }
 
 // A call of a path alone.
-fn spot_text(
-    alloc: Global,
-    disk: &mut MemoryDisk,
-    call: &str,
-    at: &Text,
-) -> Result<Text, Trouble> {
+fn spot_text(alloc: Global, disk: &mut MemoryDisk, call: &str, at: &Text) -> Result<Text, Trouble> {
     let at = path(alloc, at)?;
     let around = folder_around(&at)?;
     match call {
@@ -62,8 +57,6 @@ fn spot_text(
 fn folder_around(path: &Path) -> Result<Path, Trouble> {
     Ok(path.prefix(path.names().len().saturating_sub(1))?)
 }
-
-// ---- what they write
 
 fn done_text(alloc: Global, done: Result<bool, Failed>) -> Result<Text, Trouble> {
     match done {
@@ -110,8 +103,6 @@ fn lines_of(alloc: Global, names: &[Name]) -> Result<Text, Trouble> {
     }
     Ok(text)
 }
-
-// ---- those that read
 
 // What stands at a path. It is asked first what stands at the folder around it.
 fn look<D: Disk>(disk: &mut D, path: &Path, around: &Path) -> Result<Option<Kind>, Failed>
@@ -200,8 +191,6 @@ fn read<D: Disk>(
     Ok(Some(disk.read(path, at, buf)?))
 }
 
-// ---- those that change something
-
 // What is made.
 #[derive(Clone, Copy)]
 enum Made {
@@ -209,12 +198,7 @@ enum Made {
     File,
 }
 
-fn make_text(
-    alloc: Global,
-    disk: &mut MemoryDisk,
-    at: &Text,
-    made: Made,
-) -> Result<Text, Trouble> {
+fn make_text(alloc: Global, disk: &mut MemoryDisk, at: &Text, made: Made) -> Result<Text, Trouble> {
     let (dir, name) = cut(alloc, at.bytes())?;
     let path = below(&dir, &name)?;
     done_text(alloc, make(disk, &dir, &name, &path, made))
@@ -247,12 +231,7 @@ fn append_text(alloc: Global, disk: &mut MemoryDisk, arguments: &[Text]) -> Resu
     done_text(alloc, append(disk, &at, &around, bytes.bytes()))
 }
 
-fn append<D: Disk>(
-    disk: &mut D,
-    path: &Path,
-    around: &Path,
-    bytes: &[u8],
-) -> Result<bool, Failed> {
+fn append<D: Disk>(disk: &mut D, path: &Path, around: &Path, bytes: &[u8]) -> Result<bool, Failed> {
     if !has_file(disk, path, around)? || bytes.is_empty() {
         return Ok(false);
     }

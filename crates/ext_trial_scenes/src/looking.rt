@@ -139,11 +139,7 @@ fn append_file(
 ///
 /// # Errors
 /// `OutOfMemory`.
-pub(crate) fn calls_text(
-    alloc: Global,
-    disk: &MemoryDisk,
-    count: u64,
-) -> Result<Text, Trouble> {
+pub(crate) fn calls_text(alloc: Global, disk: &MemoryDisk, count: u64) -> Result<Text, Trouble> {
     let mut text = Text::new(alloc);
     let first = disk.calls().saturating_sub(count);
     for index in first..=disk.calls() {
