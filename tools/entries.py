@@ -8,6 +8,7 @@ see.
 import hashlib
 import os
 import stat
+import sys
 
 MOST_ENTRIES = 262_144
 MOST_FILE_BYTES = 1_073_741_824
@@ -20,7 +21,28 @@ PIECE = 1 << 20
 
 
 class Refused(Exception):
-    """What a tree text can't hold."""
+    """What a tool can't take or write: one reason or several."""
+
+
+def shown(path):
+    """A path on one line: what can't be printed as it is stands escaped."""
+    return "".join(char if char.isprintable() else ascii(char)[1:-1] for char in os.fsdecode(path))
+
+
+def reasons_of(error):
+    """The reasons of a refusal, or what the system says of a call that failed, with its path."""
+    if isinstance(error, Refused):
+        return error.args
+    said = error.strerror or str(error)
+    return (f"{shown(error.filename)}: {said}",) if error.filename else (said,)
+
+
+def run_tool(name, call):
+    """Calls a tool. Where it fails each reason has a line on standard error, and the status is 1."""
+    try:
+        call()
+    except (Refused, OSError) as error:
+        sys.exit("\n".join(f"{name}: {reason}" for reason in reasons_of(error)))
 
 
 def check_text(text, what):
@@ -81,47 +103,87 @@ def target_of(full):
     return target
 
 
-def entry_line(full, names, stamp=stamp_of):
-    """The line of what stands at a place. `stamp` gives the size and the digest of a file."""
+def is_whiteout(status):
+    return stat.S_ISCHR(status.st_mode) and status.st_rdev == 0
+
+
+def is_special(status):
+    """Whether it is a device, a socket or a pipe, of which a tree text has none."""
+    kinds = stat.S_ISDIR, stat.S_ISREG, stat.S_ISLNK
+    return not is_whiteout(status) and not any(is_kind(status.st_mode) for is_kind in kinds)
+
+
+def check_entry(full, names, status):
+    """Refuses what a tree text can't hold, and what may not be read."""
     check_path(names)
+    if is_special(status):
+        raise Refused("neither a directory nor a file nor a link nor a whiteout")
+    if stat.S_ISLNK(status.st_mode):
+        target_of(full)
+    if stat.S_ISREG(status.st_mode):
+        if status.st_size > MOST_FILE_BYTES:
+            raise Refused(f"more than {MOST_FILE_BYTES:,} bytes")
+        os.close(os.open(full, os.O_RDONLY | os.O_NOFOLLOW))
+
+
+def names_in(folder, names):
+    """The places in a folder with their names, the last one first."""
+    return [(os.path.join(folder, name), (*names, name)) for name in sorted(os.listdir(folder), reverse=True)]
+
+
+def is_taken(_full, _names, _status):
+    return True
+
+
+def look_through(folder, takes=is_taken):
+    """Each place below a folder with its names, in path order, by a stack of what is still to be visited. What `takes` is false
+    of is left out, with all below it. Where a tree text can't hold all the rest, every reason is told at once."""
+    waiting, places, reasons = names_in(folder, ()), [], []
+    while waiting:
+        full, names = waiting.pop()
+        try:
+            status = os.lstat(full)
+            if not takes(full, names, status):
+                continue
+            places.append((full, names))
+            check_entry(full, names, status)
+            if stat.S_ISDIR(status.st_mode):
+                waiting.extend(names_in(full, names))
+        except (Refused, OSError) as error:
+            said = error.args[0] if isinstance(error, Refused) else error.strerror
+            reasons.append(f"{shown(full)}: {said}")
+    if len(places) > MOST_ENTRIES:
+        reasons.append(f"{shown(folder)}: {len(places):,} entries, where a tree has at most {MOST_ENTRIES:,}")
+    if reasons:
+        raise Refused(*reasons)
+    return places
+
+
+def entry_line(full, names, stamp):
+    """The line of what stands at a place. `stamp` gives the size and the digest of a file."""
     path = b"/".join(names)
     status = os.lstat(full)
     mode = b"%o" % stat.S_IMODE(status.st_mode)
     if stat.S_ISDIR(status.st_mode):
         return b"%b %b %b\n" % (b"o" if is_opaque(full) else b"d", mode, path)
     if stat.S_ISREG(status.st_mode):
-        size, digest = stamp(full)
+        size, digest = stamp(full, names)
         return b"f %b %d %b %b\n" % (mode, size, digest.encode(), path)
     if stat.S_ISLNK(status.st_mode):
         target = target_of(full)
         return b"l %d %b %b\n" % (len(target), target, path)
-    if stat.S_ISCHR(status.st_mode) and status.st_rdev == 0:
+    if is_whiteout(status):
         return b"w %b\n" % path
-    raise Refused("neither a directory nor a file nor a link nor a whiteout")
+    raise Refused("it changed meanwhile")
 
 
-def below(folder):
-    """Each place below a folder with its names, in path order, by a stack of what is still to be visited."""
-    waiting = [(os.path.join(folder, name), (name,)) for name in sorted(os.listdir(folder), reverse=True)]
-    count = 0
-    while waiting:
-        full, names = waiting.pop()
-        count += 1
-        if count > MOST_ENTRIES:
-            raise Refused(f"{os.fsdecode(full)}: more than {MOST_ENTRIES:,} entries")
-        yield full, names
-        if stat.S_ISDIR(os.lstat(full).st_mode):
-            inside = sorted(os.listdir(full), reverse=True)
-            waiting.extend((os.path.join(full, name), names + (name,)) for name in inside)
-
-
-def entry_lines(folder, stamp=lambda full, names: stamp_of(full)):
-    """The lines of what lies below a folder. `stamp` gives the size and the digest of a file at a place."""
-    for full, names in below(folder):
+def entry_lines(places, stamp=lambda full, names: stamp_of(full)):
+    """The lines of these places. `stamp` gives the size and the digest of a file at a place."""
+    for full, names in places:
         try:
-            yield entry_line(full, names, lambda place, names=names: stamp(place, names))
+            yield entry_line(full, names, stamp)
         except Refused as reason:
-            raise Refused(f"{os.fsdecode(full)}: {reason}") from None
+            raise Refused(f"{shown(full)}: {reason}") from None
 
 
 def tree_text(lines):

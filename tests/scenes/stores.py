@@ -12,7 +12,7 @@ import time
 from pathlib import Path
 
 from scenes.devices import become_nobody
-from scenes.running import ABC, EMPTY, SECONDS, TOP, Failed, Skipped, expect, named, run, shortened, tree_text
+from scenes.running import ABC, EMPTY, SECONDS, Failed, Skipped, expect, named, run, shortened, tree_text
 
 EMPTY_INDEX = (
     b"hostext-store 2\nhost x86-64 system\nhierarchies 3\nh sysext opt\nh sysext usr\nh confext etc\n"
@@ -410,22 +410,6 @@ def a_kill_at_any_moment_leaves_the_tree_before_or_after(place):
         raise Failed("no kill came before the end of a change")
 
 
-def pack_and_unpack_give_a_folder_back(place):
-    folder, out = place.store.with_name("folder"), place.store.with_name("out")
-    (folder / "usr/bin").mkdir(parents=True)
-    (folder / "usr/bin/tool").write_bytes(b"abc")
-    (folder / "usr/bin/tool").chmod(0o755)
-    (folder / "usr/bin/link").symlink_to("../../outside")
-    (folder / "usr/ü").mkdir(mode=0o700)
-    tools, around = TOP / "tools", {**os.environ, "HOSTEXT": str(place.program)}
-    subprocess.run([tools / "pack", folder, place.depot, "a/host"], check=True, timeout=SECONDS)
-    place.expect(("init x86-64 system", DONE), ("import-fs a/host /srv", DONE))
-    subprocess.run([tools / "unpack", place.store, "/srv", out], check=True, env=around, timeout=SECONDS)
-    texts = [subprocess.run([tools / "tree-text", each], check=True, capture_output=True).stdout for each in (folder, out)]
-    if texts[0] != texts[1]:
-        raise Failed(f"what was unpacked is {shortened(texts[1])}, and not {shortened(texts[0])}")
-
-
 def left_overs(folder, count):
     """So many left-overs: a generation's folder, and names of one file in it."""
     folder.mkdir()
@@ -451,37 +435,6 @@ def more_left_overs_than_one_command_removes_take_two(place):
     place.expect(("tree", tree_text()), ("import-fs r /", DONE), ("tree", tree_text("d 755 a")))
 
 
-def tool(place, name, *words):
-    """What the tool writes on standard error, and its status."""
-    around = {**os.environ, "HOSTEXT": str(place.program)}
-    ended = subprocess.run([TOP / "tools" / name, *words], stdout=subprocess.DEVNULL, stderr=subprocess.PIPE, env=around, timeout=SECONDS)
-    return ended.stderr, ended.returncode
-
-
-def the_tools_refuse_what_they_cannot_write(place):
-    folder, out = place.store.with_name("folder"), place.store.with_name("out")
-    folder.mkdir()
-    (folder / "a").write_bytes(b"abc")
-    os.mkfifo(folder / "pipe")
-    said, status = tool(place, "pack", folder, place.depot, "r")
-    if status != 1 or b"pipe" not in said or list(place.depot.iterdir()):
-        raise Failed(f"pack of a pipe says {said!r}, and the depot has {list(place.depot.iterdir())}")
-    (folder / "pipe").unlink()
-    expect(tool(place, "pack", folder, place.depot, "r"), (b"", 0))
-    said, status = tool(place, "pack", folder, place.depot, "r")
-    if status != 1 or b"it is there already" not in said:
-        raise Failed(f"a second pack says {said!r}")
-    place.expect(("init x86-64 system", DONE), ("import-fs r /", DONE))
-    out.mkdir()
-    (out / "kept").touch()
-    if tool(place, "unpack", place.store, "/", out)[1] != 1 or [path.name for path in out.iterdir()] != ["kept"]:
-        raise Failed(f"unpack into a folder that isn't empty leaves {list(out.iterdir())}")
-    for name in ("pack", "unpack"):
-        expect(tool(place, name, "--help"), (b"", 0))
-        if tool(place, name, "r")[1] != 1:
-            raise Failed(f"{name} of one word does not fail")
-
-
 CALLS = [
     *(a_new_store_has_an_index_and_nothing_else, left_overs_go_before_a_change_and_other_names_stay, an_old_text_is_read_and_migrated_once),
     *(the_words_of_init_have_their_places, a_host_is_imported_changed_and_checked, what_one_command_stores_the_next_ones_find),
@@ -491,7 +444,6 @@ CALLS = [
     *(a_store_that_is_none_is_told, a_damaged_file_is_told, odd_things_at_the_paths_of_a_store_are_told),
     *(a_name_that_is_no_utf_8_stops_a_change_alone, a_missing_store_is_a_disk_fault, a_missing_depot_has_no_file),
     *(a_depot_with_odd_files_is_a_depot_fault, folders_without_permission_are_faults, a_full_file_system_leaves_the_tree_before),
-    *(a_large_file_comes_back, a_kill_at_any_moment_leaves_the_tree_before_or_after, pack_and_unpack_give_a_folder_back),
-    *(the_tools_refuse_what_they_cannot_write, more_left_overs_than_one_command_removes_take_two),
+    *(a_large_file_comes_back, a_kill_at_any_moment_leaves_the_tree_before_or_after, more_left_overs_than_one_command_removes_take_two),
 ]
 scenes = named(*map(in_a_place, CALLS))
