@@ -1,9 +1,10 @@
-"""The sessions of README.md, read out of README.md.
+"""The sessions of the documents, read out of these.
 
-A block between lines of three backquotes is a session where it has lines that begin with `$ `, and what stands below such
-a line is all that the command writes, on both outputs. A block without such lines is no session and isn't run: so the
-command that runs these tests stands in one. A session runs in one shell, in a folder that has the repository's examples
-and tools, and the program under the name hostext. It is skipped where a tool that it starts is missing.
+A block between lines of three backquotes has commands where it has lines that begin with `$ `, and what stands below such a line
+is all that the command writes, on both outputs. A block without such lines isn't run: so the command that runs these tests
+stands in one. The blocks below one heading are one session: each goes on where the one before it ended, in one shell and one
+folder, which has the repository's examples and tools, and the program under the name hostext. A session is skipped where a
+tool that it starts is missing.
 """
 import os
 import re
@@ -15,12 +16,34 @@ from pathlib import Path
 from scenes.running import SECONDS, TOP, Failed, Skipped, shortened
 
 
-def sessions():
-    """Each session as its commands, with what they write."""
-    for block in re.findall(r"^```[^\n]*\n(.*?)^```$", (TOP / "README.md").read_text(), re.M | re.S):
-        session = re.findall(r"^\$ ([^\n]*)\n((?:(?!\$ )[^\n]*\n)*)", block, re.M)
+DOCUMENTS = "README.md", "examples/README.md"
+
+
+def headed(text):
+    """The blocks of a document, by the heading above each."""
+    heading, found = "", {}
+    for title, block in re.findall(r"^#+ ([^\n]*)$|^```[^\n]*\n(.*?)^```$", text, re.M | re.S):
+        if title:
+            heading = title
+        else:
+            found.setdefault(heading, []).append(block)
+    return found
+
+
+def commands_of(block):
+    """Its commands, with what they write. What stands before the first of them is the output of none, and is refused."""
+    commands = re.findall(r"^\$ ([^\n]*)\n((?:(?!\$ )[^\n]*\n)*)", block, re.M)
+    if commands and not block.startswith("$ "):
+        raise Failed(f"a session begins with {shortened(block.splitlines()[0])}")
+    return commands
+
+
+def sessions(text):
+    """Each session of a document: its heading, and its commands with what they write."""
+    for heading, blocks in headed(text).items():
+        session = [command for block in blocks for command in commands_of(block)]
         if session:
-            yield session
+            yield heading, session
 
 
 def shell(commands, folder):
@@ -84,5 +107,6 @@ def the_first_session(script, around):
 def scenes(program):
     around = {**os.environ, "HOSTEXT": str(program)}
     yield "examples/first-session", lambda: the_first_session(TOP / "examples/first-session", around)
-    for session in sessions():
-        yield f"README.md: {session[-1][0]}", lambda session=session: in_a_folder(session, program)
+    for path in DOCUMENTS:
+        for heading, session in sessions((TOP / path).read_text()):
+            yield f"{path}: {heading}", lambda session=session: in_a_folder(session, program)

@@ -264,6 +264,29 @@ def a_damaged_file_is_told(place):
     place.expect(("check", b"ok 1 3\n"), ("cat /a", b"abc"))
 
 
+def what_helps_where_a_file_is_damaged(place):
+    """Its bytes in its place; or to remove each path that has it, out of a view too, and to import it then."""
+    place.resource("host", tree_text("d 755 a", f"f 644 3 {ABC} a/b"), {"a/b": b"abc"})
+    place.expect(("init x86-64 system /usr", DONE), ("import-fs host /usr", DONE), ("import-fs host /srv", DONE))
+    release = b"ID=_any\n"
+    entries = "d 755 usr", "d 755 usr/lib", "d 755 usr/lib/extension-release.d"
+    files = {"usr/lib/extension-release.d/extension-release.x": release, "etc/os-release": b"ID=a\n"}
+    image = (f"f 644 {len(release)} {digest(release)} usr/lib/extension-release.d/extension-release.x",)
+    place.resource("image", tree_text(*entries, *image), files)
+    place.resource("etc", tree_text(f"f 644 5 {digest(files['etc/os-release'])} os-release"), {"os-release": files["etc/os-release"]})
+    place.expect(("import-fs etc /etc", DONE), ("import-fs image /var/lib/extensions/x", DONE), ("sysext merge", b"merged 1\nx\n"))
+    home = place.store / "g-2/000/00"
+    home.write_bytes(b"abd")
+    place.fault(8, "check", "import-fs host /opt")
+    home.write_bytes(b"abc")
+    place.expect(("import-fs host /opt", DONE))
+    home.write_bytes(b"abd")
+    place.expect(("remove /opt", DONE), ("remove /srv", DONE), ("remove /usr/a", b"refused 4 read-only /usr/a\n"))
+    place.fault(8, "import-fs host /opt")
+    place.expect(("sysext unmerge", b"unmerged\n"), ("remove /usr/a", DONE), ("import-fs host /usr", DONE), ("cat /usr/a/b", b"abc"))
+    place.expect(("check", b"ok 3 16\n"))
+
+
 def what_stands(folder):
     """What stands at each path below the folder: its kind, and a file's bytes or a link's target."""
     found = {}
@@ -441,7 +464,7 @@ CALLS = [
     a_file_that_the_store_has_is_not_written_again,
     *(entries_that_a_command_cannot_take_are_refused, marks_are_kept_and_no_directory_is_made_of_a_whiteout),
     *(a_depot_that_lacks_what_a_text_lists_is_refused, what_is_merged_is_read_only, a_manifest_goes_where_its_path_is_touched),
-    *(a_store_that_is_none_is_told, a_damaged_file_is_told, odd_things_at_the_paths_of_a_store_are_told),
+    *(a_store_that_is_none_is_told, a_damaged_file_is_told, what_helps_where_a_file_is_damaged, odd_things_at_the_paths_of_a_store_are_told),
     *(a_name_that_is_no_utf_8_stops_a_change_alone, a_missing_store_is_a_disk_fault, a_missing_depot_has_no_file),
     *(a_depot_with_odd_files_is_a_depot_fault, folders_without_permission_are_faults, a_full_file_system_leaves_the_tree_before),
     *(a_large_file_comes_back, a_kill_at_any_moment_leaves_the_tree_before_or_after, more_left_overs_than_one_command_removes_take_two),
