@@ -211,6 +211,17 @@ def check_crates(sources):
     nothing_is_missing("crates.txt has no line for", rows - set(crates_of(sources)))
 
 
+def check_floors(sources):
+    """The picture of the floors: each crate is one floor above the highest that it stands on."""
+    picture = re.search(r"```\n(.*?)```", section(sources.text("docs/ARCHITECTURE.md"), "The crates"), re.S)[1]
+    shown = {f"ext_{name}": int(line.split()[0]) for line in picture.splitlines() for name in line.split()[1:]}
+    lines = [line.split(":") for line in sources.text("crates.txt").splitlines() if line[:1].isalpha()]
+    floors = {}
+    for name, below in lines:
+        floors[name] = 1 + max((floors[crate] for crate in below.split() if crate in floors), default=0)
+    nothing_is_missing("the picture of docs/ARCHITECTURE.md has on another floor", {name for name in floors.keys() | shown.keys() if floors.get(name) != shown.get(name)})
+
+
 def check_refusals(sources):
     """The number and the word of each refusal, as the definitions of its line have them."""
     text = sources.text("crates/ext_cmd/specs/Refusals.antt")
@@ -289,8 +300,9 @@ def each_definition_that_a_contract_cites_is_on_a_row(_program):
     check_rows(sources)
 
 
-def each_crate_is_in_the_map(_program):
+def each_crate_is_in_the_map_and_on_its_floor(_program):
     check_crates(Sources())
+    check_floors(Sources())
 
 
 def each_refusal_status_and_command_is_told(program):
@@ -320,6 +332,7 @@ def a_row_that_is_taken_away_is_missed(program):
         is_missed(check_definitions, definitions, begin, found)
     for crate in "ext_lines", "ext_trial", "ext_cli":
         is_missed(check_crates, "docs/ARCHITECTURE.md", f"| `{crate}` |")
+    is_missed(check_floors, "docs/ARCHITECTURE.md", " 7  index")
     for begin in "| 1 | `no-store`", "| 7 | `limit", "| 25 |":
         is_missed(check_refusals, "docs/FORMATS.md", begin)
     for path, begin in (("docs/FORMATS.md", "| 9 | `hostext"), ("README.md", "| 9 |"), ("README.md", "| 1 |")):
@@ -335,6 +348,6 @@ def a_row_that_is_taken_away_is_missed(program):
 
 
 scenes = named(
-    *(each_definition_that_a_contract_cites_is_on_a_row, each_crate_is_in_the_map, each_refusal_status_and_command_is_told),
+    *(each_definition_that_a_contract_cites_is_on_a_row, each_crate_is_in_the_map_and_on_its_floor, each_refusal_status_and_command_is_told),
     a_row_that_is_taken_away_is_missed,
 )
