@@ -290,6 +290,13 @@ def check_commands(sources, shown):
             raise Failed(f"a table or --help lacks `sysext {verb}`")
 
 
+def check_questions(sources):
+    rows = rows_of(sources.text("docs/DECISIONS.md"))
+    nothing_is_missing("docs/DECISIONS.md has rows that begin with no question", {row[0] for row in rows if not row[0].endswith("?")})
+    if not rows:
+        raise Failed("docs/DECISIONS.md has no row")
+
+
 def help_of(program):
     return run(program, [b"--help"])[0].decode()
 
@@ -309,6 +316,10 @@ def each_refusal_status_and_command_is_told(program):
     check_refusals(Sources())
     check_statuses(Sources(), help_of(program))
     check_commands(Sources(), help_of(program))
+
+
+def each_decision_begins_with_a_question(_program):
+    check_questions(Sources())
 
 
 def is_missed(check, path, begin, *given):
@@ -349,5 +360,5 @@ def a_row_that_is_taken_away_is_missed(program):
 
 scenes = named(
     *(each_definition_that_a_contract_cites_is_on_a_row, each_crate_is_in_the_map_and_on_its_floor, each_refusal_status_and_command_is_told),
-    a_row_that_is_taken_away_is_missed,
+    *(each_decision_begins_with_a_question, a_row_that_is_taken_away_is_missed),
 )
