@@ -264,17 +264,20 @@ def a_damaged_file_is_told(place):
     place.expect(("check", b"ok 1 3\n"), ("cat /a", b"abc"))
 
 
+def merged_image(place):
+    """Gives the host of a place a release file, and merges an image whose only file is its own."""
+    release, below = b"ID=_any\n", "usr/lib/extension-release.d"
+    file = f"f 644 {len(release)} {digest(release)}"
+    place.resource("etc", tree_text(f"{file} os-release"), {"os-release": release})
+    place.resource("image", tree_text("d 755 usr", "d 755 usr/lib", f"d 755 {below}", f"{file} {below}/extension-release.x"), {f"{below}/extension-release.x": release})
+    place.expect(("import-fs etc /etc", DONE), ("import-fs image /var/lib/extensions/x", DONE), ("sysext merge", b"merged 1\nx\n"))
+
+
 def what_helps_where_a_file_is_damaged(place):
     """Its bytes in its place; or to remove each path that has it, out of a view too, and to import it then."""
     place.resource("host", tree_text("d 755 a", f"f 644 3 {ABC} a/b"), {"a/b": b"abc"})
     place.expect(("init x86-64 system /usr", DONE), ("import-fs host /usr", DONE), ("import-fs host /srv", DONE))
-    release = b"ID=_any\n"
-    entries = "d 755 usr", "d 755 usr/lib", "d 755 usr/lib/extension-release.d"
-    files = {"usr/lib/extension-release.d/extension-release.x": release, "etc/os-release": b"ID=a\n"}
-    image = (f"f 644 {len(release)} {digest(release)} usr/lib/extension-release.d/extension-release.x",)
-    place.resource("image", tree_text(*entries, *image), files)
-    place.resource("etc", tree_text(f"f 644 5 {digest(files['etc/os-release'])} os-release"), {"os-release": files["etc/os-release"]})
-    place.expect(("import-fs etc /etc", DONE), ("import-fs image /var/lib/extensions/x", DONE), ("sysext merge", b"merged 1\nx\n"))
+    merged_image(place)
     home = place.store / "g-2/000/00"
     home.write_bytes(b"abd")
     place.fault(8, "check", "import-fs host /opt")
@@ -284,7 +287,36 @@ def what_helps_where_a_file_is_damaged(place):
     place.expect(("remove /opt", DONE), ("remove /srv", DONE), ("remove /usr/a", b"refused 4 read-only /usr/a\n"))
     place.fault(8, "import-fs host /opt")
     place.expect(("sysext unmerge", b"unmerged\n"), ("remove /usr/a", DONE), ("import-fs host /usr", DONE), ("cat /usr/a/b", b"abc"))
-    place.expect(("check", b"ok 3 16\n"))
+    place.expect(("check", b"ok 3 19\n"))
+
+
+def after_the_last_generation_nothing_is_changed(place):
+    """A store that was put there by hand, with a host whose old text `migrate` would write anew."""
+    last = 4_294_967_295
+    place.resource("r", tree_text("d 755 a"))
+    entry = OLD_INDEX.replace(b"root 0\n", b"root 1\nd 755 usr\n")
+    place.index(last, entry)
+    before, refused = place.stands(), b"refused 7 limit generations\n"
+    place.expect(("import-fs r /", refused), ("remove /usr", refused), ("migrate", refused), ("remove /a", b"refused 8 no-entry /a\n"))
+    place.holds(before)
+    place.index(last - 1, entry)
+    place.expect(("import-fs r /", DONE), ("remove /a", refused), ("tree", tree_text("d 755 a")))
+
+
+def long_names(count):
+    """The text of a tree of so many directories, each of whose paths is long."""
+    above = ["/".join(letter * 250 for letter in "abc"[:depth]) for depth in (1, 2, 3)]
+    return tree_text(*(f"d 755 {path}" for path in above), *(f"d 755 {above[2]}/{at:05}" for at in range(count)))
+
+
+def an_index_that_would_be_too_long_is_refused(place):
+    """The text is almost as long as one may be, 67,108,864 bytes. An index with two such trees has more than 134,217,728."""
+    place.resource("r", long_names(87_700))
+    place.expect(("init x86-64 system", DONE), ("import-fs r /x", DONE))
+    before = what_stands(place.store)
+    place.expect(("import-fs r /y", b"refused 7 limit index\n"))
+    if what_stands(place.store) != before:
+        raise Failed("something else stands in the store folder")
 
 
 def what_stands(folder):
@@ -461,7 +493,7 @@ def more_left_overs_than_one_command_removes_take_two(place):
 CALLS = [
     *(a_new_store_has_an_index_and_nothing_else, left_overs_go_before_a_change_and_other_names_stay, an_old_text_is_read_and_migrated_once),
     *(the_words_of_init_have_their_places, a_host_is_imported_changed_and_checked, what_one_command_stores_the_next_ones_find),
-    a_file_that_the_store_has_is_not_written_again,
+    *(a_file_that_the_store_has_is_not_written_again, after_the_last_generation_nothing_is_changed, an_index_that_would_be_too_long_is_refused),
     *(entries_that_a_command_cannot_take_are_refused, marks_are_kept_and_no_directory_is_made_of_a_whiteout),
     *(a_depot_that_lacks_what_a_text_lists_is_refused, what_is_merged_is_read_only, a_manifest_goes_where_its_path_is_touched),
     *(a_store_that_is_none_is_told, a_damaged_file_is_told, what_helps_where_a_file_is_damaged, odd_things_at_the_paths_of_a_store_are_told),
