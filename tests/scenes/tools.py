@@ -185,10 +185,9 @@ def limited_to(size):
 def a_write_that_fails_leaves_nothing_in_the_depot(place):
     """The limit lets the files be written, and the tree text not; the next time it lets no file be."""
     folder = fill(beside(place, "folder"))
-    for size in 100, 2:
-        written, told, status = tool(place, "pack", folder, place.depot, "r", before=limited_to(size))
-        if (written, told, status) != (b"", b"pack: File too large\n", 1):
-            raise Failed(f"it ends with {written}, {told}, {status}")
+    for size, at in (100, ""), (2, f"{folder}/usr/bin/tool: "):
+        told = f"pack: {at}File too large\n".encode()
+        expect(tool(place, "pack", folder, place.depot, "r", before=limited_to(size)), (b"", told, 1))
         holds_nothing(place.depot)
     expect(tool(place, "pack", folder, place.depot, "r"), (b"", b"", 0))
     if (place.depot / "r.tree").read_bytes() != text_of(place, folder):
