@@ -8,6 +8,11 @@ from scenes.running import TOP, Failed, named, run
 GHOST_USE = re.compile(r"ghost use Rattle\.(ext_\w+)\.specs\.([A-Z]\w*)\.\{([^}]*)\};")
 # A line by which a file of definitions hands on those of another.
 HANDED_ON = re.compile(r"^pub use Rattle\.(ext_\w+)\.specs\.([A-Z]\w*)\.\{([^}]*)\}", re.M)
+# Where a block of a type or a trait begins, a function in it or outside of one, and where a block ends.
+BEGINNINGS = re.compile(
+    r"^(?:pub )?(?P<kind>impl|trait)\b(?P<head>[^{;]*)\{|^(?P<is_public>pub )?fn (?P<outer>\w+)|^    (?P<inner_is_public>pub )?fn (?P<inner>\w+)|^\}",
+    re.M,
+)
 CLAUSE = re.compile(r"\b(?:requires|ensures)\b[^{]*\{")
 
 
@@ -45,13 +50,14 @@ def without_comments(text):
     return re.sub(r"^\s*//.*$", "", text, flags=re.M)
 
 
+def names_of(braced):
+    return list(filter(None, (name.strip() for name in braced.split(","))))
+
+
 def listed_by(lib):
-    """The names that the lines `pub use` of a lib.rt list, with the module of each; and its public modules."""
-    names = {}
-    for module, several, one in re.findall(r"^pub use (\w+)::(?:\{([^}]*)\}|(\w+));", lib, re.M):
-        for name in (several or one).split(","):
-            if name.strip():
-                names[name.split(" as ")[0].strip()] = module
+    """The names that the lines `pub use` of a lib.rt list, and its public modules."""
+    lines = re.findall(r"^pub use \w+::(?:\{([^}]*)\}|(\w+));", lib, re.M)
+    names = {name.split(" as ")[0] for several, one in lines for name in names_of(several or one)}
     return names, set(re.findall(r"^pub mod (\w+);", lib, re.M))
 
 
@@ -60,26 +66,32 @@ def module_of(path):
     return path.split("/src/")[1].split("/")[0].removesuffix(".rt")
 
 
-def blocks(text):
-    """The functions of a file that are public by themselves: with the name of the type or trait that each belongs to, or nothing,
-    its own name, and the text from there on up to its body."""
-    owner = ""
-    found = list(re.finditer(r"^(?P<pub>pub )?(?:(?P<kind>impl|trait)\b(?P<head>[^{;]*)\{|fn )|^    (?P<inner>pub )?fn (?P<method>\w+)|^\}", text, re.M))
-    for at, match in enumerate(found):
+def owner_of(head):
+    """The type or trait that a block is of, without its parameters; nothing for the block of a trait for a type, whose calls have
+    the contracts of the trait."""
+    for _ in range(2):
+        head = re.sub(r"<[^<>]*>", "", head)
+    return "" if " for " in head else re.search(r"\w+", head)[0]
+
+
+def public_functions(text):
+    """Each function of a file that is public, or a call of a trait: the type or trait that it belongs to, or nothing; its name; and
+    its head."""
+    owner, is_trait = "", False
+    for match in BEGINNINGS.finditer(text):
         if match["kind"]:
-            head = re.sub(r"<[^<>]*>", "", re.sub(r"<[^<>]*>", "", match["head"])).split(":")[0]
-            is_trait, is_own = match["kind"] == "trait", " for " not in head
-            owner = (head.split()[0] if is_own else "", is_trait)
-        elif match[0] == "}":
+            owner, is_trait = owner_of(match["head"]), match["kind"] == "trait"
+        elif match["inner"]:
+            if owner and (match["inner_is_public"] or is_trait):
+                yield owner, match["inner"], head_from(text, match.start())
+        elif match["outer"]:
+            if match["is_public"]:
+                yield "", match["outer"], head_from(text, match.start())
+        else:
             owner = ""
-        elif match["method"] and owner and owner[0] and (match["inner"] or owner[1]):
-            yield owner[0], match["method"], header_from(text, match.start())
-        elif match[0] == "pub fn ":
-            name = re.match(r"pub fn (\w+)", text[match.start() :])[1]
-            yield "", name, header_from(text, match.start())
 
 
-def header_from(text, at):
+def head_from(text, at):
     """The head of a function with its clauses: up to its body, or to the semicolon of a trait's."""
     end = at
     while True:
@@ -100,13 +112,9 @@ def exported(sources, crate):
     names, modules = listed_by(sources.text(f"crates/{crate}/src/lib.rt"))
     for path in sources.files(f"crates/{crate}/src/**/*.rt"):
         text = without_comments(sources.text(path))
-        for owner, name, head in blocks(text):
+        for owner, name, head in public_functions(text):
             if (owner or name) in names or module_of(path) in modules:
                 yield path, f"{owner}::{name}" if owner else name, head
-
-
-def names_of(braced):
-    return list(filter(None, (name.strip() for name in braced.split(","))))
 
 
 def home_of(sources, file, name):
