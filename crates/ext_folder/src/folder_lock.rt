@@ -70,6 +70,11 @@ impl FolderLock {
         }
     }
 
+    /// Whether there is nothing to take: the lock is held, or none is wanted.
+    pub(crate) fn is_settled(&self) -> bool {
+        matches!(self.state, State::Unwanted | State::Held(_))
+    }
+
     /// Takes the lock, where it isn't held yet. Where another process holds it, that is told, and it is waited for.
     ///
     /// # Errors

@@ -50,6 +50,9 @@ impl<R: Files, N: Notice + Drop> LockedDisk<R, N> {
         ensures count { self.old.faults ≤ self.new.faults }
         ensures cause { HasCause result self.old.faults self.new.faults }
     {
+        if self.lock.is_settled() {
+            return Ok(());
+        }
         let call = self.lock.call();
         match self.lock.take(&mut self.notice) {
             Ok(()) => Ok(()),
