@@ -234,7 +234,7 @@ def check_refusals(sources):
     """The number and the word of each refusal, as the definitions of its line have them."""
     text = sources.text("crates/ext_cmd/specs/Refusals.antt")
     numbers = dict(re.findall(r"^refusal_number \(?(\w+)[^=]*= (\d+)$", text, re.M))
-    words = dict(re.findall(r'^refusal_details \(?(\w+)[^=]*= codes "([a-z-]+) ?"', text, re.M))
+    words = dict(re.findall(r'^refusal_details \(?(\w+)[^=]*=\s+codes "([a-z-]+) ?"', text, re.M))
     if not numbers or numbers.keys() != words.keys():
         raise Failed(f"the refusals are {numbers}, and their words {words}")
     rows = {(row[0], quoted(row[1])[0].split()[0]) for row in rows_of(section(sources.text("docs/FORMATS.md"), "Commands")) if row[0].isdigit()}
@@ -269,8 +269,8 @@ def check_statuses(sources, shown):
 def commands_of(sources):
     """The first word of each command, and the words that follow `sysext`."""
     text = sources.text("crates/ext_cmd/specs/Words.antt")
-    commands = re.findall(r'^command_words .*?= codes "([a-z-]+)"', text, re.M)
-    verbs = re.findall(r'^view_words .*?= codes "([a-z-]+)"', text, re.M)
+    commands = re.findall(r'^command_words .*?=\s+codes "([a-z-]+)"', text, re.M)
+    verbs = re.findall(r'^view_words .*?=\s+codes "([a-z-]+)"', text, re.M)
     if not commands or not verbs:
         raise Failed("the definitions of words have no commands")
     return commands, verbs

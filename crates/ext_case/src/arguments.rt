@@ -107,7 +107,7 @@ pub fn name(alloc: Global, argument: &Text) -> Result<Name, Trouble> {
     }
 }
 
-/// The argument as a path; the empty one is the path without names.
+/// The argument as a path. The empty one is the path without names.
 ///
 /// # Errors
 /// `Unreadable` where it is none, and `OutOfMemory`.

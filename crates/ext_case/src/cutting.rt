@@ -27,7 +27,7 @@ struct Cutting {
 /// The words of a line. A space stands between each two.
 ///
 /// # Errors
-/// `Unreadable` where it has none or an empty one, or an escape is none; and `OutOfMemory`.
+/// `Unreadable` where it has none or an empty one, or an escape is none, and `OutOfMemory`.
 pub(crate) fn words_of(alloc: Global, line: &[u8]) -> Result<Vec<Cut>, Trouble> {
     let mut cutting = Cutting {
         words: Vec::new(alloc),

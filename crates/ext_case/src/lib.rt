@@ -1,6 +1,6 @@
 //! Cases as text: a file of cases is read into cases, statements and words.
 //!
-//! A case is a name and statements, each with the lines that it should write; `tests/cases/README.md` shows the format.
+//! A case is a name and statements, each with the lines that it should write. `tests/cases/README.md` shows the format.
 //! [`read_cases`] reads a file. What the words of all cases share stands here too: [`Trouble`], arguments as names, paths,
 //! digests and numbers, lines that a word writes, and the comparison of what was wanted with what came. The crates that
 //! carry words out stand on this one.

@@ -96,7 +96,7 @@ fn found<'a>(texts: &'a [Named], name: &[u8]) -> Option<&'a Text> {
     None
 }
 
-/// Adds a line of a text, with its escapes undone; a lone backslash at its end leaves out its newline.
+/// Adds a line of a text, with its escapes undone. A lone backslash at its end leaves out its newline.
 ///
 /// # Errors
 /// `Unreadable` where an escape is none, and `OutOfMemory`.

@@ -18,7 +18,7 @@ enum State {
     Count(u64),
 }
 
-/// What the escapes of the bytes so far have come to.
+/// The text of the bytes so far, and what an escape still waits for.
 #[derive(Drop)]
 pub(crate) struct Undoing {
     state: State,
@@ -83,7 +83,7 @@ impl Undoing {
         Ok(())
     }
 
-    // The byte behind a backslash.
+    // The byte after a backslash.
     fn take_escape(&mut self, byte: u8) -> Result<(), Trouble> {
         self.state = State::Plain;
         match byte {

@@ -1,4 +1,4 @@
-use ext_lines::grown;
+use ext_lines::allocated;
 use ext_text::OutOfMemory;
 use std::alloc::Global;
 
@@ -16,10 +16,10 @@ pub(crate) fn escaped(alloc: Global, text: &str) -> Result<String, OutOfMemory> 
 
 fn push_escaped(text: &mut String, character: char) -> Result<(), OutOfMemory> {
     if !character.is_control() {
-        return grown(text.push(character));
+        return allocated(text.push(character));
     }
     for part in character.escape_default() {
-        grown(text.push(part))?;
+        allocated(text.push(part))?;
     }
     Ok(())
 }

@@ -1,8 +1,8 @@
 //! The program `hostext STORE DEPOT COMMAND ..`: a thin shell over `ext_top::run`.
 //!
-//! It hands the words after DEPOT, the standard streams, and the folders STORE and DEPOT to `run`, ends with the number of
-//! the status, and prints a line on standard error where that is 2 or more; a second line gives the reason, where somebody
-//! reads it. Both folders must exist; `compare` and `layer` look at neither.
+//! It hands the words after DEPOT, the standard streams, and the folders STORE and DEPOT to `run`, and ends with the number
+//! of the status. Where that is 2 or more it prints a line on standard error, and the reason on a second one where somebody
+//! reads it. Both folders must exist. `compare` and `layer` look at neither.
 //!
 //! STORE is locked while a command works on it: by one that may change it for itself alone, by one that reads it together with
 //! others.

@@ -2,17 +2,14 @@
 use crate::ending::Ending;
 use crate::escaping::escaped;
 use ext_folder::Trouble;
-use ext_host::Home;
-use ext_lines::grown;
-use ext_store::home_path;
+use ext_host::{Damage, Home, MOST_FILES};
+use ext_lines::allocated;
+use ext_store_files::home_path;
 use ext_text::{OutOfMemory, Path};
 use ext_top::{BadStore, Status};
 use ext_tree::Stamp;
 use std::alloc::Global;
 use std::str;
-
-// How many files a generation has at most.
-const MOST_FILES: u32 = 262_144;
 
 /// The ending of a run with this status over the store folder at this path of the system, where this went wrong first on its
 /// devices.
@@ -27,7 +24,7 @@ pub(crate) fn ending_with(
         Status::DiskFault => of_trouble(alloc, of_disk)?,
         Status::DepotFault => of_trouble(alloc, of_depot)?,
         Status::BadStore(why) => Some(of_bad_store(alloc, store, why)?),
-        Status::Unfinished => Some(grown(String::from_str(
+        Status::Unfinished => Some(allocated(String::from_str(
             alloc,
             "more was left over in STORE than one command removes; the same command goes on",
         ))?),
@@ -44,7 +41,7 @@ fn of_trouble(alloc: Global, trouble: Option<&Trouble>) -> Result<Option<String>
         Some(trouble) => {
             let (call, reason) = (trouble.call(), trouble.reason());
             let location = escaped(alloc, trouble.location())?;
-            Ok(Some(grown(format!(in alloc; "{call} {location}: {reason}"))?))
+            Ok(Some(allocated(format!(in alloc; "{call} {location}: {reason}"))?))
         }
         None => Ok(None),
     }
@@ -53,39 +50,29 @@ fn of_trouble(alloc: Global, trouble: Option<&Trouble>) -> Result<Option<String>
 fn of_bad_store(alloc: Global, store: &str, why: &BadStore) -> Result<String, OutOfMemory> {
     let fault = match why {
         BadStore::Broken { line } => of_broken(alloc, store, *line)?,
-        BadStore::Damaged {
-            home,
-            listed,
-            found,
-        } => of_damaged(alloc, store, home, listed, found)?,
+        BadStore::Damaged(damage) => of_damage(alloc, store, damage)?,
     };
-    grown(format!(in alloc; "{fault}; see \"When a store is damaged\" in README"))
+    allocated(format!(in alloc; "{fault}; see \"When a store is damaged\" in README"))
 }
 
 fn of_broken(alloc: Global, store: &str, line: u64) -> Result<String, OutOfMemory> {
     let store = escaped(alloc, store)?;
     if line == 0 {
-        return grown(format!(in alloc; "{store}/current names no generation"));
+        return allocated(format!(in alloc; "{store}/current names no generation"));
     }
-    grown(format!(in alloc; "line {line} of the index that {store}/current names is faulty"))
+    allocated(format!(in alloc; "line {line} of the index that {store}/current names is faulty"))
 }
 
-fn of_damaged(
-    alloc: Global,
-    store: &str,
-    home: &Home,
-    listed: &Stamp,
-    found: &Option<Stamp>,
-) -> Result<String, OutOfMemory> {
+fn of_damage(alloc: Global, store: &str, damage: &Damage) -> Result<String, OutOfMemory> {
     let store = escaped(alloc, store)?;
-    let place = place_of(alloc, home)?;
-    let listed = stamp_text(alloc, listed)?;
-    match found {
+    let place = place_of(alloc, &damage.home)?;
+    let listed = stamp_text(alloc, &damage.listed)?;
+    match &damage.found {
         Some(found) => {
             let found = stamp_text(alloc, found)?;
-            grown(format!(in alloc; "{store}/{place} is listed with {listed}, and has {found}"))
+            allocated(format!(in alloc; "{store}/{place} is listed with {listed}, and has {found}"))
         }
-        None => grown(format!(in alloc;
+        None => allocated(format!(in alloc;
             "{store}/{place} is listed with {listed}, and no file of that size stands there"
         )),
     }
@@ -94,7 +81,7 @@ fn of_damaged(
 // Where in the store folder a file has its home.
 fn place_of(alloc: Global, home: &Home) -> Result<String, OutOfMemory> {
     if home.file >= MOST_FILES {
-        return grown(format!(in alloc; "g-{}", home.generation));
+        return allocated(format!(in alloc; "g-{}", home.generation));
     }
     path_text(alloc, &home_path(alloc, home.generation, home.file)?)
 }
@@ -102,11 +89,11 @@ fn place_of(alloc: Global, home: &Home) -> Result<String, OutOfMemory> {
 fn path_text(alloc: Global, path: &Path) -> Result<String, OutOfMemory> {
     let mut bytes = Vec::new(alloc);
     path.append_to(&mut bytes)?;
-    grown(String::from_str(alloc, str::from_utf8(&bytes).unwrap_or("")))
+    allocated(String::from_str(alloc, str::from_utf8(&bytes).unwrap_or("")))
 }
 
 fn stamp_text(alloc: Global, stamp: &Stamp) -> Result<String, OutOfMemory> {
     let digits = stamp.digest.digits();
     let digits = str::from_utf8(&digits).unwrap_or("");
-    grown(format!(in alloc; "{} bytes and the digest {digits}", stamp.size))
+    allocated(format!(in alloc; "{} bytes and the digest {digits}", stamp.size))
 }

@@ -2,7 +2,7 @@
 use crate::commands::{SYNOPSES, Synopsis};
 use crate::ending::Ending;
 use crate::escaping::escaped;
-use ext_lines::grown;
+use ext_lines::allocated;
 use ext_text::OutOfMemory;
 use ext_top::Status;
 use std::alloc::Global;
@@ -13,7 +13,7 @@ const NEAR: usize = 2;
 
 /// Fewer words than STORE, DEPOT and a command, and no option.
 pub(crate) fn without_command(alloc: Global) -> Result<Ending, OutOfMemory> {
-    let reason = grown(String::from_str(
+    let reason = allocated(String::from_str(
         alloc,
         "it is called as hostext STORE DEPOT COMMAND .., or with --help or --version alone",
     ))?;
@@ -22,7 +22,7 @@ pub(crate) fn without_command(alloc: Global) -> Result<Ending, OutOfMemory> {
 
 /// DEPOT is STORE or stands below it.
 pub(crate) fn clashing_folders(alloc: Global) -> Result<Ending, OutOfMemory> {
-    let reason = grown(String::from_str(
+    let reason = allocated(String::from_str(
         alloc,
         "DEPOT is STORE or stands below it, where cleaning would take away what is to be read",
     ))?;
@@ -65,9 +65,9 @@ fn faulty_after(
     match word_at(words, place) {
         Some(word) => {
             let word = escaped(alloc, word)?;
-            grown(format!(in alloc; "the words are {expected}: not `{word}`"))
+            allocated(format!(in alloc; "the words are {expected}: not `{word}`"))
         }
-        None => grown(format!(in alloc; "the words are {expected}: one is missing")),
+        None => allocated(format!(in alloc; "the words are {expected}: one is missing")),
     }
 }
 
@@ -85,18 +85,18 @@ fn unknown(alloc: Global, word: &str) -> Result<String, OutOfMemory> {
     let near = near_commands(alloc, word)?;
     let word = escaped(alloc, word)?;
     if near.is_empty() {
-        let fault = grown(format!(in alloc; "`{word}` is no command"))?;
+        let fault = allocated(format!(in alloc; "`{word}` is no command"))?;
         return with_commands(alloc, fault.as_str());
     }
-    grown(format!(in alloc; "`{word}` is no command; is it to be {near}?"))
+    allocated(format!(in alloc; "`{word}` is no command; is it to be {near}?"))
 }
 
 fn with_commands(alloc: Global, fault: &str) -> Result<String, OutOfMemory> {
-    let mut text = grown(format!(in alloc; "{fault}; the commands are "))?;
+    let mut text = allocated(format!(in alloc; "{fault}; the commands are "))?;
     let mut before = "";
     for synopsis in &SYNOPSES {
-        grown(text.push_str(before))?;
-        grown(text.push_str(synopsis.word))?;
+        allocated(text.push_str(before))?;
+        allocated(text.push_str(synopsis.word))?;
         before = ", ";
     }
     Ok(text)
@@ -108,9 +108,9 @@ fn near_commands(alloc: Global, word: &str) -> Result<String, OutOfMemory> {
     for synopsis in &SYNOPSES {
         if is_near(alloc, word, synopsis.word)? {
             if !text.is_empty() {
-                grown(text.push_str(" or "))?;
+                allocated(text.push_str(" or "))?;
             }
-            grown(text.push_str(synopsis.word))?;
+            allocated(text.push_str(synopsis.word))?;
         }
     }
     Ok(text)
@@ -123,6 +123,6 @@ fn is_near(alloc: Global, word: &str, command: &str) -> Result<bool, OutOfMemory
     if command.starts_with(word) {
         return Ok(true);
     }
-    let edits = grown(osa_distance(alloc, word, command))?;
+    let edits = allocated(osa_distance(alloc, word, command))?;
     Ok(edits <= NEAR && edits < command.len() / 2)
 }

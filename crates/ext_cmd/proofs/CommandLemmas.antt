@@ -2,10 +2,10 @@
 use Rattle.std.proofs.Common.{◌≡◌, ◌≢◌, ℕ, Bool, true, false, List, [], ◌∷◌, refl, sym, ap, ◌∙◌, subst, codes, if◌then◌else◌}
 use Rattle.std.specs.Prelude.{Option, Some, None, Result, Ok, Err}
 use Rattle.std.specs.Str.{bytes_eq}
-use Rattle.ext_cmd.specs.Fault.{Begins}
-use Rattle.ext_cmd.specs.Grammar.{Any, Chooses, Ends, IsForce, IsPathWord, Maybe, Takes, TakesChosen, TakesVerb}
+use Rattle.ext_cmd.specs.Fault.{BeginsWords}
+use Rattle.ext_cmd.specs.Grammar.{Any, Chooses, HasNoMore, IsForce, IsPathWord, Maybe, Takes, TakesChosen, TakesVerb}
 use Rattle.ext_cmd.specs.Keyword.{keyword_text, verb_text}
-use Rattle.ext_cmd.specs.Reading.{ReadsAfter, ReadsAfterVerb, ReadsPart, ReadsWords, Refuses}
+use Rattle.ext_cmd.specs.Reading.{ReadsAfter, ReadsAfterVerb, ReadsPart, ReadsWords, RefusesWords}
 use Rattle.ext_cmd.specs.Words.{AreChosen, IsCommand, IsOptionalPath, IsWellFormed, chosen_words, command_words, force_words, optional_words, view_words}
 use Rattle.ext_cmd.specs.declared.command.Chosen.{Chosen}
 use Rattle.ext_cmd.specs.declared.command.Chosen.TheVariants as chosen
@@ -20,8 +20,6 @@ use Rattle.ext_cmd.specs.declared.keyword.Verb.TheVariants as verbs
 use Rattle.ext_cmd.specs.declared.words.CmdErr.{CmdErr}
 use Rattle.ext_cmd.specs.declared.words.CmdErr.TheVariants.{OutOfMemory, Usage}
 use Rattle.ext_cmd.proofs.FaultLemmas.{chooses_after, chooses_wrong, refuse_missing, same_fault}
-
--- ---- keywords and verbs have texts of their own
 
 abbrev pub verb_of : List ℕ → Option Verb
 verb_of text =
@@ -77,9 +75,7 @@ one_keyword k l same =
     let read : Some k ≡ Some l = sym (keyword_back k) ∙ ap keyword_of same ∙ keyword_back l in
     cc
 
--- ---- verbs
-
-force_heard : (force : Bool) → Maybe IsForce Ends (force_words force)
+force_heard : (force : Bool) → Maybe IsForce HasNoMore (force_words force)
 force_heard false = tt
 force_heard true = (refl, tt)
 
@@ -90,13 +86,13 @@ view_heard (views.Merge force) = (verbs.Merge, refl, force_heard force)
 view_heard views.Unmerge = (verbs.Unmerge, refl, tt)
 view_heard (views.Refresh force) = (verbs.Refresh, refl, force_heard force)
 
-some_verb : Begins (Chooses verb_text TakesVerb) []
+some_verb : BeginsWords (Chooses verb_text TakesVerb) []
 some_verb = record { more = view_words views.List; whole = (verbs.List, refl, tt) }
 
-pub no_verb : (words : List (List ℕ)) → words ≡ [] → Refuses (Chooses verb_text TakesVerb) words 2 (Usage 2)
+pub no_verb : (words : List (List ℕ)) → words ≡ [] → RefusesWords (Chooses verb_text TakesVerb) words 2 (Usage 2)
 no_verb words are = refuse_missing (Chooses verb_text TakesVerb) words 2 some_verb (λ none. none) are
 
-pub unknown_verb : (word : List ℕ) (more words : List (List ℕ)) → words ≡ word ∷ more → ((verb : Verb) → word ≢ verb_text verb) → Refuses (Chooses verb_text TakesVerb) words 2 (Usage 2)
+pub unknown_verb : (word : List ℕ) (more words : List (List ℕ)) → words ≡ word ∷ more → ((verb : Verb) → word ≢ verb_text verb) → RefusesWords (Chooses verb_text TakesVerb) words 2 (Usage 2)
 unknown_verb word more words are none = chooses_wrong verb_text TakesVerb word more words 2 some_verb are none
 
 -- what is read after a verb is read with it
@@ -104,14 +100,12 @@ pub read_verb : (word : List ℕ) (more words : List (List ℕ)) (verb : Verb) (
 read_verb word more words verb (Ok view) are is read = (tt, are ∙ ap (λ (w : List ℕ). w ∷ more) is ∙ read)
 read_verb word more words verb (Err e) are is read = chooses_after verb_text TakesVerb one_verb verb word more words 2 3 e refl is are read
 
--- ---- commands
-
 chosen_heard : (hierarchies : Chosen) → AreChosen hierarchies → TakesChosen (chosen_words hierarchies)
 chosen_heard chosen.Default are = tt
 chosen_heard (chosen.Sysext names) are = (names, are.0, refl, are.1)
 chosen_heard (chosen.Both names others) are = (names, are.0, refl, (record { value = others; is = record { hierarchies = are.1; apart = are.2 }; same = refl }, tt))
 
-path_heard : (path : Option (List (List ℕ))) → IsOptionalPath path → Maybe IsPathWord Ends (optional_words path)
+path_heard : (path : Option (List (List ℕ))) → IsOptionalPath path → Maybe IsPathWord HasNoMore (optional_words path)
 path_heard None is = tt
 path_heard (Some path) is = (record { value = path; is = is; same = refl }, tt)
 
@@ -130,8 +124,6 @@ heard (Compare a b) well = (keywords.Compare, refl, (tt, (tt, tt)))
 heard Check well = (keywords.Check, refl, tt)
 heard Layer well = (keywords.Layer, refl, tt)
 heard Migrate well = (keywords.Migrate, refl, tt)
-
--- ---- and such words are those of a command
 
 -- the words that a verb takes are those of a view command
 record View (words : List (List ℕ)) : Type 0 where
@@ -210,8 +202,6 @@ said keywords.Layer (word ∷ more) takes = absurd takes
 said keywords.Migrate [] takes = record { command = Migrate; well_formed = tt; same = refl }
 said keywords.Migrate (word ∷ more) takes = absurd takes
 
--- ---- so the grammar of parts is that of commands
-
 command_heard : (words : List (List ℕ)) → IsCommand words → Chooses keyword_text Takes words
 command_heard words is = subst (Chooses keyword_text Takes) (sym is.same) (heard is.command is.well_formed)
 
@@ -220,11 +210,11 @@ command_said [] takes = absurd takes
 command_said (word ∷ more) takes = subst (λ (w : List ℕ). IsCommand (w ∷ more)) (sym takes.1) (said takes.0 more takes.2)
 
 -- and their faults are the same
-usage : (words : List (List ℕ)) (e : CmdErr) → Refuses (Chooses keyword_text Takes) words 1 e → ReadsWords words (Err e)
+usage : (words : List (List ℕ)) (e : CmdErr) → RefusesWords (Chooses keyword_text Takes) words 1 e → ReadsWords words (Err e)
 usage words OutOfMemory refused = tt
 usage words (Usage place) refused = same_fault (Chooses keyword_text Takes) IsCommand words 1 place command_said command_heard refused
 
-some_keyword : Begins (Chooses keyword_text Takes) []
+some_keyword : BeginsWords (Chooses keyword_text Takes) []
 some_keyword = record { more = command_words Layer; whole = (keywords.Layer, refl, tt) }
 
 pub no_command : (words : List (List ℕ)) → words ≡ [] → ReadsWords words (Err (Usage 1))

@@ -1,8 +1,8 @@
 -- Places of faults, for any grammar.
 use Rattle.std.proofs.Common.{◌≡◌, ℕ, ◌+◌, List, [], ◌∷◌, refl, sym, ap, ◌∙◌, subst, arith}
-use Rattle.ext_cmd.specs.Fault.{Begins, IsStuck, IsFault}
+use Rattle.ext_cmd.specs.Fault.{BeginsWords, IsStuck, IsFault}
 use Rattle.ext_cmd.specs.Grammar.{Chooses, Then, Maybe}
-use Rattle.ext_cmd.specs.Reading.{Refuses, RefusesWord}
+use Rattle.ext_cmd.specs.Reading.{RefusesWords, RefusesWord}
 use Rattle.ext_cmd.specs.declared.words.CmdErr.{CmdErr}
 use Rattle.ext_cmd.specs.declared.words.CmdErr.TheVariants.{OutOfMemory, Usage}
 
@@ -11,11 +11,11 @@ abbrev Grammar : Type 1
 Grammar = List (List ℕ) → Type 0
 
 -- the first word is missing
-missing : (Is : Grammar) (first : ℕ) → Begins Is [] → ¬ Is [] → IsFault Is [] first first
+missing : (Is : Grammar) (first : ℕ) → BeginsWords Is [] → ¬ Is [] → IsFault Is [] first first
 missing Is first begins none = record { prefix = []; rest = []; split = refl; after = omega arith; begins = begins; stuck = none }
 
 -- no words of the grammar begin with the first word
-wrong : (Is : Grammar) (word : List ℕ) (words : List (List ℕ)) (first : ℕ) → Begins Is [] → ((more : List (List ℕ)) → ¬ Is (word ∷ more)) → IsFault Is (word ∷ words) first first
+wrong : (Is : Grammar) (word : List ℕ) (words : List (List ℕ)) (first : ℕ) → BeginsWords Is [] → ((more : List (List ℕ)) → ¬ Is (word ∷ more)) → IsFault Is (word ∷ words) first first
 wrong Is word words first begins none =
     record { prefix = []; rest = word ∷ words; split = refl; after = omega arith; begins = begins; stuck = λ b. none b.more b.whole }
 
@@ -36,14 +36,12 @@ fault_after Is More word words first next place step after before fault = record
   stuck = stuck_after Is More word after fault.prefix fault.rest fault.stuck;
 }
 
--- ---- faults of a word, the words and the error given by equations
-
-pub refuse_missing : (Is : Grammar) (words : List (List ℕ)) (first : ℕ) → Begins Is [] → ¬ Is [] → words ≡ [] → Refuses Is words first (Usage first)
+pub refuse_missing : (Is : Grammar) (words : List (List ℕ)) (first : ℕ) → BeginsWords Is [] → ¬ Is [] → words ≡ [] → RefusesWords Is words first (Usage first)
 refuse_missing Is words first begins none are = rw are (missing Is first begins none)
 
 -- a word is wrong, whatever follows
 pub refuse_wrong : (Is : Grammar) (Word : List ℕ → Type 0) (word : List ℕ) (more words : List (List ℕ)) (first : ℕ) (e : CmdErr)
-    → Begins Is [] → ((rest : List (List ℕ)) → Is (word ∷ rest) → Word word) → words ≡ word ∷ more → RefusesWord Word word first e → Refuses Is words first e
+    → BeginsWords Is [] → ((rest : List (List ℕ)) → Is (word ∷ rest) → Word word) → words ≡ word ∷ more → RefusesWord Word word first e → RefusesWords Is words first e
 refuse_wrong Is Word word more words first OutOfMemory begins is are refused = tt
 refuse_wrong Is Word word more words first (Usage at) begins is are refused =
     rw (are, refused.0) (wrong Is word more first begins (λ rest whole. refused.1 (is rest whole)))
@@ -51,45 +49,37 @@ refuse_wrong Is Word word more words first (Usage at) begins is are refused =
 -- the words after a word are refused
 pub refuse_after : (Is More : Grammar) (word : List ℕ) (more words : List (List ℕ)) (first next : ℕ) (e : CmdErr) → next ≡ first + 1
     → ((rest : List (List ℕ)) → Is (word ∷ rest) → More rest) → ((rest : List (List ℕ)) → More rest → Is (word ∷ rest))
-    → words ≡ word ∷ more → Refuses More more next e → Refuses Is words first e
+    → words ≡ word ∷ more → RefusesWords More more next e → RefusesWords Is words first e
 refuse_after Is More word more words first next OutOfMemory step after before are refused = tt
 refuse_after Is More word more words first next (Usage place) step after before are refused =
     rw are (fault_after Is More word more first next place step after before refused)
 
--- ---- a word of one kind, and words after it
-
 module _ (Is : List ℕ → Type 0) (More : Grammar) where
-  pub then_missing : (words : List (List ℕ)) (first : ℕ) → Begins (Then Is More) [] → words ≡ [] → Refuses (Then Is More) words first (Usage first)
+  pub then_missing : (words : List (List ℕ)) (first : ℕ) → BeginsWords (Then Is More) [] → words ≡ [] → RefusesWords (Then Is More) words first (Usage first)
   then_missing words first begins are = refuse_missing (Then Is More) words first begins (λ none. none) are
 
-  pub then_wrong : (word : List ℕ) (more words : List (List ℕ)) (first : ℕ) (e : CmdErr) → Begins (Then Is More) [] → words ≡ word ∷ more → RefusesWord Is word first e → Refuses (Then Is More) words first e
+  pub then_wrong : (word : List ℕ) (more words : List (List ℕ)) (first : ℕ) (e : CmdErr) → BeginsWords (Then Is More) [] → words ≡ word ∷ more → RefusesWord Is word first e → RefusesWords (Then Is More) words first e
   then_wrong word more words first e begins are refused = refuse_wrong (Then Is More) Is word more words first e begins (λ rest whole. whole.0) are refused
 
-  pub then_after : (word : List ℕ) (more words : List (List ℕ)) (first next : ℕ) (e : CmdErr) → next ≡ first + 1 → Is word → words ≡ word ∷ more → Refuses More more next e → Refuses (Then Is More) words first e
+  pub then_after : (word : List ℕ) (more words : List (List ℕ)) (first next : ℕ) (e : CmdErr) → next ≡ first + 1 → Is word → words ≡ word ∷ more → RefusesWords More more next e → RefusesWords (Then Is More) words first e
   then_after word more words first next e step is are refused = refuse_after (Then Is More) More word more words first next e step (λ rest whole. whole.1) (λ rest it. (is, it)) are refused
 
-  -- ---- so, or no word at all
-
-  pub maybe_wrong : (word : List ℕ) (more words : List (List ℕ)) (first : ℕ) (e : CmdErr) → words ≡ word ∷ more → RefusesWord Is word first e → Refuses (Maybe Is More) words first e
+  pub maybe_wrong : (word : List ℕ) (more words : List (List ℕ)) (first : ℕ) (e : CmdErr) → words ≡ word ∷ more → RefusesWord Is word first e → RefusesWords (Maybe Is More) words first e
   maybe_wrong word more words first e are refused = refuse_wrong (Maybe Is More) Is word more words first e (record { more = []; whole = tt }) (λ rest whole. whole.0) are refused
 
-  pub maybe_after : (word : List ℕ) (more words : List (List ℕ)) (first next : ℕ) (e : CmdErr) → next ≡ first + 1 → Is word → words ≡ word ∷ more → Refuses More more next e → Refuses (Maybe Is More) words first e
+  pub maybe_after : (word : List ℕ) (more words : List (List ℕ)) (first next : ℕ) (e : CmdErr) → next ≡ first + 1 → Is word → words ≡ word ∷ more → RefusesWords More more next e → RefusesWords (Maybe Is More) words first e
   maybe_after word more words first next e step is are refused = refuse_after (Maybe Is More) More word more words first next e step (λ rest whole. whole.1) (λ rest it. (is, it)) are refused
 
--- ---- one of some words, and what is wanted after it
-
 module _ {A : Type 0} (text : A → List ℕ) (More : A → Grammar) where
-  pub chooses_wrong : (word : List ℕ) (more words : List (List ℕ)) (first : ℕ) → Begins (Chooses text More) [] → words ≡ word ∷ more → ((choice : A) → word ≡ text choice → ⊥) → Refuses (Chooses text More) words first (Usage first)
+  pub chooses_wrong : (word : List ℕ) (more words : List (List ℕ)) (first : ℕ) → BeginsWords (Chooses text More) [] → words ≡ word ∷ more → ((choice : A) → word ≡ text choice → ⊥) → RefusesWords (Chooses text More) words first (Usage first)
   chooses_wrong word more words first begins are none =
       refuse_wrong (Chooses text More) (λ w. (choice : A) × (w ≡ text choice)) word more words first (Usage first) begins (λ rest whole. (whole.0, whole.1)) are (refl, λ is. none is.0 is.1)
 
-  pub chooses_after : ((a b : A) → text a ≡ text b → a ≡ b) → (choice : A) (word : List ℕ) (more words : List (List ℕ)) (first next : ℕ) (e : CmdErr) → next ≡ first + 1 → word ≡ text choice → words ≡ word ∷ more → Refuses (More choice) more next e → Refuses (Chooses text More) words first e
+  pub chooses_after : ((a b : A) → text a ≡ text b → a ≡ b) → (choice : A) (word : List ℕ) (more words : List (List ℕ)) (first next : ℕ) (e : CmdErr) → next ≡ first + 1 → word ≡ text choice → words ≡ word ∷ more → RefusesWords (More choice) more next e → RefusesWords (Chooses text More) words first e
   chooses_after one choice word more words first next e step is are refused =
       refuse_after (Chooses text More) (More choice) word more words first next e step
       (λ rest whole. subst (λ (a : A). More a rest) (one whole.0 choice (sym whole.1 ∙ is)) whole.2)
       (λ rest it. (choice, is, it)) are refused
-
--- ---- equal grammars
 
 pub same_fault : (Is Other : Grammar) (words : List (List ℕ)) (first place : ℕ) → ((ws : List (List ℕ)) → Is ws → Other ws) → ((ws : List (List ℕ)) → Other ws → Is ws) → IsFault Is words first place → IsFault Other words first place
 same_fault Is Other words first place to from fault = record {

@@ -1,7 +1,5 @@
 -- The lemmas on this crate's definitions that other crates cite.
 
--- ---- words
-
 -- words are those of one command; what reading its words gives
 pub use Rattle.ext_cmd.proofs.OneCommandLemmas.{one_command, reads_back}
 -- words of a grammar have no fault, and other words one first fault, for any grammar

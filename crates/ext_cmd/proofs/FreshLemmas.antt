@@ -5,7 +5,7 @@ use Rattle.std.specs.List.{AllByRecursion, list_all}
 use Rattle.std.proofs.lemmas.Bool.{and_from, eqb-false, eqb-true}
 use Rattle.std.proofs.lemmas.List.Sums.{AllPass-from_list_all}
 use Rattle.ext_text.proofs.ForCallers.{all_weaker}
-use Rattle.ext_cmd.specs.Fault.{Begins}
+use Rattle.ext_cmd.specs.Fault.{BeginsWords}
 use Rattle.ext_cmd.specs.Grammar.{TakesOthers}
 use Rattle.ext_cmd.specs.Words.{IsHierarchy, IsHierarchyList, IsNone, hierarchies_word}
 use Rattle.ext_cmd.proofs.WordLemmas.{ascii_name, is_plain_ascii}
@@ -19,8 +19,6 @@ other_letter (b ∷ bs) = if b == 97 then 98 else 97
 abbrev away : ℕ → List (List ℕ) → List ℕ
 away k [] = []
 away k (name ∷ names) = other_letter (drop k name) ∷ away (suc k) names
-
--- ---- it is none of them
 
 differs_first : (bs rest : List ℕ) → bs ≢ other_letter bs ∷ rest
 differs_first [] rest same = cc
@@ -43,8 +41,6 @@ away_none k (name ∷ names) = (
   all_weaker (λ (n : List ℕ). drop (suc k) n ≢ away (suc k) names) (λ (n : List ℕ). drop k n ≢ other_letter (drop k name) ∷ away (suc k) names)
       (λ n differ same. differ (drop_one k n _ (away (suc k) names) same)) names (away_none (suc k) names),
 )
-
--- ---- it is a name of a hierarchy
 
 letter_passes : (p : ℕ → Bool) → p 97 ≡ true → p 98 ≡ true → (bs : List ℕ) → p (other_letter bs) ≡ true
 letter_passes p a b [] = a
@@ -95,12 +91,10 @@ away_name names some few =
       no_colon = AllPass-from_list_all (λ b. not (b == 58)) (away 0 names) (all_pass (λ b. not (b == 58)) refl refl 0 names);
     }
 
--- ---- so a list is followed by another
-
 one_name : (name : List ℕ) → IsHierarchy name → IsHierarchyList (name ∷ [])
 one_name name is = record { non_empty = omega arith; at_most_16 = omega arith; each = (is, tt); distinct = (tt, tt) }
 
-pub some_others : (names : List (List ℕ)) → IsHierarchyList names → Begins (TakesOthers names) []
+pub some_others : (names : List (List ℕ)) → IsHierarchyList names → BeginsWords (TakesOthers names) []
 some_others names are = record {
   more = hierarchies_word (away 0 names ∷ []) ∷ [];
   whole = (

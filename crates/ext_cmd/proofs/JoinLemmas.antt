@@ -23,8 +23,6 @@ split_joined byte (p ∷ q ∷ ps) some lack =
     first_part byte (join_with_byte byte (p ∷ q ∷ ps)) p (join_with_byte byte (q ∷ ps)) (record { whole = refl; prefix_lacks = lack.0 })
     ∙ ap (λ (l : List (List ℕ)). p ∷ l) (split_joined byte (q ∷ ps) (omega arith) lack.1)
 
--- ---- the path of a tree's text
-
 -- the text of a first name and others
 below_text : (name : List ℕ) (names : List (List ℕ)) → 0 < length names → path_text (name ∷ names) ≡ name ++ 47 ∷ path_text names
 below_text name [] some = absurd (omega arith)
@@ -65,8 +63,6 @@ parts_of_tree_path path some names =
 pub is_tree_path : (path text : List (List ℕ)) → 0 < length path → IsPath path → IsPath text → path_text text ≡ path_text path ++ codes ".tree" → text ≡ tree_path path
 is_tree_path path text some is text_is same =
     sym (parts_text text text_is.each) ∙ ap path_parts (same ∙ sym (text_of_tree_path path some)) ∙ parts_of_tree_path path some is.each
-
--- ---- words of resources
 
 -- a path with a text that isn't empty has a name
 pub names_of_word : (path : List (List ℕ)) (word : List ℕ) → length word ≢ 0 → word ≡ path_text path → 0 < length path

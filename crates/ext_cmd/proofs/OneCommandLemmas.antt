@@ -2,6 +2,7 @@
 use Rattle.std.proofs.Common.{◌≡◌, ℕ, true, false, List, [], ◌∷◌, refl, sym, ap, ◌∙◌, subst, if◌then◌else◌, inl, inr}
 use Rattle.std.specs.Prelude.{◌⊎◌, Option, Some, None, Result, Ok, Err}
 use Rattle.std.specs.Str.{bytes_eq}
+use Rattle.ext_text.specs.Absolute.{absolute}
 use Rattle.ext_text.specs.Arch.{arch_name}
 use Rattle.ext_text.specs.declared.arch.Arch.{Arch}
 use Rattle.ext_text.specs.declared.arch.Arch.TheVariants as archs
@@ -13,7 +14,7 @@ use Rattle.ext_text.proofs.ForCallers.{path_injective}
 use Rattle.ext_cmd.specs.Keyword.{keyword_text}
 use Rattle.ext_cmd.specs.Reading.{ReadsWords}
 use Rattle.ext_cmd.specs.Resource.{IsResource}
-use Rattle.ext_cmd.specs.Words.{AreChosen, IsBelowRoot, IsCommand, IsOptionalPath, IsWellFormed, absolute, chosen_words, command_words, optional_words, path_words, view_words}
+use Rattle.ext_cmd.specs.Words.{AreChosen, IsBelowRoot, IsCommand, IsOptionalPath, IsWellFormed, chosen_words, command_words, optional_words, path_words, view_words}
 use Rattle.ext_cmd.specs.declared.command.Chosen.{Chosen}
 use Rattle.ext_cmd.specs.declared.command.Chosen.TheVariants as chosen
 use Rattle.ext_cmd.specs.declared.command.Command.{Command}
@@ -29,8 +30,6 @@ use Rattle.ext_cmd.specs.declared.words.CmdErr.TheVariants.{OutOfMemory, Usage}
 use Rattle.ext_cmd.proofs.CommandLemmas.{one_keyword, verb_of}
 use Rattle.ext_cmd.proofs.HierarchyLemmas.{one_list}
 use Rattle.ext_cmd.proofs.OneFaultLemmas.{no_fault}
-
--- ---- arguments with one word are equal
 
 abbrev arch_of : List ℕ → Option Arch
 arch_of text =
@@ -127,8 +126,6 @@ one_view v w same =
     let read : Some v ≡ Some w = sym (view_back v) ∙ ap view_of same ∙ view_back w in
     cc
 
--- ---- the command of a keyword and the words after it
-
 abbrev Gives : Keyword → List (List ℕ) → Command → Type 0
 Gives keywords.Init more c = (a : Arch) × (s : Scope) × (h : Chosen) × AreChosen h × (more ≡ arch_name a ∷ scope_name s ∷ chosen_words h) × (c ≡ Init a s h)
 Gives keywords.ImportFs more c = (r : List (List ℕ)) × (p : List (List ℕ)) × IsResource r × IsPath p × (more ≡ path_text r ∷ path_words p) × (c ≡ ImportFs r p)
@@ -189,6 +186,7 @@ one_given keywords.Check more c d c_is d_is = c_is ∙ sym d_is
 one_given keywords.Layer more c d c_is d_is = c_is ∙ sym d_is
 one_given keywords.Migrate more c d c_is d_is = c_is ∙ sym d_is
 
+-- words are those of one command
 pub one_command : (c d : Command) → IsWellFormed c → IsWellFormed d → command_words c ≡ command_words d → c ≡ d
 one_command c d well also same =
     let f = given c well in
@@ -198,6 +196,7 @@ one_command c d well also same =
     let more : f.more ≡ g.more = cc in
     one_given g.keyword g.more c d (subst (λ (k : Keyword). Gives k g.more c) keyword (subst (λ (ws : List (List ℕ)). Gives f.keyword ws c) more f.gives)) g.gives
 
+-- a command's words are read as that command, or find no memory
 pub reads_back : (command : Command) (result : Result Command CmdErr) → IsWellFormed command → ReadsWords (command_words command) result → (result ≡ Ok command) ⊎ (result ≡ Err OutOfMemory)
 reads_back command (Ok other) well reads = inl (ap (λ (c : Command). Ok c) (one_command other command reads.0 well (sym reads.1)))
 reads_back command (Err OutOfMemory) well reads = inr refl

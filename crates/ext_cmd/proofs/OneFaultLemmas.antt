@@ -1,6 +1,6 @@
 -- Words have one first fault, for any grammar.
 use Rattle.std.proofs.Common.{◌≡◌, ℕ, ◌+◌, ◌<◌, ◌≤◌, List, [], ◌∷◌, ◌++◌, length, sym, ap, ◌∙◌, subst, arith, append_assoc, append-nil, length-append}
-use Rattle.ext_cmd.specs.Fault.{Begins, IsStuck, IsFault}
+use Rattle.ext_cmd.specs.Fault.{BeginsWords, IsStuck, IsFault}
 
 -- a grammar of lists of words
 abbrev Grammar : Type 1
@@ -15,7 +15,7 @@ stuck_inside Is word prefix [] stuck = stuck
 stuck_inside Is word prefix (next ∷ rest) stuck = λ begins. stuck (record { more = begins.more; whole = begins.whole })
 
 -- after a prefix at which words are stuck no longer one begins words of the grammar
-not_longer : (Is : Grammar) (p r q s : List (List ℕ)) → p ++ r ≡ q ++ s → length p < length q → IsStuck Is p r → Begins Is q → ⊥
+not_longer : (Is : Grammar) (p r q s : List (List ℕ)) → p ++ r ≡ q ++ s → length p < length q → IsStuck Is p r → BeginsWords Is q → ⊥
 not_longer Is p r [] s same longer stuck begins = omega arith
 not_longer Is [] [] (y ∷ q) s same longer stuck begins = cc
 not_longer Is [] (x ∷ r) (y ∷ q) s same longer stuck begins =
@@ -27,6 +27,7 @@ not_longer Is (x ∷ p) r (y ∷ q) s same longer stuck begins =
     not_longer (after x Is) p r q s rest (omega arith) (stuck_inside Is x p r stuck)
     (record { more = begins.more; whole = subst (λ (w : List ℕ). Is (w ∷ (q ++ begins.more))) first begins.whole })
 
+-- words have one fault at most
 pub one_fault : (Is : Grammar) (words : List (List ℕ)) (first a b : ℕ) → IsFault Is words first a → IsFault Is words first b → a ≡ b
 one_fault Is words first a b f g =
     let not_before : length f.prefix < length g.prefix → ⊥ = λ longer. not_longer Is f.prefix f.rest g.prefix g.rest (sym f.split ∙ g.split) longer f.stuck g.begins in
@@ -39,6 +40,7 @@ not_stuck : (Is : Grammar) (prefix rest : List (List ℕ)) → Is (prefix ++ res
 not_stuck Is prefix [] is stuck = stuck (subst Is (append-nil prefix) is)
 not_stuck Is prefix (word ∷ rest) is stuck = stuck (record { more = rest; whole = subst Is (sym (append_assoc prefix (word ∷ []) rest)) is })
 
+-- words of a grammar have no fault
 pub no_fault : (Is : Grammar) (words : List (List ℕ)) (first place : ℕ) → Is words → IsFault Is words first place → ⊥
 no_fault Is words first place is fault = not_stuck Is fault.prefix fault.rest (subst Is fault.split is) fault.stuck
 

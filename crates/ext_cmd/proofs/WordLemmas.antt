@@ -8,16 +8,17 @@ use Rattle.std.proofs.lemmas.List.Sums.{AllPass-from_list_all}
 use Rattle.std.proofs.lemmas.Str.{IsUtf8-from_ascii}
 use Rattle.std.proofs.lemmas.Str.Ascii.{IsAscii-from_all}
 use Rattle.std.specs.Prelude.{Err}
+use Rattle.ext_text.specs.Absolute.{absolute}
 use Rattle.ext_text.specs.Name.{IsName, is_name_byte}
 use Rattle.ext_text.specs.Path.{IsPath, ReadsPath, path_text}
 use Rattle.ext_text.specs.declared.path.PathErr.{PathErr}
 use Rattle.ext_text.specs.declared.path.PathErr.TheVariants as paths
 use Rattle.ext_text.proofs.ForCallers.{no_path, path_not_empty}
-use Rattle.ext_cmd.specs.Fault.{Begins}
-use Rattle.ext_cmd.specs.Grammar.{Any, Ends, IsBelowRootWord, IsPathWord, IsResourceWord, Spells, Then}
+use Rattle.ext_cmd.specs.Fault.{BeginsWords}
+use Rattle.ext_cmd.specs.Grammar.{Any, HasNoMore, IsBelowRootWord, IsPathWord, IsResourceWord, Spells, Then}
 use Rattle.ext_cmd.specs.Reading.{RefusesWord, usage_of}
 use Rattle.ext_cmd.specs.Resource.{IsResource}
-use Rattle.ext_cmd.specs.Words.{IsBelowRoot, absolute}
+use Rattle.ext_cmd.specs.Words.{IsBelowRoot}
 use Rattle.ext_cmd.specs.declared.words.CmdErr.TheVariants.{Usage}
 
 -- a byte of a name, of ASCII
@@ -60,27 +61,23 @@ below_root = record { within = a_path; below_root = λ e. cc }
 a_resource : IsResource (codes "a" ∷ [])
 a_resource = record { within = a_path; below_root = λ e. cc; text = a_tree_path }
 
--- ---- words that begin arguments
-
-pub some_last_path : Begins (Then IsPathWord Ends) []
+pub some_last_path : BeginsWords (Then IsPathWord HasNoMore) []
 some_last_path = record { more = absolute [] ∷ []; whole = (record { value = []; is = root; same = refl }, tt) }
 
-pub some_below_root : Begins (Then IsBelowRootWord Ends) []
+pub some_below_root : BeginsWords (Then IsBelowRootWord HasNoMore) []
 some_below_root = record { more = absolute (codes "a" ∷ []) ∷ []; whole = (record { value = codes "a" ∷ []; is = below_root; same = refl }, tt) }
 
-pub some_import : Begins (Then IsResourceWord (Then IsPathWord Ends)) []
+pub some_import : BeginsWords (Then IsResourceWord (Then IsPathWord HasNoMore)) []
 some_import = record {
   more = path_text (codes "a" ∷ []) ∷ absolute [] ∷ [];
   whole = (record { value = codes "a" ∷ []; is = a_resource; same = refl }, (record { value = []; is = root; same = refl }, tt));
 }
 
-pub some_texts : Begins (Then Any (Then Any Ends)) []
+pub some_texts : BeginsWords (Then Any (Then Any HasNoMore)) []
 some_texts = record { more = [] ∷ [] ∷ []; whole = (tt, (tt, tt)) }
 
-pub some_text : Begins (Then Any Ends) []
+pub some_text : BeginsWords (Then Any HasNoMore) []
 some_text = record { more = [] ∷ []; whole = (tt, tt) }
-
--- ---- words that are refused
 
 -- a text that is refused is no path's
 pub path_refused : (text : List ℕ) (place : ℕ) (e : PathErr) → ReadsPath text (Err e) → RefusesWord (Spells path_text IsPath) text place (usage_of e place)

@@ -1,21 +1,21 @@
 -- The words after each keyword, part by part: which word may stand where. These grammars are those of the printed commands.
 use Rattle.std.specs.Prelude.{◌≡◌, ◌≢◌, ℕ, List, [], ◌∷◌, codes}
+use Rattle.ext_text.specs.Absolute.{absolute}
 use Rattle.ext_text.specs.Arch.{arch_name}
 use Rattle.ext_text.specs.Path.{IsPath, path_text}
 use Rattle.ext_text.specs.Scope.{scope_name}
-use Rattle.ext_text.specs.declared.class.Class.TheVariants as classes
+use Rattle.ext_text.specs.declared.extension.Extension.TheVariants as extensions
 use Rattle.ext_text.specs.declared.scope.Scope.{Scope}
 use Rattle.ext_text.specs.declared.scope.Scope.TheVariants.{Portable}
 use Rattle.ext_host.specs.Host.{default_hierarchies}
 use Rattle.ext_cmd.specs.Keyword.{verb_text}
 use Rattle.ext_cmd.specs.Resource.{IsResource}
-use Rattle.ext_cmd.specs.Words.{AreApart, IsBelowRoot, IsHierarchyList, absolute, hierarchies_word}
+use Rattle.ext_cmd.specs.Words.{AreDisjoint, IsBelowRoot, IsHierarchyList, hierarchies_word}
 use Rattle.ext_cmd.specs.declared.keyword.Keyword.{Keyword}
-use Rattle.ext_cmd.specs.declared.keyword.Keyword.TheVariants.{Init, ImportFs, Remove, Sysext, Confext, Tree, Cat, Compare, Check, Layer, Migrate}
+use Rattle.ext_cmd.specs.declared.keyword.Keyword.TheVariants.{Init, ImportFs, Remove, Sysext, Confext}
+use Rattle.ext_cmd.specs.declared.keyword.Keyword.TheVariants.{Tree, Cat, Compare, Check, Layer, Migrate}
 use Rattle.ext_cmd.specs.declared.keyword.Verb.{Verb}
 use Rattle.ext_cmd.specs.declared.keyword.Verb.TheVariants as verbs
-
--- ---- one word
 
 -- the word is that of a value with this property
 pub record Spells {A : Type 0} (form : A → List ℕ) (Is : A → Type 0) (word : List ℕ) : Type 0 where
@@ -27,6 +27,7 @@ pub record Spells {A : Type 0} (form : A → List ℕ) (Is : A → Type 0) (word
 abbrev pub Any : {A : Type 0} → A → Type 0
 Any value = Unit {0}
 
+-- the name of an architecture
 abbrev pub IsArchWord : List ℕ → Type 0
 IsArchWord = Spells arch_name Any
 
@@ -34,24 +35,26 @@ IsArchWord = Spells arch_name Any
 abbrev pub IsHostScope : Scope → Type 0
 IsHostScope scope = scope ≢ Portable
 
+-- the name of a scope that a host may have
 abbrev pub IsScopeWord : List ℕ → Type 0
 IsScopeWord = Spells scope_name IsHostScope
 
+-- a resource of the depot
 abbrev pub IsResourceWord : List ℕ → Type 0
 IsResourceWord = Spells path_text IsResource
 
+-- a path of the host, after a `/`
 abbrev pub IsPathWord : List ℕ → Type 0
 IsPathWord = Spells absolute IsPath
 
+-- a path of the host that is not its root
 abbrev pub IsBelowRootWord : List ℕ → Type 0
 IsBelowRootWord = Spells absolute IsBelowRoot
 
--- ---- words in their order
-
 -- no word more
-abbrev pub Ends : List (List ℕ) → Type 0
-Ends [] = Unit {0}
-Ends (word ∷ words) = ⊥
+abbrev pub HasNoMore : List (List ℕ) → Type 0
+HasNoMore [] = Unit {0}
+HasNoMore (word ∷ words) = ⊥
 
 -- a word of one kind, and then words of that grammar
 abbrev pub Then : (List ℕ → Type 0) → (List (List ℕ) → Type 0) → List (List ℕ) → Type 0
@@ -68,45 +71,43 @@ abbrev pub Chooses : {A : Type 0} → (A → List ℕ) → (A → List (List ℕ
 Chooses {A = A} text More [] = ⊥
 Chooses {A = A} text More (word ∷ words) = (choice : A) × (word ≡ text choice) × More choice words
 
--- ---- lists of hierarchies
-
 -- those of configuration extensions, beside these of system extensions
 pub record AreOthers (names others : List (List ℕ)) : Type 0 where
   pub hierarchies : IsHierarchyList others
-  pub apart : AreApart names others
+  pub apart : AreDisjoint names others
 
 -- after those of system extensions: no word, which means the default, or those of configuration extensions
 abbrev pub TakesOthers : List (List ℕ) → List (List ℕ) → Type 0
-TakesOthers names [] = AreApart names (default_hierarchies classes.Confext)
-TakesOthers names (word ∷ words) = Spells hierarchies_word (AreOthers names) word × Ends words
+TakesOthers names [] = AreDisjoint names (default_hierarchies extensions.Confext)
+TakesOthers names (word ∷ words) = Spells hierarchies_word (AreOthers names) word × HasNoMore words
 
+-- the lists of hierarchies of `init`: none, one or two
 abbrev pub TakesChosen : List (List ℕ) → Type 0
 TakesChosen [] = Unit {0}
 TakesChosen (word ∷ words) = (names : List (List ℕ)) × IsHierarchyList names × (word ≡ hierarchies_word names) × TakesOthers names words
 
--- ---- verbs and commands
-
+-- the option `--force`
 abbrev pub IsForce : List ℕ → Type 0
 IsForce word = word ≡ codes "--force"
 
 -- the words after a verb
 abbrev pub TakesVerb : Verb → List (List ℕ) → Type 0
-TakesVerb verbs.List = Ends
-TakesVerb verbs.Status = Ends
-TakesVerb verbs.Merge = Maybe IsForce Ends
-TakesVerb verbs.Unmerge = Ends
-TakesVerb verbs.Refresh = Maybe IsForce Ends
+TakesVerb verbs.List = HasNoMore
+TakesVerb verbs.Status = HasNoMore
+TakesVerb verbs.Merge = Maybe IsForce HasNoMore
+TakesVerb verbs.Unmerge = HasNoMore
+TakesVerb verbs.Refresh = Maybe IsForce HasNoMore
 
 -- the words after a keyword
 abbrev pub Takes : Keyword → List (List ℕ) → Type 0
 Takes Init = Then IsArchWord (Then IsScopeWord TakesChosen)
-Takes ImportFs = Then IsResourceWord (Then IsPathWord Ends)
-Takes Remove = Then IsBelowRootWord Ends
+Takes ImportFs = Then IsResourceWord (Then IsPathWord HasNoMore)
+Takes Remove = Then IsBelowRootWord HasNoMore
 Takes Sysext = Chooses verb_text TakesVerb
 Takes Confext = Chooses verb_text TakesVerb
-Takes Tree = Maybe IsPathWord Ends
-Takes Cat = Then IsBelowRootWord Ends
-Takes Compare = Then Any (Then Any Ends)
-Takes Check = Ends
-Takes Layer = Ends
-Takes Migrate = Ends
+Takes Tree = Maybe IsPathWord HasNoMore
+Takes Cat = Then IsBelowRootWord HasNoMore
+Takes Compare = Then Any (Then Any HasNoMore)
+Takes Check = HasNoMore
+Takes Layer = HasNoMore
+Takes Migrate = HasNoMore

@@ -2,7 +2,8 @@
 -- systemd-sysext(8).
 use Rattle.std.specs.Prelude.{◌≡◌, ◌≢◌, ℕ, List, codes, Option, Some, None}
 use Rattle.ext_cmd.specs.declared.keyword.Keyword.{Keyword}
-use Rattle.ext_cmd.specs.declared.keyword.Keyword.TheVariants.{Init, ImportFs, Remove, Sysext, Confext, Tree, Cat, Compare, Check, Layer, Migrate}
+use Rattle.ext_cmd.specs.declared.keyword.Keyword.TheVariants.{Init, ImportFs, Remove, Sysext, Confext}
+use Rattle.ext_cmd.specs.declared.keyword.Keyword.TheVariants.{Tree, Cat, Compare, Check, Layer, Migrate}
 use Rattle.ext_cmd.specs.declared.keyword.Verb.{Verb}
 use Rattle.ext_cmd.specs.declared.keyword.Verb.TheVariants as verbs
 
@@ -33,6 +34,7 @@ verb_text verbs.Merge = codes "merge"
 verb_text verbs.Unmerge = codes "unmerge"
 verb_text verbs.Refresh = codes "refresh"
 
+-- the verb of a word, or that the word is none
 abbrev pub ReadsVerb : List ℕ → Option Verb → Type 0
 ReadsVerb text (Some verb) = text ≡ verb_text verb
 ReadsVerb text None = (verb : Verb) → text ≢ verb_text verb

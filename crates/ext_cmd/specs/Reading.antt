@@ -7,7 +7,8 @@ use Rattle.ext_text.specs.declared.path.PathErr.TheVariants as paths
 use Rattle.ext_cmd.specs.Fault.{IsFault}
 use Rattle.ext_cmd.specs.Grammar.{Spells, Takes, TakesOthers, TakesVerb}
 use Rattle.ext_cmd.specs.Keyword.{keyword_text, verb_text}
-use Rattle.ext_cmd.specs.Words.{AreChosen, IsHierarchy, IsNone, IsUsage, IsWellFormed, chosen_words, command_words, hierarchies_word, slashed, view_words}
+use Rattle.ext_cmd.specs.Words.{AreChosen, IsHierarchy, IsNone, IsUsage, IsWellFormed}
+use Rattle.ext_cmd.specs.Words.{chosen_words, command_words, hierarchies_word, slashed, view_words}
 use Rattle.ext_cmd.specs.declared.command.Chosen.{Chosen}
 use Rattle.ext_cmd.specs.declared.command.Command.{Command}
 use Rattle.ext_cmd.specs.declared.command.ViewCommand.{ViewCommand}
@@ -22,12 +23,10 @@ ReadsWords words (Ok command) = IsWellFormed command × (words ≡ command_words
 ReadsWords words (Err (Usage place)) = IsUsage words place
 ReadsWords words (Err OutOfMemory) = Unit {0}
 
--- ---- parts
-
 -- why words of a grammar aren't read: the place of their first fault, where the first word has the place `first`
-abbrev pub Refuses : (List (List ℕ) → Type 0) → List (List ℕ) → ℕ → CmdErr → Type 0
-Refuses Is words first (Usage place) = IsFault Is words first place
-Refuses Is words first OutOfMemory = Unit {0}
+abbrev pub RefusesWords : (List (List ℕ) → Type 0) → List (List ℕ) → ℕ → CmdErr → Type 0
+RefusesWords Is words first (Usage place) = IsFault Is words first place
+RefusesWords Is words first OutOfMemory = Unit {0}
 
 -- why a word at this place isn't read: it is none of that kind
 abbrev pub RefusesWord : (List ℕ → Type 0) → List ℕ → ℕ → CmdErr → Type 0
@@ -47,14 +46,15 @@ ReadsWord form Is word place (Ok value) = Is value × (word ≡ form value)
 ReadsWord form Is word place (Err e) = RefusesWord (Spells form Is) word place e
 
 -- the value of words of a grammar
-abbrev pub ReadsPart : {A : Type 0} → (A → List (List ℕ)) → (A → Type 0) → (List (List ℕ) → Type 0) → List (List ℕ) → ℕ → Result A CmdErr → Type 0
+abbrev pub ReadsPart :
+    {A : Type 0} → (A → List (List ℕ)) → (A → Type 0) → (List (List ℕ) → Type 0) → List (List ℕ) → ℕ → Result A CmdErr → Type 0
 ReadsPart form Is More words first (Ok value) = Is value × (words ≡ form value)
-ReadsPart form Is More words first (Err e) = Refuses More words first e
+ReadsPart form Is More words first (Err e) = RefusesWords More words first e
 
 -- a command: words that were read before, and the words of a grammar after them
 abbrev pub ReadsRest : List (List ℕ) → (List (List ℕ) → Type 0) → List (List ℕ) → ℕ → Result Command CmdErr → Type 0
 ReadsRest before More words first (Ok command) = IsWellFormed command × (before ++ words ≡ command_words command)
-ReadsRest before More words first (Err e) = Refuses More words first e
+ReadsRest before More words first (Err e) = RefusesWords More words first e
 
 -- a command of this keyword
 abbrev pub ReadsAfter : Keyword → List (List ℕ) → Result Command CmdErr → Type 0
@@ -63,13 +63,11 @@ ReadsAfter keyword words result = ReadsRest (keyword_text keyword ∷ []) (Takes
 -- a view command of this verb
 abbrev pub ReadsAfterVerb : Verb → List (List ℕ) → Result ViewCommand CmdErr → Type 0
 ReadsAfterVerb verb words (Ok view) = verb_text verb ∷ words ≡ view_words view
-ReadsAfterVerb verb words (Err e) = Refuses (TakesVerb verb) words 3 e
+ReadsAfterVerb verb words (Err e) = RefusesWords (TakesVerb verb) words 3 e
 
 -- no word, whatever the value
 abbrev pub no_words : {A : Type 0} → A → List (List ℕ)
 no_words value = []
-
--- ---- lists of hierarchies
 
 -- a text, as its own spelling
 abbrev pub itself : List ℕ → List ℕ
@@ -82,16 +80,16 @@ pub record MayFollow (names : List (List ℕ)) (name : List ℕ) : Type 0 where
   pub few : length names < 16
 
 -- whether a name is one of these
-abbrev pub is_among : List ℕ → List (List ℕ) → Bool
-is_among name names = list_any (λ other. pointwise nat_eq other name) names
+abbrev pub is_one_of : List ℕ → List (List ℕ) → Bool
+is_one_of name names = list_any (λ other. pointwise nat_eq other name) names
 
 -- whether it may stand after them, being one of a hierarchy
 abbrev pub may_follow : List (List ℕ) → List ℕ → Bool
-may_follow names name = nat_lt (length names) 16 && not (is_among name names)
+may_follow names name = nat_lt (length names) 16 && not (is_one_of name names)
 
 -- whether no name is one of the others
 abbrev pub are_apart : List (List ℕ) → List (List ℕ) → Bool
-are_apart names others = list_all (λ name. not (is_among name others)) names
+are_apart names others = list_all (λ name. not (is_one_of name others)) names
 
 -- the name of a part was added to those before it, or may not stand there
 abbrev pub PushesName : {A : Type 0} → List (List ℕ) → List (List ℕ) → List ℕ → ℕ → Result A CmdErr → Type 0
@@ -101,4 +99,4 @@ PushesName names after part place (Err e) = RefusesWord (Spells slashed (MayFoll
 -- what is chosen, where system extensions have these
 abbrev pub ReadsOthers : List (List ℕ) → List (List ℕ) → Result Chosen CmdErr → Type 0
 ReadsOthers names words (Ok chosen) = AreChosen chosen × (hierarchies_word names ∷ words ≡ chosen_words chosen)
-ReadsOthers names words (Err e) = Refuses (TakesOthers names) words 5 e
+ReadsOthers names words (Err e) = RefusesWords (TakesOthers names) words 5 e

@@ -2,14 +2,15 @@
 -- `/`, paths of the depot without one. Numbers and words are this project's own.
 use Rattle.std.specs.Prelude.{ℕ, List, ◌++◌, codes, decimal, Option, Some, None}
 use Rattle.hex.specs.Hex.{encode_lower}
+use Rattle.ext_text.specs.Absolute.{absolute}
 use Rattle.ext_text.specs.Path.{path_text}
 use Rattle.ext_text.specs.declared.which.Which.{Which}
 use Rattle.ext_text.specs.declared.which.Which.TheVariants as limits
 use Rattle.ext_tree.specs.declared.stamp.Stamp.{Stamp}
 use Rattle.ext_cmd.specs.Replies.{lined}
-use Rattle.ext_cmd.specs.Words.{absolute}
 use Rattle.ext_cmd.specs.declared.refusal.Refusal.{Refusal}
-use Rattle.ext_cmd.specs.declared.refusal.Refusal.TheVariants.{NoStore, StoreExists, Merged, ReadOnly, NoHostRelease, BadHostRelease, Limit, NoEntry, NotDirectory, NotFile, BadTree, NotInDepot, Mismatch}
+use Rattle.ext_cmd.specs.declared.refusal.Refusal.TheVariants.{NoStore, StoreExists, Merged, ReadOnly, NoHostRelease, BadHostRelease, Limit}
+use Rattle.ext_cmd.specs.declared.refusal.Refusal.TheVariants.{NoEntry, NotDirectory, NotFile, BadTree, NotInDepot, Mismatch}
 
 -- the number of a refusal
 abbrev pub refusal_number : Refusal → ℕ
@@ -60,7 +61,8 @@ refusal_details (NotDirectory path) = codes "not-directory " ++ absolute path
 refusal_details (NotFile path) = codes "not-file " ++ absolute path
 refusal_details (BadTree line path) = codes "bad-tree " ++ decimal line ++ codes " " ++ place_word path
 refusal_details (NotInDepot path) = codes "not-in-depot " ++ path_text path
-refusal_details (Mismatch path listed found) = codes "mismatch " ++ path_text path ++ codes " " ++ stamp_words listed ++ codes " " ++ stamp_words found
+refusal_details (Mismatch path listed found) =
+    codes "mismatch " ++ path_text path ++ codes " " ++ stamp_words listed ++ codes " " ++ stamp_words found
 
 -- the line of a refusal, with its newline
 abbrev pub refusal_line : Refusal → List ℕ

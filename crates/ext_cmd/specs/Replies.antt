@@ -4,21 +4,22 @@ use Rattle.std.specs.Prelude.{ℕ, List, ◌++◌, length, codes, decimal}
 use Rattle.std.specs.List.{flat_map}
 use Rattle.std.specs.declared.cmp.Ordering.{Ordering}
 use Rattle.std.specs.declared.cmp.Ordering.TheVariants as orders
-use Rattle.ext_cmd.specs.Words.{absolute}
+use Rattle.ext_text.specs.Absolute.{absolute}
+use Rattle.ext_match.specs.declared.verdict.Verdict.{Verdict}
+use Rattle.ext_match.specs.declared.verdict.Verdict.TheVariants.{Fits, Scope, Architecture, NoId, Id, Level, Version}
+use Rattle.ext_find.specs.declared.found.BreakWhy.{BreakWhy}
+use Rattle.ext_find.specs.declared.found.BreakWhy.TheVariants.{NotDirectory, HasOsRelease, NoRelease}
 use Rattle.ext_cmd.specs.declared.answer.Answer.{Answer}
 use Rattle.ext_cmd.specs.declared.answer.Answer.TheVariants.{Done, Unchanged, Merged, Unmerged, Found, Tree, Order, Checked}
 use Rattle.ext_cmd.specs.declared.answer.Item.{Item}
 use Rattle.ext_cmd.specs.declared.answer.ItemKind.{ItemKind}
-use Rattle.ext_cmd.specs.declared.answer.ItemKind.TheVariants.{Image, Masked, Raw, Broken}
-use Rattle.ext_cmd.specs.declared.answer.Verdict.{Verdict}
-use Rattle.ext_cmd.specs.declared.answer.Verdict.TheVariants.{Fits, Scope, Architecture, NoId, Id, Level, Version}
-use Rattle.ext_cmd.specs.declared.answer.Why.{Why}
-use Rattle.ext_cmd.specs.declared.answer.Why.TheVariants.{NotDirectory, HasOsRelease, NoRelease, BadRelease}
+use Rattle.ext_cmd.specs.declared.answer.ItemKind.TheVariants.{Image, Masked, Raw, Broken, BadRelease}
 
 -- a line and its newline
 abbrev pub lined : List ℕ → List ℕ
 lined line = line ++ codes "\n"
 
+-- the word of a verdict
 abbrev pub verdict_word : Verdict → List ℕ
 verdict_word Fits = codes "fits"
 verdict_word Scope = codes "scope"
@@ -28,19 +29,21 @@ verdict_word Id = codes "id"
 verdict_word Level = codes "level"
 verdict_word Version = codes "version"
 
-abbrev pub why_words : Why → List ℕ
-why_words NotDirectory = codes "not-directory"
-why_words HasOsRelease = codes "has-os-release"
-why_words NoRelease = codes "no-release"
-why_words (BadRelease line) = codes "bad-release " ++ decimal line
+-- and of why an image can't be used
+abbrev pub why_word : BreakWhy → List ℕ
+why_word NotDirectory = codes "not-directory"
+why_word HasOsRelease = codes "has-os-release"
+why_word NoRelease = codes "no-release"
 
 -- what a found item is, and where
 abbrev pub kind_words : List (List ℕ) → ItemKind → List ℕ
 kind_words place (Image verdict) = codes "image " ++ absolute place ++ codes " " ++ verdict_word verdict
 kind_words place Masked = codes "masked " ++ absolute place
 kind_words place Raw = codes "raw " ++ absolute place
-kind_words place (Broken why) = codes "broken " ++ absolute place ++ codes " " ++ why_words why
+kind_words place (Broken why) = codes "broken " ++ absolute place ++ codes " " ++ why_word why
+kind_words place (BadRelease line) = codes "broken " ++ absolute place ++ codes " " ++ (codes "bad-release " ++ decimal line)
 
+-- the line of a found item
 abbrev pub item_line : Item → List ℕ
 item_line item = lined (item.name ++ codes " " ++ kind_words item.place item.kind)
 

@@ -18,27 +18,23 @@
 use Rattle.std.specs.Prelude.{◌≡◌, ◌≢◌, ℕ, ◌<◌, ◌≤◌, Bool, true, false, List, [], ◌∷◌, length, map, codes, Option, Some, None}
 use Rattle.std.specs.List.{AllByRecursion, join_with_byte}
 use Rattle.ext_lines.specs.Split.{Lacks}
+use Rattle.ext_text.specs.Absolute.{absolute}
 use Rattle.ext_text.specs.Arch.{arch_name}
 use Rattle.ext_text.specs.Name.{IsName}
 use Rattle.ext_text.specs.Path.{IsPath, path_text}
 use Rattle.ext_text.specs.Scope.{scope_name}
-use Rattle.ext_text.specs.declared.class.Class.TheVariants as classes
+use Rattle.ext_text.specs.declared.extension.Extension.TheVariants as extensions
 use Rattle.ext_text.specs.declared.scope.Scope.TheVariants.{Portable}
 use Rattle.ext_host.specs.Host.{default_hierarchies}
 use Rattle.ext_cmd.specs.Fault.{IsFault}
 use Rattle.ext_cmd.specs.Resource.{IsResource}
 use Rattle.ext_cmd.specs.declared.command.Command.{Command}
-use Rattle.ext_cmd.specs.declared.command.Command.TheVariants.{Init, ImportFs, Remove, Sysext, Confext, Tree, Cat, Compare, Check, Layer, Migrate}
+use Rattle.ext_cmd.specs.declared.command.Command.TheVariants.{Init, ImportFs, Remove, Sysext, Confext}
+use Rattle.ext_cmd.specs.declared.command.Command.TheVariants.{Tree, Cat, Compare, Check, Layer, Migrate}
 use Rattle.ext_cmd.specs.declared.command.ViewCommand.{ViewCommand}
 use Rattle.ext_cmd.specs.declared.command.ViewCommand.TheVariants as views
 use Rattle.ext_cmd.specs.declared.command.Chosen.{Chosen}
 use Rattle.ext_cmd.specs.declared.command.Chosen.TheVariants as chosen
-
--- ---- words of arguments
-
--- a path of the host: a `/`, and the names with a `/` between each two; the root is `/` alone
-abbrev pub absolute : List (List ℕ) → List ℕ
-absolute path = 47 ∷ path_text path
 
 -- a name after a `/`
 abbrev pub slashed : List ℕ → List ℕ
@@ -47,8 +43,6 @@ slashed name = 47 ∷ name
 -- a list of hierarchies: each name after a `/`, a `:` between each two
 abbrev pub hierarchies_word : List (List ℕ) → List ℕ
 hierarchies_word names = join_with_byte 58 (map slashed names)
-
--- ---- what arguments may be
 
 -- a path other than the root
 pub record IsBelowRoot (path : List (List ℕ)) : Type 0 where
@@ -75,8 +69,8 @@ AreDistinct [] = Unit {0}
 AreDistinct (name ∷ names) = IsNone name names × AreDistinct names
 
 -- none of the first names is one of the others
-abbrev pub AreApart : List (List ℕ) → List (List ℕ) → Type 0
-AreApart names others = AllByRecursion (λ name. IsNone name others) names
+abbrev pub AreDisjoint : List (List ℕ) → List (List ℕ) → Type 0
+AreDisjoint names others = AllByRecursion (λ name. IsNone name others) names
 
 -- 1 to 16 names of hierarchies, none twice
 pub record IsHierarchyList (names : List (List ℕ)) : Type 0 where
@@ -88,23 +82,25 @@ pub record IsHierarchyList (names : List (List ℕ)) : Type 0 where
 -- the hierarchies of each class are such names, and no name is one of both; what is left out has its default
 abbrev pub AreChosen : Chosen → Type 0
 AreChosen chosen.Default = Unit {0}
-AreChosen (chosen.Sysext names) = IsHierarchyList names × AreApart names (default_hierarchies classes.Confext)
-AreChosen (chosen.Both names others) = IsHierarchyList names × IsHierarchyList others × AreApart names others
+AreChosen (chosen.Sysext names) = IsHierarchyList names × AreDisjoint names (default_hierarchies extensions.Confext)
+AreChosen (chosen.Both names others) = IsHierarchyList names × IsHierarchyList others × AreDisjoint names others
 
--- ---- commands
-
+-- a path of the host as one word
 abbrev pub path_words : List (List ℕ) → List (List ℕ)
 path_words path = absolute path ∷ []
 
+-- the words of chosen hierarchies
 abbrev pub chosen_words : Chosen → List (List ℕ)
 chosen_words chosen.Default = []
 chosen_words (chosen.Sysext names) = hierarchies_word names ∷ []
 chosen_words (chosen.Both names others) = hierarchies_word names ∷ hierarchies_word others ∷ []
 
+-- the option `--force`, where it is set
 abbrev pub force_words : Bool → List (List ℕ)
 force_words false = []
 force_words true = codes "--force" ∷ []
 
+-- the words of a command on extensions, after its class
 abbrev pub view_words : ViewCommand → List (List ℕ)
 view_words views.List = codes "list" ∷ []
 view_words views.Status = codes "status" ∷ []
@@ -112,6 +108,7 @@ view_words (views.Merge force) = codes "merge" ∷ force_words force
 view_words views.Unmerge = codes "unmerge" ∷ []
 view_words (views.Refresh force) = codes "refresh" ∷ force_words force
 
+-- the words of a path that may be left out
 abbrev pub optional_words : Option (List (List ℕ)) → List (List ℕ)
 optional_words None = []
 optional_words (Some path) = path_words path
@@ -130,6 +127,7 @@ command_words Check = codes "check" ∷ []
 command_words Layer = codes "layer" ∷ []
 command_words Migrate = codes "migrate" ∷ []
 
+-- no path, or one of the host
 abbrev pub IsOptionalPath : Option (List (List ℕ)) → Type 0
 IsOptionalPath None = Unit {0}
 IsOptionalPath (Some path) = IsPath path

@@ -1,4 +1,6 @@
 // Answers.
+use ext_find::BreakWhy;
+use ext_match::Verdict;
 use ext_text::{ListOf, Name, Names, Path, Text};
 use std::cmp::Ordering;
 
@@ -50,38 +52,8 @@ pub enum ItemKind {
     /// `raw`: an image in a file, which is not looked into.
     Raw,
     /// `broken`: an image that can't be used.
-    Broken(Why),
-}
-
-/// Whether an image fits the host, or the first reason why it doesn't.
-#[derive(Clone, Copy, Debug, PartialEq, Eq)]
-pub enum Verdict {
-    /// `fits`.
-    Fits,
-    /// `scope`: the host's scope isn't among the image's.
-    Scope,
-    /// `architecture`: the image is made for another architecture.
-    Architecture,
-    /// `no-id`: the image has no `ID`.
-    NoId,
-    /// `id`: the image is made for hosts of another `ID`.
-    Id,
-    /// `level`: the image and the host have different levels.
-    Level,
-    /// `version`: the image isn't made for the host's `VERSION_ID`.
-    Version,
-}
-
-/// Why an image can't be used.
-#[derive(Clone, Copy, Debug, PartialEq, Eq)]
-pub enum Why {
-    /// `not-directory`: it has something other than a directory at a hierarchy.
-    NotDirectory,
-    /// `has-os-release`: a system extension has the release file of a host.
-    HasOsRelease,
-    /// `no-release`: it has no release file.
-    NoRelease,
-    /// `bad-release LINE`: its release file is faulty.
+    Broken(BreakWhy),
+    /// `broken`, and `bad-release LINE`: an image whose release file is faulty.
     BadRelease {
         /// The first faulty line, counted from 1.
         line: u64,

@@ -2,10 +2,9 @@
 ghost use Rattle.std.specs.Prelude.{◌≡◌, ◌++◌, decimal, OnOk};
 ghost use Rattle.ext_cmd.specs.Replies.{lined};
 ghost use Rattle.ext_cmd.specs.Refusals.{stamp_words};
-ghost use Rattle.ext_cmd.specs.Words.{absolute};
 
 use ext_lines::append_decimal;
-use ext_text::{OutOfMemory, Path};
+use ext_text::OutOfMemory;
 use ext_tree::Stamp;
 
 // Words.
@@ -35,14 +34,6 @@ pub(crate) fn append_line(text: &mut Vec<u8>, line: &[u8]) -> Result<(), OutOfMe
     text.extend_from_slice(line)?;
     text.push(b'\n')?;
     Ok(())
-}
-
-// A path of the host.
-pub(crate) fn append_path(text: &mut Vec<u8>, path: &Path) -> Result<(), OutOfMemory>
-    ensures { OnOk result (text.new.items ≡ text.old.items ++ absolute path.now) }
-{
-    text.push(b'/')?;
-    path.append_to(text)
 }
 
 // The size of a file, and its digest.

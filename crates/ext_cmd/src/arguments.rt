@@ -1,19 +1,18 @@
 // The words of arguments. Each reader is told the place of the word, or of the first of the words, that it reads.
 ghost use Rattle.std.specs.Prelude.{◌≡◌, ◌∷◌, ◌++◌, [], ◌+◌, ◌<◌, ◌^◌, codes, MatchOption, IfOk};
+ghost use Rattle.ext_text.specs.Absolute.{absolute};
 ghost use Rattle.ext_text.specs.Arch.{arch_name};
 ghost use Rattle.ext_text.specs.Path.{IsPath, path_text};
 ghost use Rattle.ext_text.specs.Scope.{scope_name};
-ghost use Rattle.ext_cmd.specs.Grammar.{Any, Ends, IsBelowRootWord, IsHostScope, IsPathWord, Then};
+ghost use Rattle.ext_cmd.specs.Grammar.{Any, HasNoMore, IsBelowRootWord, IsHostScope, IsPathWord, Then};
 ghost use Rattle.ext_cmd.specs.Reading.{ReadsPart, ReadsWord, no_words, usage_of};
 ghost use Rattle.ext_cmd.specs.Resource.{IsResource};
-ghost use Rattle.ext_cmd.specs.Words.{IsBelowRoot, absolute, path_words};
+ghost use Rattle.ext_cmd.specs.Words.{IsBelowRoot, path_words};
 
 use crate::resource::Resource;
 use crate::words::CmdErr;
 use ext_text::{Arch, OutOfMemory, Path, PathErr, Scope, Text};
 use std::alloc::Global;
-
-// ---- where words begin and end
 
 // The first word, and the words after it.
 pub(crate) fn next(words: &[Text]) -> Option<(&[u8], &[Text])>
@@ -27,15 +26,13 @@ pub(crate) fn next(words: &[Text]) -> Option<(&[u8], &[Text])>
 
 // No word is left.
 pub(crate) fn no_more(words: &[Text], place: u64) -> Result<(), CmdErr>
-    ensures { ReadsPart no_words Any Ends words.now place result }
+    ensures { ReadsPart no_words Any HasNoMore words.now place result }
 {
     match words {
         [] => Ok(()),
         [_, ..] => Err(CmdErr::Usage { place }),
     }
 }
-
-// ---- one word
 
 // An architecture.
 pub(crate) fn read_arch(word: &[u8], place: u64) -> Result<Arch, CmdErr>
@@ -95,7 +92,7 @@ fn read_below_root(alloc: Global, word: &[u8], place: u64) -> Result<Path, CmdEr
     ensures { ReadsWord absolute IsBelowRoot word.now place result }
 {
     let path = read_path(alloc, word, place)?;
-    if path.names().is_empty() {
+    if path.is_root() {
         return Err(CmdErr::Usage { place });
     }
     Ok(path)
@@ -123,12 +120,10 @@ fn name_of_tree(alloc: Global, word: &[u8]) -> Result<Vec<u8>, OutOfMemory>
     Ok(name)
 }
 
-// ---- one word, and none after it
-
 // A path of the host.
 pub(crate) fn read_last_path(alloc: Global, words: &[Text], first: u64) -> Result<Path, CmdErr>
     requires { first < 2 ^ 32 }
-    ensures { ReadsPart path_words IsPath (Then IsPathWord Ends) words.now first result }
+    ensures { ReadsPart path_words IsPath (Then IsPathWord HasNoMore) words.now first result }
 {
     match next(words) {
         None => Err(CmdErr::Usage { place: first }),
@@ -147,7 +142,7 @@ pub(crate) fn read_last_below_root(
     first: u64,
 ) -> Result<Path, CmdErr>
     requires { first < 2 ^ 32 }
-    ensures { ReadsPart path_words IsBelowRoot (Then IsBelowRootWord Ends) words.now first result }
+    ensures { ReadsPart path_words IsBelowRoot (Then IsBelowRootWord HasNoMore) words.now first result }
 {
     match next(words) {
         None => Err(CmdErr::Usage { place: first }),

@@ -18,7 +18,7 @@ pub enum Command {
     ImportFs {
         /// The tree in the depot.
         resource: Resource,
-        /// The path in the host; it may be the root.
+        /// The path in the host, which may be the root.
         path: Path,
     },
     /// `remove ABS`: what stands at and below the path goes.
@@ -77,13 +77,13 @@ pub enum ViewCommand {
 pub enum Chosen {
     /// None is given: system extensions have `/usr` and `/opt`, configuration extensions `/etc`.
     Default,
-    /// Those of system extensions; configuration extensions have `/etc`.
+    /// Those of system extensions. Configuration extensions have `/etc`.
     Sysext(Names),
-    /// Those of both classes.
+    /// The hierarchies of both classes.
     Both {
-        /// Those of system extensions.
+        /// The hierarchies of system extensions.
         sysext: Names,
-        /// Those of configuration extensions.
+        /// The hierarchies of configuration extensions.
         confext: Names,
     },
 }

@@ -9,13 +9,10 @@ ghost use Rattle.ext_cmd.specs.Words.{AreChosen, IsHierarchyList, IsPlainName, c
 use crate::arguments::{next, no_more};
 use crate::command::Chosen;
 use crate::words::CmdErr;
-use ext_host::default_hierarchies;
+use ext_host::{MOST_HIERARCHIES, default_hierarchies};
 use ext_lines::split_at_byte;
-use ext_text::{Class, Name, NameErr, Names, Text};
+use ext_text::{Extension, Name, NameErr, Names, Text};
 use std::alloc::Global;
-
-/// The most hierarchies of a class.
-const MOST_HIERARCHIES: usize = 16;
 
 // The lists that are given, none, one or two.
 pub(crate) fn read_chosen(alloc: Global, words: &[Text]) -> Result<Chosen, CmdErr>
@@ -53,14 +50,12 @@ fn sysext_alone(alloc: Global, sysext: Names) -> Result<Chosen, CmdErr>
     requires { IsHierarchyList sysext }
     ensures { ReadsOthers sysext [] result }
 {
-    let confext = default_hierarchies(alloc, Class::Confext)?;
+    let confext = default_hierarchies(alloc, Extension::Confext)?;
     if !are_apart(sysext.as_slice(), confext.as_slice()) {
         return Err(CmdErr::Usage { place: 5 });
     }
     Ok(Chosen::Sysext(sysext))
 }
-
-// ---- one list
 
 // The names of a list: each stands after a `/`, and a `:` between each two.
 fn read_list(alloc: Global, word: &[u8], place: u64) -> Result<Names, CmdErr>
@@ -133,8 +128,6 @@ fn read_any_name(alloc: Global, text: &[u8], place: u64) -> Result<Name, CmdErr>
         Err(NameErr::BadName) => Err(CmdErr::Usage { place }),
     }
 }
-
-// ---- two lists
 
 // No name is one of the others.
 fn are_apart(names: &[Name], others: &[Name]) -> bool

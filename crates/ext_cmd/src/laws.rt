@@ -7,7 +7,7 @@ pub fn words_are_of_one_command()
     ensures read { ReadsBack }
 {}
 
-/// Words that are no command have one first fault, at a word or after the last; the words of a command have none.
+/// Words that are no command have one first fault, at a word or after the last. The words of a command have none.
 pub fn words_have_one_first_fault()
     ensures one { OneUsage }
     ensures none { NoUsage }

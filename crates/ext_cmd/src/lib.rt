@@ -1,6 +1,6 @@
 //! Commands: their words, what they answer, and why they are refused.
 //!
-//! A [`Command`] is the words that it was given in; [`read_words`] gives the command that words are, or the place of their
+//! A [`Command`] is the words that it was given in. [`read_words`] gives the command that words are, or the place of their
 //! first fault. An [`Answer`] and a [`Refusal`] are what a command replies, and [`answer_text`] and [`refusal_text`] print
 //! them. All three are defined by printing: what the words of each command are, and what the lines of each answer and of
 //! each refusal are. The crate that carries commands out stands on this one.
@@ -20,7 +20,7 @@ mod resource;
 mod views;
 mod words;
 
-pub use answer::{Answer, Item, ItemKind, Items, Verdict, Why};
+pub use answer::{Answer, Item, ItemKind, Items};
 pub use command::{Chosen, Command, ViewCommand};
 pub use refusal::{Refusal, number, refusal_text};
 pub use replies::answer_text;

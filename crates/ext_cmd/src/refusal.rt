@@ -1,9 +1,9 @@
 ghost use Rattle.std.specs.Prelude.{◌≡◌, ◌++◌, codes, decimal, IfOk, OnOk};
+ghost use Rattle.ext_text.specs.Absolute.{absolute};
 ghost use Rattle.ext_text.specs.Path.{path_text};
 ghost use Rattle.ext_cmd.specs.Refusals.{place_word, refusal_details, refusal_line, refusal_number, stamp_words, which_word};
-ghost use Rattle.ext_cmd.specs.Words.{absolute};
 
-use crate::appending::{append_numbered, append_path, append_stamp, append_words};
+use crate::appending::{append_numbered, append_stamp, append_words};
 use ext_lines::append_decimal;
 use ext_text::{OutOfMemory, Path, Text, Which};
 use ext_tree::Stamp;
@@ -12,57 +12,57 @@ use std::alloc::Global;
 /// Why a command was refused.
 #[derive(Debug, Drop, PartialEq, Eq)]
 pub enum Refusal {
-    /// There is no store; number 1.
+    /// There is no store (number 1).
     NoStore,
-    /// There is a store already; number 2.
+    /// There is a store already (number 2).
     StoreExists,
-    /// The class is merged already; number 3.
+    /// The class is merged already (number 3).
     Merged,
-    /// A path that would be written or cut is in, at or above a merged hierarchy; number 4.
+    /// A path that would be written or cut is in, at or above a merged hierarchy (number 4).
     ReadOnly {
         /// The least such path.
         path: Path,
     },
-    /// The host has no release file; number 5.
+    /// The host has no release file (number 5).
     NoHostRelease,
-    /// The host's release file is faulty; number 6.
+    /// The host's release file is faulty (number 6).
     BadHostRelease {
         /// Its first faulty line, counted from 1.
         line: u64,
     },
-    /// A limit would be passed; number 7.
+    /// A limit would be passed (number 7).
     Limit {
         /// Which limit.
         which: Which,
     },
-    /// Nothing stands at the path; number 8.
+    /// Nothing stands at the path (number 8).
     NoEntry {
         /// The path.
         path: Path,
     },
-    /// What stands at the path is no directory; number 9.
+    /// What stands at the path is no directory (number 9).
     NotDirectory {
         /// The path.
         path: Path,
     },
-    /// What stands at the path is no file; number 10.
+    /// What stands at the path is no file (number 10).
     NotFile {
         /// The path.
         path: Path,
     },
-    /// A tree text is faulty; number 23.
+    /// A tree text is faulty (number 23).
     BadTree {
         /// The first faulty line, counted from 1.
         line: u64,
         /// The text's path in the depot; none where it did not come from there.
         path: Option<Path>,
     },
-    /// The depot has no such file; number 24.
+    /// The depot has no such file (number 24).
     NotInDepot {
         /// The file's path in the depot.
         path: Path,
     },
-    /// A file of the depot has other bytes than listed; number 25.
+    /// A file of the depot has other bytes than listed (number 25).
     Mismatch {
         /// The file's path in the depot.
         path: Path,
@@ -140,7 +140,7 @@ fn append_at(line: &mut Vec<u8>, word: &str, path: &Path) -> Result<(), OutOfMem
     ensures { OnOk result (line.new.items ≡ line.old.items ++ (word.now ++ absolute path.now)) }
 {
     append_words(line, word)?;
-    append_path(line, path)
+    path.append_absolute(line)
 }
 
 // Which limit would be passed.
@@ -201,7 +201,8 @@ fn append_mismatch(
     listed: &Stamp,
     found: &Stamp,
 ) -> Result<(), OutOfMemory>
-    ensures { OnOk result (line.new.items ≡ line.old.items ++ (codes "mismatch " ++ path_text path.now ++ codes " " ++ stamp_words listed.now ++ codes " " ++ stamp_words found.now)) }
+    ensures { OnOk result (line.new.items ≡ line.old.items ++ (codes "mismatch " ++ path_text path.now ++ codes " "
+        ++ stamp_words listed.now ++ codes " " ++ stamp_words found.now)) }
 {
     append_words(line, "mismatch ")?;
     path.append_to(line)?;

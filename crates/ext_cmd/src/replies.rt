@@ -1,14 +1,16 @@
 // The texts of answers.
 ghost use Rattle.std.specs.Prelude.{◌≡◌, ◌++◌, codes, decimal, length, IfOk, OnOk};
 ghost use Rattle.std.specs.List.{flat_map};
-ghost use Rattle.ext_cmd.specs.Replies.{answer_text, item_line, kind_words, lined, order_word, verdict_word, why_words};
-ghost use Rattle.ext_cmd.specs.Words.{absolute};
+ghost use Rattle.ext_text.specs.Absolute.{absolute};
+ghost use Rattle.ext_cmd.specs.Replies.{answer_text, item_line, kind_words, lined, order_word, verdict_word, why_word};
 ghost use Rattle.ext_cmd.specs.declared.answer.Answer.TheVariants.{Checked};
-ghost use Rattle.ext_cmd.specs.declared.answer.ItemKind.TheVariants.{Broken, Image};
+ghost use Rattle.ext_cmd.specs.declared.answer.ItemKind.TheVariants.{BadRelease, Broken, Image};
 
-use crate::answer::{Answer, Item, ItemKind, Verdict, Why};
-use crate::appending::{append_line, append_numbered, append_path, append_words};
+use crate::answer::{Answer, Item, ItemKind};
+use crate::appending::{append_line, append_numbered, append_words};
+use ext_find::BreakWhy;
 use ext_lines::append_decimal;
+use ext_match::Verdict;
 use ext_text::{Name, OutOfMemory, Path, Text};
 use std::alloc::Global;
 use std::cmp::Ordering;
@@ -53,8 +55,6 @@ fn order_word(order: Ordering) -> &'static str
     }
 }
 
-// ---- what is merged
-
 // How many names, and each on a line of its own.
 fn merged_text(alloc: Global, names: &[Name]) -> Result<Text, OutOfMemory>
     ensures { IfOk result (λ text. text ≡ lined (codes "merged " ++ decimal (length names.now)) ++ flat_map lined names.now) }
@@ -75,8 +75,6 @@ fn append_names(text: &mut Vec<u8>, names: &[Name]) -> Result<(), OutOfMemory>
     }
     Ok(())
 }
-
-// ---- what is found
 
 // A line for each item.
 fn found_text(alloc: Global, items: &[Item]) -> Result<Text, OutOfMemory>
@@ -109,6 +107,7 @@ fn append_kind(text: &mut Vec<u8>, place: &Path, kind: ItemKind) -> Result<(), O
         ItemKind::Masked => append_placed(text, "masked ", place),
         ItemKind::Raw => append_placed(text, "raw ", place),
         ItemKind::Broken(why) => append_broken(text, place, why),
+        ItemKind::BadRelease { line } => append_bad_release(text, place, line),
     }
 }
 
@@ -117,7 +116,7 @@ fn append_placed(text: &mut Vec<u8>, word: &str, place: &Path) -> Result<(), Out
     ensures { OnOk result (text.new.items ≡ text.old.items ++ (word.now ++ absolute place.now)) }
 {
     append_words(text, word)?;
-    append_path(text, place)
+    place.append_absolute(text)
 }
 
 // An image, and whether it fits.
@@ -130,12 +129,21 @@ fn append_image(text: &mut Vec<u8>, place: &Path, verdict: Verdict) -> Result<()
 }
 
 // An image that can't be used, and why.
-fn append_broken(text: &mut Vec<u8>, place: &Path, why: Why) -> Result<(), OutOfMemory>
+fn append_broken(text: &mut Vec<u8>, place: &Path, why: BreakWhy) -> Result<(), OutOfMemory>
     ensures { OnOk result (text.new.items ≡ text.old.items ++ kind_words place.now (Broken why)) }
 {
     append_placed(text, "broken ", place)?;
     text.push(b' ')?;
-    append_why(text, why)
+    append_words(text, why_word(why))
+}
+
+// An image whose release file is faulty, and its first faulty line.
+fn append_bad_release(text: &mut Vec<u8>, place: &Path, line: u64) -> Result<(), OutOfMemory>
+    ensures { OnOk result (text.new.items ≡ text.old.items ++ kind_words place.now (BadRelease line)) }
+{
+    append_placed(text, "broken ", place)?;
+    text.push(b' ')?;
+    append_numbered(text, "bad-release ", line)
 }
 
 // The word of a verdict.
@@ -153,19 +161,16 @@ fn verdict_word(verdict: Verdict) -> &'static str
     }
 }
 
-// Why an image can't be used.
-fn append_why(text: &mut Vec<u8>, why: Why) -> Result<(), OutOfMemory>
-    ensures { OnOk result (text.new.items ≡ text.old.items ++ why_words why) }
+// The word of why an image can't be used.
+fn why_word(why: BreakWhy) -> &'static str
+    ensures { result.now ≡ why_word why }
 {
     match why {
-        Why::NotDirectory => append_words(text, "not-directory"),
-        Why::HasOsRelease => append_words(text, "has-os-release"),
-        Why::NoRelease => append_words(text, "no-release"),
-        Why::BadRelease { line } => append_numbered(text, "bad-release ", line),
+        BreakWhy::NotDirectory => "not-directory",
+        BreakWhy::HasOsRelease => "has-os-release",
+        BreakWhy::NoRelease => "no-release",
     }
 }
-
-// ---- what is checked
 
 // How many files, and their bytes.
 fn checked_text(alloc: Global, files: u64, bytes: u64) -> Result<Text, OutOfMemory>

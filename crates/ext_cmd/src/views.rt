@@ -1,6 +1,6 @@
 // The words after `sysext` and `confext`. The first of them has the place 2.
 ghost use Rattle.std.specs.Prelude.{◌≡◌, ◌↔◌, IsTrue, codes};
-ghost use Rattle.ext_cmd.specs.Grammar.{Any, Chooses, Ends, IsForce, Maybe, TakesVerb};
+ghost use Rattle.ext_cmd.specs.Grammar.{Any, Chooses, HasNoMore, IsForce, Maybe, TakesVerb};
 ghost use Rattle.ext_cmd.specs.Keyword.{verb_text};
 ghost use Rattle.ext_cmd.specs.Reading.{ReadsAfterVerb, ReadsPart, no_words};
 ghost use Rattle.ext_cmd.specs.Words.{force_words, view_words};
@@ -56,7 +56,7 @@ fn read_refresh(more: &[Text]) -> Result<ViewCommand, CmdErr>
 
 // A command whose verb no word follows.
 fn alone(view: ViewCommand, more: &[Text]) -> Result<ViewCommand, CmdErr>
-    ensures { ReadsPart no_words (λ v. v ≡ view) Ends more.now 3 result }
+    ensures { ReadsPart no_words (λ v. v ≡ view) HasNoMore more.now 3 result }
 {
     no_more(more, 3)?;
     Ok(view)
@@ -64,7 +64,7 @@ fn alone(view: ViewCommand, more: &[Text]) -> Result<ViewCommand, CmdErr>
 
 // Whether `--force` stands there.
 fn read_force(words: &[Text]) -> Result<bool, CmdErr>
-    ensures { ReadsPart force_words Any (Maybe IsForce Ends) words.now 3 result }
+    ensures { ReadsPart force_words Any (Maybe IsForce HasNoMore) words.now 3 result }
 {
     match next(words) {
         None => Ok(false),

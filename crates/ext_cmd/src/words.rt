@@ -42,7 +42,7 @@ impl From<OutOfMemory> for CmdErr {
 /// The command whose words these are.
 ///
 /// # Errors
-/// `Usage` exactly where they are those of no command, with the place of the first fault; `OutOfMemory` may come at any
+/// `Usage` exactly where they are those of no command, with the place of the first fault. `OutOfMemory` may come at any
 /// words.
 pub fn read_words(alloc: Global, words: &Words) -> Result<Command, CmdErr>
     ensures { ReadsWords words.now result }

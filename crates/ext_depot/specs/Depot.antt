@@ -7,6 +7,7 @@ use Rattle.ext_io.specs.Device.{IsReadAt}
 abbrev pub Files : Type 0
 Files = List (List ℕ) → Option (List ℕ)
 
+-- what contracts see of a depot
 pub record DepotState : Type 0 where
   -- the files, where the depot tells them
   pub contents : Option Files

@@ -5,6 +5,7 @@ use Rattle.std.specs.BTreeMap.{is_at}
 use Rattle.ext_text.specs.Path.{path_cmp}
 use Rattle.ext_depot.specs.Depot.{DepotState}
 
+-- what contracts see of a depot in memory
 pub record DepotView : Type 0 where
   -- the files with their paths, in path order
   pub files : List (List (List ℕ) × List ℕ)

@@ -1,3 +1,4 @@
 pub mod Depot
 pub mod DepotView
 pub mod DepotCalls
+pub mod DepotText

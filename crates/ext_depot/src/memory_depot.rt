@@ -51,7 +51,7 @@ impl MemoryDepot {
     /// Has a file of these bytes at the path, in the place of the one that stood there.
     ///
     /// # Errors
-    /// Out of memory; the depot is then as before.
+    /// Out of memory. The depot is then as before.
     pub fn put(&mut self, path: Path, bytes: Text) -> Result<(), OutOfMemory>
         ensures ok { OnOk result (Puts self.old self.new path bytes) }
         ensures err { OnErr result (self.new ≡ self.old) }

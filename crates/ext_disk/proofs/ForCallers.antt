@@ -1,16 +1,14 @@
 -- What holds over any disk, for the crates that call one: how calls compose, what they spare, and what a stop leaves.
 use Rattle.std.proofs.Common.{◌≡◌, ◌⊎◌, ℕ, ◌<◌, ◌≤◌, Bool, true, false, List, Option, Some, None, IfSome, refl, sym, ap, ◌∙◌, subst, inl, inr, arith}
 use Rattle.std.proofs.lemmas.Bool.{cases_lt}
-use Rattle.ext_disk.specs.Disk.{Tree, Places, Told, DiskState, BothTold, MayLeave, IsTree, IsDisk, now, is_firm}
+use Rattle.ext_disk.specs.Disk.{Tree, Places, Told, DiskState, BothTold, MayLeave, IsTree, IsDisk, now, is_durable}
 use Rattle.ext_disk.specs.Since.{Since, IsLater, Follows, Rests}
 use Rattle.ext_disk.specs.Calls.{Call, look, sync_file, sync_dir, IsWithin, DoesTold, Does}
-use Rattle.ext_disk.specs.Fixed.{IsFixed, IsSpared, Spares, touches}
+use Rattle.ext_disk.specs.Fixed.{IsFixed, IsUnchangedAt, Spares, touches}
 use Rattle.ext_disk.specs.Through.{HoldsThrough, Through}
 use Rattle.ext_disk.proofs.Both.{both_map, both_and, both_then, both_itself, both_same}
 use Rattle.ext_disk.proofs.Outcomes.{ends_within}
-use Rattle.ext_disk.proofs.Sparing.{later_itself, later_then, since_later, since_earlier, call_spares, spared_itself, spared_then}
-
--- ---- following
+use Rattle.ext_disk.proofs.Sparing.{later_itself, later_then, since_later, since_earlier, call_spares, unchanged_itself, unchanged_then}
 
 -- a disk follows itself
 pub follows_itself : (s : DiskState) → Follows s s
@@ -33,8 +31,6 @@ call_follows call old new done does = record {
 -- what rests follows
 pub rests_follow : (old new : DiskState) → Rests old new → Follows old new
 rests_follow old new rests = record { told = both_same IsLater later_itself old.told new.told rests.told; count = rests.count }
-
--- ---- resting
 
 -- a disk rests where nothing is called
 pub rests_itself : (s : DiskState) → Rests s s
@@ -69,14 +65,12 @@ failed_sync_file_rests p old new does = record { told = same_told (DoesTold (syn
 pub failed_sync_dir_rests : (p : List (List ℕ)) (old new : DiskState) → Does (sync_dir p) old new false → Rests old new
 failed_sync_dir_rests p old new does = record { told = same_told (DoesTold (sync_dir p) false) (λ d e told. told.ends) old.told new.told does.told; count = does.count }
 
--- ---- sparing
-
 -- each call spares what it does not touch, done or failed
 pub call_spares_out_of_reach : (reach : List (List ℕ) → Bool) (call : Call) (old new : DiskState) (done : Bool)
     → ((p : List (List ℕ)) → reach p ≡ false → touches call p ≡ false) → Does call old new done → Spares reach old new
 call_spares_out_of_reach reach call old new done untouched does = record {
   follows = call_follows call old new done does;
-  told = both_map (DoesTold call done) (λ d e. (p : List (List ℕ)) → reach p ≡ false → IsSpared d e p)
+  told = both_map (DoesTold call done) (λ d e. (p : List (List ℕ)) → reach p ≡ false → IsUnchangedAt d e p)
       (λ d e told p out. call_spares call done d e told p (untouched p out)) old.told new.told does.told;
 }
 
@@ -84,43 +78,41 @@ call_spares_out_of_reach reach call old new done untouched does = record {
 pub call_keeps_fixed : (call : Call) (done : Bool) (d e : Told) (m : ℕ) (p : List (List ℕ)) → DoesTold call done d e → touches call p ≡ false → m ≤ d.clock → IsFixed d m p
     → IsFixed e m p × ((e.places p).node ≡ (d.places p).node)
 call_keeps_fixed call done d e m p does out early fixed =
-    let spared = call_spares call done d e does p out in
-    (spared.fixed m early fixed, spared.stays.node)
+    let unchanged = call_spares call done d e does p out in
+    (unchanged.fixed m early fixed, unchanged.stays.node)
 
 -- a disk on which nothing is called spares each path
 pub spares_itself : (reach : List (List ℕ) → Bool) (s : DiskState) → Spares reach s s
 spares_itself reach s = record {
   follows = follows_itself s;
-  told = both_itself (λ d e. (p : List (List ℕ)) → reach p ≡ false → IsSpared d e p) (λ d p out. spared_itself d p) s.told;
+  told = both_itself (λ d e. (p : List (List ℕ)) → reach p ≡ false → IsUnchangedAt d e p) (λ d p out. unchanged_itself d p) s.told;
 }
 
 -- so does one that rests
 pub rests_spares : (reach : List (List ℕ) → Bool) (old new : DiskState) → Rests old new → Spares reach old new
 rests_spares reach old new rests = record {
   follows = rests_follow old new rests;
-  told = both_same (λ d e. (p : List (List ℕ)) → reach p ≡ false → IsSpared d e p) (λ d p out. spared_itself d p) old.told new.told rests.told;
+  told = both_same (λ d e. (p : List (List ℕ)) → reach p ≡ false → IsUnchangedAt d e p) (λ d p out. unchanged_itself d p) old.told new.told rests.told;
 }
 
 -- what two stretches of calls spare, both of them spare
 pub spares_then : (reach : List (List ℕ) → Bool) (r s t : DiskState) → Spares reach r s → Spares reach s t → Spares reach r t
 spares_then reach r s t one two =
-    let Spared : Told → Told → Type 0 = λ d e. (p : List (List ℕ)) → reach p ≡ false → IsSpared d e p in
-    let Both : Told → Told → Type 0 = λ d e. IsLater d e × ((p : List (List ℕ)) → reach p ≡ false → IsSpared d e p) in
-    let first : BothTold Both r.told s.told = both_and IsLater Spared Both (λ d e later spared. (later, spared)) r.told s.told one.follows.told one.told in
+    let Unchanged : Told → Told → Type 0 = λ d e. (p : List (List ℕ)) → reach p ≡ false → IsUnchangedAt d e p in
+    let Both : Told → Told → Type 0 = λ d e. IsLater d e × ((p : List (List ℕ)) → reach p ≡ false → IsUnchangedAt d e p) in
+    let first : BothTold Both r.told s.told = both_and IsLater Unchanged Both (λ d e later unchanged. (later, unchanged)) r.told s.told one.follows.told one.told in
     record {
       follows = follows_then r s t one.follows two.follows;
-      told = both_then Both Spared Spared (λ c d e x y p out. spared_then c d e p x.0 (x.1 p out) (y p out)) r.told s.told t.told first two.told;
+      told = both_then Both Unchanged Unchanged (λ c d e x y p out. unchanged_then c d e p x.0 (x.1 p out) (y p out)) r.told s.told t.told first two.told;
     }
 
--- with a wider reach less is spared
+-- with a wider reach less stays as it was
 pub spares_wider : (narrow wide : List (List ℕ) → Bool) (old new : DiskState) → ((p : List (List ℕ)) → wide p ≡ false → narrow p ≡ false) → Spares narrow old new → Spares wide old new
 spares_wider narrow wide old new within spares = record {
   follows = spares.follows;
-  told = both_map (λ d e. (p : List (List ℕ)) → narrow p ≡ false → IsSpared d e p) (λ d e. (p : List (List ℕ)) → wide p ≡ false → IsSpared d e p)
-      (λ d e spared p out. spared p (within p out)) old.told new.told spares.told;
+  told = both_map (λ d e. (p : List (List ℕ)) → narrow p ≡ false → IsUnchangedAt d e p) (λ d e. (p : List (List ℕ)) → wide p ≡ false → IsUnchangedAt d e p)
+      (λ d e unchanged p out. unchanged p (within p out)) old.told new.told spares.told;
 }
-
--- ---- what a stop leaves
 
 -- what a stop now may leave, it may leave of what stands now
 pub since_now : (d : Told) (t : Tree) → IsDisk d → Since d d.clock t → MayLeave d.places t
@@ -142,18 +134,18 @@ left_now d t m disk early left = record {
 -- a stop may leave the tree as it stands
 pub now_may_be_left : (d : Places) → IsTree d → MayLeave d (now d)
 now_may_be_left d tree = record {
-  firm = λ p firm. refl;
-  swung = λ p w is above. (tree.swings p w is).stands;
+  durable = λ p durable. refl;
+  unsynced_rename = λ p w is above. (tree.swings p w is).stands;
 }
 
--- a firm path is fixed since now
-pub fixed_now : (d : Told) (p : List (List ℕ)) → IsDisk d → is_firm d.places p ≡ true → IsFixed d d.clock p
-fixed_now d p disk firm = record { firm = firm; since = λ t s. (since_now d t disk s).firm p firm }
+-- a durable path is fixed since now
+pub fixed_now : (d : Told) (p : List (List ℕ)) → IsDisk d → is_durable d.places p ≡ true → IsFixed d d.clock p
+fixed_now d p disk durable = record { durable = durable; since = λ t s. (since_now d t disk s).durable p durable }
 
 -- what is fixed since a moment is fixed since each later one
 pub fixed_later : (d : Told) (m n : ℕ) (p : List (List ℕ)) → m ≤ n → IsFixed d m p → IsFixed d n p
 fixed_later d m n p later fixed = record {
-  firm = fixed.firm;
+  durable = fixed.durable;
   since = λ t s. let from = s.from in fixed.since t (record { moment = s.moment; from = omega arith; upto = s.upto; left = s.left });
 }
 
@@ -168,8 +160,6 @@ since_past d e m t later = (since_later d e m t later, λ s. since_either d e m 
 -- a later moment allows no more trees than an earlier one
 pub since_wider : (d : Told) (m n : ℕ) (t : Tree) → m ≤ n → Since d n t → Since d m t
 since_wider d m n t later s = let from = s.from in record { moment = s.moment; from = omega arith; upto = s.upto; left = s.left }
-
--- ---- at each moment
 
 holds_through : (P : Places → Type 0) (call : Call) (done : Bool) (x y : Option Told)
     → IfSome x (λ d. (e : Places) → IsWithin call d.places e → P e) → BothTold (DoesTold call done) x y → BothTold (HoldsThrough P) x y

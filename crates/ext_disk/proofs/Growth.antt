@@ -5,13 +5,11 @@ use Rattle.std.specs.Option.{is_some}
 use Rattle.std.specs.Ordering.{eq_by_cmp}
 use Rattle.ext_text.specs.Path.{path_cmp}
 use Rattle.ext_text.proofs.ForCallers.{same_path}
-use Rattle.ext_disk.specs.Disk.{Node, folder, file, Place, Places, Swing, is_folder, is_file, is_no_folder, is_firm, root_place}
-use Rattle.ext_disk.specs.Calls.{Call, look, make_dir, make_file, append, sync_file, sync_dir, rename, remove, IsFree, CanRename, IsEmptyFolder, Allows, put, is_child, loosened, written, settled, settled_in, unswung_in, left_place, reached_place, removed, after, bytes_of}
-use Rattle.ext_disk.specs.Spots.{IsGrown, IsReached}
+use Rattle.ext_disk.specs.Disk.{Node, folder, file, Place, Places, Swing, is_folder, is_file, is_no_folder, is_durable, root_place}
+use Rattle.ext_disk.specs.Calls.{Call, look, make_dir, make_file, append, sync_file, sync_dir, rename, remove, IsFree, CanRename, IsEmptyFolder, Allows, put, is_child, with_unsynced_name, written, synced, synced_in, without_renames_in, left_place, reached_place, removed, after, bytes_of}
+use Rattle.ext_disk.specs.DiskEntries.{IsGrown, IsReached}
 use Rattle.ext_disk.proofs.Paths.{put_here}
-use Rattle.ext_disk.proofs.SpotsLemmas.{no_child_root}
-
--- ---- facts of nodes and paths
+use Rattle.ext_disk.proofs.DiskEntriesLemmas.{no_child_root}
 
 file_no_folder : (o : Option Node) → is_file o ≡ true → is_no_folder o ≡ true
 file_no_folder None is = absurd (false≢true is)
@@ -66,8 +64,6 @@ longer_apart p n same = absurd (omega (arith, ap length same, length-append p (n
 pub snoc_no_root : (p : List (List ℕ)) (n : List ℕ) → p ++ n ∷ [] ≢ []
 snoc_no_root p n same = absurd (omega (arith, ap length same, length-append p (n ∷ [])))
 
--- ---- a tree
-
 -- what stands below a path that is no folder: nothing
 pub none_below : (d : Places) (p : List (List ℕ)) (n : List ℕ) → IsGrown d → is_no_folder (d p).node ≡ true → (d (p ++ n ∷ [])).node ≡ None
 none_below d p n grown is = elim (none_or_some (d (p ++ n ∷ [])).node) [
@@ -75,12 +71,12 @@ none_below d p n grown is = elim (none_or_some (d (p ++ n ∷ [])).node) [
   | inr some ↦ absurd (false≢true (ap is_no_folder (sym (grown.parents p n some)) ∙ is))
 ]
 
--- a place that is put: its folder is there if anything stands at it, nothing is lost below it, and it is swung well
+-- a place that is put: its folder is there if anything stands at it, nothing is lost below it, and its rename is well formed
 pub put_grows : (p : List (List ℕ)) (x : Place) (d : Places) → IsGrown d → p ≢ []
     → ((q : List (List ℕ)) (n : List ℕ) → p ≡ q ++ n ∷ [] → is_some x.node ≡ true → (d q).node ≡ Some folder)
     → ((n : List ℕ) → (x.node ≡ Some folder) ⊎ ((d (p ++ n ∷ [])).node ≡ None))
-    → ((w : Swing) → x.swung ≡ Some w → IsReached w x.node) → IsGrown (put p x d)
-put_grows p x d grown some above below swung = record {
+    → ((w : Swing) → x.unsynced_rename ≡ Some w → IsReached w x.node) → IsGrown (put p x d)
+put_grows p x d grown some above below unsynced_rename = record {
   root = elim (path_or p []) [ inl same ↦ absurd (some same) | inr apart ↦ put_other p x d [] apart ∙ grown.root ];
   parents = λ q n there. elim (path_or p (q ++ n ∷ [])) [
     | inl same ↦
@@ -101,71 +97,69 @@ put_grows p x d grown some above below swung = record {
   ];
   swings = λ q w is. elim (path_or p q) [
     | inl here ↦
-        subst (λ y. IsReached w y.node) (sym (put_same p x d q here)) (swung w (ap (λ y. y.swung) (sym (put_same p x d q here)) ∙ is))
+        subst (λ y. IsReached w y.node) (sym (put_same p x d q here)) (unsynced_rename w (ap (λ y. y.unsynced_rename) (sym (put_same p x d q here)) ∙ is))
     | inr apart ↦
-        subst (λ y. IsReached w y.node) (sym (put_other p x d q apart)) (grown.swings q w (ap (λ y. y.swung) (sym (put_other p x d q apart)) ∙ is))
+        subst (λ y. IsReached w y.node) (sym (put_other p x d q apart)) (grown.swings q w (ap (λ y. y.unsynced_rename) (sym (put_other p x d q apart)) ∙ is))
   ];
 }
 
 -- marks that are taken away
 pub marks_grow : (d e : Places) → IsGrown d → e [] ≡ root_place → ((q : List (List ℕ)) → (e q).node ≡ (d q).node)
-    → ((q : List (List ℕ)) (w : Swing) → (e q).swung ≡ Some w → (d q).swung ≡ Some w) → IsGrown e
-marks_grow d e grown root nodes swung = record {
+    → ((q : List (List ℕ)) (w : Swing) → (e q).unsynced_rename ≡ Some w → (d q).unsynced_rename ≡ Some w) → IsGrown e
+marks_grow d e grown root nodes unsynced_rename = record {
   root = root;
   parents = λ p n there. nodes p ∙ grown.parents p n (ap is_some (sym (nodes (p ++ n ∷ []))) ∙ there);
-  swings = λ p w is. subst (λ o. IsReached w o) (sym (nodes p)) (grown.swings p w (swung p w is));
+  swings = λ p w is. subst (λ o. IsReached w o) (sym (nodes p)) (grown.swings p w (unsynced_rename p w is));
 }
-
--- ---- each call
 
 pub none_none : {X : Type 0} (w : X) → {C : Type 0} → None ≡ Some w → C
 none_none w same = absurd (false≢true (ap is_some same))
 
-make_grows : (p : List (List ℕ)) (node : Option Node) (soft : Bool) (d : Places) → IsGrown d → IsFree d p → IsGrown (put p (loosened node soft) d)
-make_grows p node soft d grown free =
-    put_grows p (loosened node soft) d grown (λ root. snoc_no_root free.dir free.name (sym free.path_is ∙ root))
+make_grows : (p : List (List ℕ)) (node : Option Node) (unsynced_bytes : Bool) (d : Places) → IsGrown d → IsFree d p → IsGrown (put p (with_unsynced_name node unsynced_bytes) d)
+make_grows p node unsynced_bytes d grown free =
+    put_grows p (with_unsynced_name node unsynced_bytes) d grown (λ root. snoc_no_root free.dir free.name (sym free.path_is ∙ root))
     (λ q n is there. ap (λ r. (d r).node) (snoc_same q free.dir n free.name (sym is ∙ free.path_is)) ∙ free.dir_there)
     (λ n. inr (none_below d p n grown (ap is_no_folder free.path_absent)))
     (λ w is. none_none w is)
 
-write_grows : (p : List (List ℕ)) (x : Place) (d : Places) → IsGrown d → is_file (d p).node ≡ true → ((w : Swing) → x.swung ≡ Some w → IsReached w x.node) → IsGrown (put p x d)
-write_grows p x d grown is swung =
+write_grows : (p : List (List ℕ)) (x : Place) (d : Places) → IsGrown d → is_file (d p).node ≡ true → ((w : Swing) → x.unsynced_rename ≡ Some w → IsReached w x.node) → IsGrown (put p x d)
+write_grows p x d grown is unsynced_rename =
     put_grows p x d grown (λ root. false≢true (ap (λ y. is_file y.node) (sym grown.root ∙ ap d (sym root)) ∙ is))
     (λ q n same there. grown.parents q n (ap (λ r. is_some (d r).node) (sym same) ∙ file_there _ is))
     (λ n. inr (none_below d p n grown (file_no_folder _ is)))
-    swung
+    unsynced_rename
 
-settled_node : (b : Bool) (x : Place) → (cond b (settled x) x).node ≡ x.node
-settled_node true x = refl
-settled_node false x = refl
+synced_node : (b : Bool) (x : Place) → (cond b (synced x) x).node ≡ x.node
+synced_node true x = refl
+synced_node false x = refl
 
-settled_swung : (b : Bool) (x : Place) (w : Swing) → (cond b (settled x) x).swung ≡ Some w → x.swung ≡ Some w
-settled_swung true x w is = none_none w is
-settled_swung false x w is = is
+synced_rename : (b : Bool) (x : Place) (w : Swing) → (cond b (synced x) x).unsynced_rename ≡ Some w → x.unsynced_rename ≡ Some w
+synced_rename true x w is = none_none w is
+synced_rename false x w is = is
 
-unswung_node : (b : Bool) (x : Place) → (cond b (record x { swung = None }) x).node ≡ x.node
-unswung_node true x = refl
-unswung_node false x = refl
+without_renames_node : (b : Bool) (x : Place) → (cond b (record x { unsynced_rename = None }) x).node ≡ x.node
+without_renames_node true x = refl
+without_renames_node false x = refl
 
-unswung_swung : (b : Bool) (x : Place) (w : Swing) → (cond b (record x { swung = None }) x).swung ≡ Some w → x.swung ≡ Some w
-unswung_swung true x w is = none_none w is
-unswung_swung false x w is = is
+without_renames_none : (b : Bool) (x : Place) (w : Swing) → (cond b (record x { unsynced_rename = None }) x).unsynced_rename ≡ Some w → x.unsynced_rename ≡ Some w
+without_renames_none true x w is = none_none w is
+without_renames_none false x w is = is
 
-settle_grows : (p : List (List ℕ)) (d : Places) → IsGrown d → IsGrown (settled_in p d)
-settle_grows p d grown =
-    marks_grow d (settled_in p d) grown (ap (λ b. cond b (settled (d [])) (d [])) (no_child_root p) ∙ grown.root)
-    (λ q. settled_node (is_child p q) (d q)) (λ q w is. settled_swung (is_child p q) (d q) w is)
+sync_grows : (p : List (List ℕ)) (d : Places) → IsGrown d → IsGrown (synced_in p d)
+sync_grows p d grown =
+    marks_grow d (synced_in p d) grown (ap (λ b. cond b (synced (d [])) (d [])) (no_child_root p) ∙ grown.root)
+    (λ q. synced_node (is_child p q) (d q)) (λ q w is. synced_rename (is_child p q) (d q) w is)
 
-unswing_grows : (p : List (List ℕ)) (d : Places) → IsGrown d → IsGrown (unswung_in p d)
-unswing_grows p d grown =
-    marks_grow d (unswung_in p d) grown (ap (λ b. cond b (record (d []) { swung = None }) (d [])) (no_child_root p) ∙ grown.root)
-    (λ q. unswung_node (is_child p q) (d q)) (λ q w is. unswung_swung (is_child p q) (d q) w is)
+without_renames_grows : (p : List (List ℕ)) (d : Places) → IsGrown d → IsGrown (without_renames_in p d)
+without_renames_grows p d grown =
+    marks_grow d (without_renames_in p d) grown (ap (λ b. cond b (record (d []) { unsynced_rename = None }) (d [])) (no_child_root p) ∙ grown.root)
+    (λ q. without_renames_node (is_child p q) (d q)) (λ q w is. without_renames_none (is_child p q) (d q) w is)
 
 -- a path that goes, below which nothing stands
-go_grows : (p : List (List ℕ)) (x : Place) (d : Places) → IsGrown d → p ≢ [] → x.node ≡ None → x.swung ≡ None → ((n : List ℕ) → (d (p ++ n ∷ [])).node ≡ None) → IsGrown (put p x d)
-go_grows p x d grown some none unswung below =
+go_grows : (p : List (List ℕ)) (x : Place) (d : Places) → IsGrown d → p ≢ [] → x.node ≡ None → x.unsynced_rename ≡ None → ((n : List ℕ) → (d (p ++ n ∷ [])).node ≡ None) → IsGrown (put p x d)
+go_grows p x d grown some none without_rename below =
     put_grows p x d grown some (λ q n is there. absurd (false≢true (ap is_some (sym none) ∙ there))) (λ n. inr (below n))
-    (λ w is. none_none w (sym unswung ∙ is))
+    (λ w is. none_none w (sym without_rename ∙ is))
 
 pub remove_below : (p : List (List ℕ)) (d : Places) → IsGrown d → (is_file (d p).node ≡ true) ⊎ IsEmptyFolder d p → (p ≢ []) × ((n : List ℕ) → (d (p ++ n ∷ [])).node ≡ None)
 remove_below p d grown (inl is) =
@@ -175,27 +169,27 @@ remove_below p d grown (inr empty) = (empty.no_root, empty.empty)
 remove_grows : (p : List (List ℕ)) (d : Places) → IsGrown d → (is_file (d p).node ≡ true) ⊎ IsEmptyFolder d p → IsGrown (removed p false d)
 remove_grows p d grown allowed =
     let below = remove_below p d grown allowed in
-    go_grows p (loosened None false) (unswung_in p d) (unswing_grows p d grown) below.0 refl refl
-    (λ n. unswung_node (is_child p (p ++ n ∷ [])) (d (p ++ n ∷ [])) ∙ below.1 n)
+    go_grows p (with_unsynced_name None false) (without_renames_in p d) (without_renames_grows p d grown) below.0 refl refl
+    (λ n. without_renames_node (is_child p (p ++ n ∷ [])) (d (p ++ n ∷ [])) ∙ below.1 n)
 
-reached_node : (firm : Bool) (from to : Place) → (reached_place true firm from to).node ≡ from.node
+reached_node : (durable : Bool) (from to : Place) → (reached_place true durable from to).node ≡ from.node
 reached_node true from to = refl
 reached_node false from to = refl
 
-reached_swung : (firm : Bool) (from to : Place) (w : Swing) → is_file from.node ≡ true → is_no_folder to.node ≡ true → (reached_place true firm from to).swung ≡ Some w → IsReached w (reached_place true firm from to).node
-reached_swung true from to w is free same = subst (λ s. IsReached s from.node) (some_same _ w same) (record { before = free; after = is; stands = refl })
-reached_swung false from to w is free same = none_none w same
+reached_rename : (durable : Bool) (from to : Place) (w : Swing) → is_file from.node ≡ true → is_no_folder to.node ≡ true → (reached_place true durable from to).unsynced_rename ≡ Some w → IsReached w (reached_place true durable from to).node
+reached_rename true from to w is free same = subst (λ s. IsReached s from.node) (some_same _ w same) (record { before = free; after = is; stands = refl })
+reached_rename false from to w is free same = none_none w same
 
-rename_grows : (from to : List (List ℕ)) (firm : Bool) (d : Places) → IsGrown d → CanRename d from to
-    → IsGrown (put from (left_place true (d from)) (put to (reached_place true firm (d from) (d to)) d))
-rename_grows from to firm d grown can =
-    let x = reached_place true firm (d from) (d to) in
+rename_grows : (from to : List (List ℕ)) (durable : Bool) (d : Places) → IsGrown d → CanRename d from to
+    → IsGrown (put from (left_place true (d from)) (put to (reached_place true durable (d from) (d to)) d))
+rename_grows from to durable d grown can =
+    let x = reached_place true durable (d from) (d to) in
     let dir_there : (d can.dir).node ≡ Some folder = grown.parents can.dir can.old_name (ap (λ r. is_some (d r).node) (sym can.from_is) ∙ file_there _ can.from_file) in
     let moved : IsGrown (put to x d) =
     put_grows to x d grown (λ root. snoc_no_root can.dir can.new_name (sym can.to_is ∙ root))
     (λ q n is there. ap (λ r. (d r).node) (snoc_same q can.dir n can.new_name (sym is ∙ can.to_is)) ∙ dir_there)
     (λ n. inr (none_below d to n grown can.to_free))
-    (λ w is. reached_swung firm (d from) (d to) w can.from_file can.to_free is) in
+    (λ w is. reached_rename durable (d from) (d to) w can.from_file can.to_free is) in
     let stands : put to x d from ≡ d from = elim (path_or to from) [ inl same ↦ absurd (can.two (sym same)) | inr apart ↦ put_other to x d from apart ] in
     go_grows from (left_place true (d from)) (put to x d) moved (λ root. snoc_no_root can.dir can.old_name (sym can.from_is ∙ root)) refl refl
     (λ n. none_below (put to x d) from n moved (ap (λ y. is_no_folder y.node) stands ∙ file_no_folder _ can.from_file))
@@ -206,7 +200,7 @@ call_grows look d grown allowed = grown
 call_grows (make_dir p) d grown allowed = make_grows p (Some folder) false d grown allowed
 call_grows (make_file p) d grown allowed = make_grows p (Some (file [])) true d grown allowed
 call_grows (append p bytes) d grown allowed = write_grows p (written (bytes_of (d p).node ++ bytes) (d p)) d grown allowed.0 (λ w is. none_none w is)
-call_grows (sync_file p) d grown allowed = write_grows p (record (d p) { soft = false }) d grown allowed (λ w is. grown.swings p w is)
-call_grows (sync_dir p) d grown allowed = settle_grows p d grown
-call_grows (rename from to) d grown allowed = rename_grows from to (is_firm d from && is_firm d to) d grown allowed
+call_grows (sync_file p) d grown allowed = write_grows p (record (d p) { unsynced_bytes = false }) d grown allowed (λ w is. grown.swings p w is)
+call_grows (sync_dir p) d grown allowed = sync_grows p d grown
+call_grows (rename from to) d grown allowed = rename_grows from to (is_durable d from && is_durable d to) d grown allowed
 call_grows (remove p) d grown allowed = remove_grows p d grown allowed

@@ -3,11 +3,11 @@ pub mod Both
 pub mod Outcomes
 pub mod Sparing
 mod PiecesLemmas
-mod SpotsLemmas
+mod DiskEntriesLemmas
 mod NamesLemmas
 mod Growth
 mod ListingLemmas
-mod SettlingLemmas
+mod SyncingLemmas
 mod HistoryLemmas
 mod PastLemmas
 mod PickedLemmas

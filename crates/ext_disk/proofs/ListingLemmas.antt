@@ -1,4 +1,4 @@
--- The names in a folder, read off the spots of a disk in memory in path order.
+-- The names in a folder, read off the entries of a disk in memory in path order.
 use Rattle.std.proofs.Common.{◌≡◌, ℕ, Bool, true, false, cond, ◌||◌, List, [], ◌∷◌, ◌++◌, Option, Some, None, refl, sym, ap, ◌∙◌, subst}
 use Rattle.std.proofs.lemmas.Bool.{false≢true}
 use Rattle.std.proofs.lemmas.Map.Keys.{sorted_head, sorted_tail}
@@ -14,25 +14,23 @@ use Rattle.ext_text.specs.Name.{bytes_cmp}
 use Rattle.ext_text.specs.Path.{path_cmp}
 use Rattle.ext_text.proofs.ForCallers.{same_name, tied_name, same_path, tied_path, names_tied}
 use Rattle.ext_disk.specs.Calls.{child_name}
-use Rattle.ext_disk.specs.Spots.{Spots, node_of, place_at, found_place, spot_name}
-use Rattle.ext_disk.specs.declared.spot.Spot.{Spot}
+use Rattle.ext_disk.specs.DiskEntries.{DiskEntries, node_of, place_at, found_place, disk_entry_name}
+use Rattle.ext_disk.specs.declared.disk_entry.DiskEntry.{DiskEntry}
 use Rattle.ext_disk.proofs.NamesLemmas.{child_last}
 use Rattle.ext_disk.proofs.Growth.{none_none, some_same}
 use Rattle.ext_disk.proofs.HistoryLemmas.{child_is}
 
 abbrev pub Entries : Type 0
-Entries = List (List (List ℕ) × Spot)
+Entries = List (List (List ℕ) × DiskEntry)
 
 abbrev pub add_name : Option (List ℕ) → List (List ℕ) → List (List ℕ)
 add_name None names = names
 add_name (Some n) names = n ∷ names
 
--- the names in the folder, in the order of the spots
+-- the names in the folder, in the order of the entries
 abbrev pub names_of : List (List ℕ) → Entries → List (List ℕ)
 names_of dir [] = []
-names_of dir (e ∷ es) = add_name (spot_name dir e.0 e.1) (names_of dir es)
-
--- ---- what is among them
+names_of dir (e ∷ es) = add_name (disk_entry_name dir e.0 e.1) (names_of dir es)
 
 abbrev is_named : List ℕ → Option (List ℕ) → Bool
 is_named n None = false
@@ -64,12 +62,12 @@ any_added true n None names = refl
 any_added true n (Some m) names = refl
 any_added false n o names = refl
 
-has_turn : (tied there : Bool) (spot : Spot) (rest : Bool) (later : Option Spot) → there ≡ is_some (node_of spot.content) → rest ≡ is_some (found_place later).node → (tied ≡ true → later ≡ None)
-    → ((cond there tied false) || rest) ≡ is_some (found_place (cond tied (Some spot) later)).node
-has_turn true true spot rest later is more none = is
-has_turn true false spot rest later is more none = more ∙ ap (λ o. is_some (found_place o).node) (none refl) ∙ is
-has_turn false true spot rest later is more none = more
-has_turn false false spot rest later is more none = more
+has_turn : (tied there : Bool) (disk_entry : DiskEntry) (rest : Bool) (later : Option DiskEntry) → there ≡ is_some (node_of disk_entry.content) → rest ≡ is_some (found_place later).node → (tied ≡ true → later ≡ None)
+    → ((cond there tied false) || rest) ≡ is_some (found_place (cond tied (Some disk_entry) later)).node
+has_turn true true disk_entry rest later is more none = is
+has_turn true false disk_entry rest later is more none = more ∙ ap (λ o. is_some (found_place o).node) (none refl) ∙ is
+has_turn false true disk_entry rest later is more none = more
+has_turn false false disk_entry rest later is more none = more
 
 pub names_have : (dir : List (List ℕ)) (es : Entries) (n : List ℕ) → IsStrictlySortedBy path_cmp (keys_of es)
     → list_any (eq_by_cmp bytes_cmp n) (names_of dir es) ≡ is_some (found_place (lookup (is_at (path_cmp (dir ++ n ∷ []))) es)).node
@@ -83,8 +81,6 @@ names_have dir (e ∷ es) n sorted =
     (names_have dir es n (sorted_tail path_cmp e.0 (keys_of es) sorted))
     (λ tied. ap (λ k. lookup (is_at (path_cmp k)) es) (same_path path e.0 tied) ∙ none_later e.0 es (sorted_head path_cmp e.0 (keys_of es) sorted))
 
--- ---- their order
-
 then_equal : (r : Ordering) → ordering_then r Equal ≡ r
 then_equal Less = refl
 then_equal Equal = refl
@@ -94,12 +90,12 @@ cmp_in : (dir : List (List ℕ)) (a b : List ℕ) → path_cmp (dir ++ a ∷ [])
 cmp_in [] a b = then_equal (bytes_cmp a b)
 cmp_in (k ∷ dir) a b = ap (λ r. ordering_then r (path_cmp (dir ++ a ∷ []) (dir ++ b ∷ []))) (names_tied k) ∙ cmp_in dir a b
 
-spot_either : (there : Bool) (dir q : List (List ℕ)) (n : List ℕ) → cond there (child_name dir q) None ≡ Some n → q ≡ dir ++ n ∷ []
-spot_either true dir q n is = child_is dir q n is
-spot_either false dir q n is = none_none n is
+disk_entry_either : (there : Bool) (dir q : List (List ℕ)) (n : List ℕ) → cond there (child_name dir q) None ≡ Some n → q ≡ dir ++ n ∷ []
+disk_entry_either true dir q n is = child_is dir q n is
+disk_entry_either false dir q n is = none_none n is
 
-pub spot_child : (dir q : List (List ℕ)) (spot : Spot) (n : List ℕ) → spot_name dir q spot ≡ Some n → q ≡ dir ++ n ∷ []
-spot_child dir q spot n is = spot_either (is_some (node_of spot.content)) dir q n is
+pub disk_entry_child : (dir q : List (List ℕ)) (disk_entry : DiskEntry) (n : List ℕ) → disk_entry_name dir q disk_entry ≡ Some n → q ≡ dir ++ n ∷ []
+disk_entry_child dir q disk_entry n is = disk_entry_either (is_some (node_of disk_entry.content)) dir q n is
 
 less_added : (dir : List (List ℕ)) (a : List ℕ) (q : List (List ℕ)) (o : Option (List ℕ)) (names : List (List ℕ)) → ((b : List ℕ) → o ≡ Some b → q ≡ dir ++ b ∷ [])
     → path_cmp (dir ++ a ∷ []) q ≡ Less → AllByRecursion (λ b. bytes_cmp a b ≡ Less) names → AllByRecursion (λ b. bytes_cmp a b ≡ Less) (add_name o names)
@@ -108,7 +104,7 @@ less_added dir a q (Some b) names child less rest = (sym (cmp_in dir a b) ∙ ap
 
 less_names : (dir : List (List ℕ)) (a : List ℕ) (es : Entries) → AllByRecursion (λ y. path_cmp (dir ++ a ∷ []) y ≡ Less) (keys_of es) → AllByRecursion (λ b. bytes_cmp a b ≡ Less) (names_of dir es)
 less_names dir a [] less = tt
-less_names dir a (e ∷ es) less = less_added dir a e.0 (spot_name dir e.0 e.1) (names_of dir es) (λ b is. spot_child dir e.0 e.1 b is) less.0 (less_names dir a es less.1)
+less_names dir a (e ∷ es) less = less_added dir a e.0 (disk_entry_name dir e.0 e.1) (names_of dir es) (λ b is. disk_entry_child dir e.0 e.1 b is) less.0 (less_names dir a es less.1)
 
 sorted_added : (dir q : List (List ℕ)) (o : Option (List ℕ)) (es : Entries) → ((a : List ℕ) → o ≡ Some a → q ≡ dir ++ a ∷ []) → AllByRecursion (λ y. path_cmp q y ≡ Less) (keys_of es)
     → IsStrictlySortedBy bytes_cmp (names_of dir es) → IsStrictlySortedBy bytes_cmp (add_name o (names_of dir es))
@@ -119,9 +115,7 @@ sorted_added dir q (Some a) es child less rest = (less_names dir a es (subst (λ
 pub names_sorted : (dir : List (List ℕ)) (es : Entries) → IsStrictlySortedBy path_cmp (keys_of es) → IsStrictlySortedBy bytes_cmp (names_of dir es)
 unfolding IsStrictlySortedBy
 names_sorted dir [] sorted = tt
-names_sorted dir (e ∷ es) sorted = sorted_added dir e.0 (spot_name dir e.0 e.1) es (λ a is. spot_child dir e.0 e.1 a is) sorted.0 (names_sorted dir es sorted.1)
-
--- ---- as they are gathered
+names_sorted dir (e ∷ es) sorted = sorted_added dir e.0 (disk_entry_name dir e.0 e.1) es (λ a is. disk_entry_child dir e.0 e.1 a is) sorted.0 (names_sorted dir es sorted.1)
 
 append_one : (xs : List (List ℕ)) (n : List ℕ) (rest : List (List ℕ)) → (xs ++ n ∷ []) ++ rest ≡ xs ++ n ∷ rest
 append_one [] n rest = refl
@@ -138,18 +132,18 @@ nil_append : (xs : List (List ℕ)) → xs ++ [] ≡ xs
 nil_append [] = refl
 nil_append (x ∷ xs) = ap (λ l. x ∷ l) (nil_append xs)
 
--- when no spot is left, the names are all of them
+-- when no entry is left, the names are all of them
 pub all_gathered : (dir names : List (List ℕ)) (left all : Entries) → names ++ names_of dir left ≡ names_of dir all → left ≡ [] → names ≡ names_of dir all
 all_gathered dir names left all is none = sym (nil_append names) ∙ ap (λ es. names ++ names_of dir es) (sym none) ∙ is
 
-place_below : (spots : Spots) (dir : List (List ℕ)) (n : List ℕ) → found_place (lookup (is_at (path_cmp (dir ++ n ∷ []))) spots.entries) ≡ place_at spots (dir ++ n ∷ [])
-place_below spots [] n = refl
-place_below spots (k ∷ dir) n = refl
+place_below : (disk_entries : DiskEntries) (dir : List (List ℕ)) (n : List ℕ) → found_place (lookup (is_at (path_cmp (dir ++ n ∷ []))) disk_entries.entries) ≡ place_at disk_entries (dir ++ n ∷ [])
+place_below disk_entries [] n = refl
+place_below disk_entries (k ∷ dir) n = refl
 
-pub names_stand : (spots : Spots) (dir names : List (List ℕ)) → names ≡ names_of dir spots.entries → IsStrictlySortedBy path_cmp (keys_of spots.entries)
-    → (n : List ℕ) → list_any (eq_by_cmp bytes_cmp n) names ≡ is_some (place_at spots (dir ++ n ∷ [])).node
-names_stand spots dir names is sorted n =
-    ap (list_any (eq_by_cmp bytes_cmp n)) is ∙ names_have dir spots.entries n sorted ∙ ap (λ x. is_some x.node) (place_below spots dir n)
+pub names_stand : (disk_entries : DiskEntries) (dir names : List (List ℕ)) → names ≡ names_of dir disk_entries.entries → IsStrictlySortedBy path_cmp (keys_of disk_entries.entries)
+    → (n : List ℕ) → list_any (eq_by_cmp bytes_cmp n) names ≡ is_some (place_at disk_entries (dir ++ n ∷ [])).node
+names_stand disk_entries dir names is sorted n =
+    ap (list_any (eq_by_cmp bytes_cmp n)) is ∙ names_have dir disk_entries.entries n sorted ∙ ap (λ x. is_some x.node) (place_below disk_entries dir n)
 
-pub names_in_order : (spots : Spots) (dir names : List (List ℕ)) → names ≡ names_of dir spots.entries → IsStrictlySortedBy path_cmp (keys_of spots.entries) → IsStrictlySortedBy bytes_cmp names
-names_in_order spots dir names is sorted = subst (IsStrictlySortedBy bytes_cmp) (sym is) (names_sorted dir spots.entries sorted)
+pub names_in_order : (disk_entries : DiskEntries) (dir names : List (List ℕ)) → names ≡ names_of dir disk_entries.entries → IsStrictlySortedBy path_cmp (keys_of disk_entries.entries) → IsStrictlySortedBy bytes_cmp names
+names_in_order disk_entries dir names is sorted = subst (IsStrictlySortedBy bytes_cmp) (sym is) (names_sorted dir disk_entries.entries sorted)

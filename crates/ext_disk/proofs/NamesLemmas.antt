@@ -1,5 +1,5 @@
 -- What stands directly in a folder.
-use Rattle.std.proofs.Common.{◌≡◌, ℕ, zero, suc, ◌+◌, ◌-◌, ◌<◌, ◌≤◌, Bool, true, false, cond, List, [], ◌∷◌, ◌++◌, length, take, get_or, Some, None, refl, sym, ap, ◌∙◌, subst, inl, inr, arith}
+use Rattle.std.proofs.Common.{◌≡◌, ℕ, zero, suc, ◌+◌, ◌-◌, ◌<◌, ◌≤◌, Bool, true, false, cond, List, [], ◌∷◌, ◌++◌, length, take, get_or, Some, None, refl, sym, ap, ◌∙◌, subst, inl, inr, arith, add-one}
 use Rattle.std.specs.declared.cmp.Ordering.{Ordering}
 use Rattle.std.specs.declared.cmp.Ordering.TheVariants.{Less, Equal, Greater}
 use Rattle.std.specs.Ordering.{is_eq, eq_by_cmp, ordering_then}
@@ -40,40 +40,26 @@ child_last (k ∷ dir) (m ∷ first) n =
     ∙ two_conds (eq_by_cmp bytes_cmp k m) (eq_by_cmp path_cmp dir first) (Some n) None
     ∙ ap (λ b. cond b (Some n) None) (sym (then_eq (bytes_cmp k m) (path_cmp dir first)))
 
--- all but the last, and the last, are the whole
-whole_by_last : {X : Type 0} (xs : List X) (x : X) → x ≡ get_or xs (length xs - 1) x → 0 < length xs → xs ≡ take (length xs - 1) xs ++ x ∷ []
-whole_by_last xs x is some =
-    let same : length xs - 1 + 1 ≡ length xs = omega arith in
-    sym (take_all (length xs - 1 + 1) xs (omega arith)) ∙ take_more xs (length xs - 1) x (omega arith) ∙ ap (λ y. take (length xs - 1) xs ++ y ∷ []) (sym is)
-
-last_of : (dir path names : List (List ℕ)) (n : List ℕ) → names ≡ path → n ≡ get_or names (length names - 1) n → 0 < length names → path ≡ take (length names - 1) names ++ n ∷ []
-last_of dir path names n same is some = sym same ∙ whole_by_last names n is some
-
 -- a path whose names but the last are the folder
-pub in_folder : (dir path names : List (List ℕ)) (n : List ℕ) → names ≡ path → n ≡ get_or names (length names - 1) n → 0 < length names → true ≡ eq_by_cmp path_cmp dir (take (length names - 1) names)
-    → (Some n ≡ child_name dir path) × (path ≡ dir ++ n ∷ [])
-in_folder dir path names n same is some tied =
-    let whole = last_of dir path names n same is some in (
-      sym (ap (child_name dir) whole ∙ child_last dir (take (length names - 1) names) n ∙ ap (λ b. cond b (Some n) None) (sym tied)),
-      whole ∙ ap (λ d. d ++ n ∷ []) (sym (same_path dir (take (length names - 1) names) (sym tied))),
-    )
+pub in_folder : (dir path above : List (List ℕ)) (n : List ℕ) → path ≡ above ++ n ∷ [] → true ≡ eq_by_cmp path_cmp dir above → (Some n ≡ child_name dir path) × (path ≡ dir ++ n ∷ [])
+in_folder dir path above n whole tied = (
+  sym (ap (child_name dir) whole ∙ child_last dir above n ∙ ap (λ b. cond b (Some n) None) (sym tied)),
+  whole ∙ ap (λ d. d ++ n ∷ []) (sym (same_path dir above (sym tied))),
+)
 
 -- a path whose names but the last are another folder
-pub not_in_folder : (dir path names : List (List ℕ)) (n : List ℕ) → names ≡ path → n ≡ get_or names (length names - 1) n → 0 < length names → false ≡ eq_by_cmp path_cmp dir (take (length names - 1) names)
-    → None ≡ child_name dir path
-not_in_folder dir path names n same is some apart =
-    sym (ap (child_name dir) (last_of dir path names n same is some) ∙ child_last dir (take (length names - 1) names) n ∙ ap (λ b. cond b (Some n) None) (sym apart))
+pub not_in_folder : (dir path above : List (List ℕ)) (n : List ℕ) → path ≡ above ++ n ∷ [] → false ≡ eq_by_cmp path_cmp dir above → None ≡ child_name dir path
+not_in_folder dir path above n whole apart =
+    sym (ap (child_name dir) whole ∙ child_last dir above n ∙ ap (λ b. cond b (Some n) None) (sym apart))
 
 -- the root is in no folder
-pub root_in_none : (dir path names : List (List ℕ)) → names ≡ path → length names < 1 → None ≡ child_name dir path
-root_in_none dir path [] same few = sym (ap (child_name dir) (sym same) ∙ child_none dir)
-root_in_none dir path (n ∷ names) same few = absurd (omega arith)
+pub root_in_none : (dir path : List (List ℕ)) → path ≡ [] → None ≡ child_name dir path
+root_in_none dir path root = sym (ap (child_name dir) root ∙ child_none dir)
 
--- ---- each prefix by how many names it has
-
-pub longer_prefix : (p prefix next : List (List ℕ)) (n : List ℕ) (i : ℕ) → prefix ≡ take i p → i < length p → n ≡ get_or p i n → next ≡ prefix ++ n ∷ [] → next ≡ take (i + 1) p
-longer_prefix p prefix next n i is within at next_is =
-    next_is ∙ ap (λ q. q ++ n ∷ []) is ∙ ap (λ m. take i p ++ m ∷ []) at ∙ sym (take_more p i n within)
+-- a prefix of one name or more is not the root
+pub some_prefix : (k : ℕ) (p : List (List ℕ)) → k < length p → take (k + 1) p ≡ [] → ⊥
+some_prefix k [] within none = omega arith
+some_prefix k (n ∷ p) within none = cc (rw add-one at none)
 
 pub each_more : (f : List (List ℕ) → Bool) (p : List (List ℕ)) (i : ℕ) → ((k : ℕ) → k ≤ i → f (take k p) ≡ true) → f (take (i + 1) p) ≡ true → (k : ℕ) → k ≤ i + 1 → f (take k p) ≡ true
 each_more f p i each last k upto = elim (cases_lt i k) [

@@ -1,11 +1,11 @@
--- Whatever a call comes to, each path that it does not touch stays.
+-- Whatever a call gives, each path that it does not touch stays.
 use Rattle.std.proofs.Common.{◌≡◌, ℕ, Bool, true, false, cond, not, ◌&&◌, ◌||◌, List, None, refl, sym, ap, ◌∙◌, subst, inl, inr}
 use Rattle.std.proofs.lemmas.Bool.{false≢true, and_parts, and_from}
 use Rattle.std.specs.Ordering.{eq_by_cmp}
 use Rattle.ext_text.specs.Path.{path_cmp, is_prefix}
 use Rattle.ext_text.proofs.ForCallers.{same_path, prefix_trans}
-use Rattle.ext_disk.specs.Disk.{Places, Told, is_settled, is_firm, at_prefixes}
-use Rattle.ext_disk.specs.Calls.{Call, look, make_dir, make_file, append, sync_file, sync_dir, rename, remove, put, is_child, settled, settled_in, unswung_in, renamed, removed, loosened, reached_place, after, LeavesHalf, IsWithin, EndsTold}
+use Rattle.ext_disk.specs.Disk.{Places, Told, is_synced, is_durable, at_prefixes}
+use Rattle.ext_disk.specs.Calls.{Call, look, make_dir, make_file, append, sync_file, sync_dir, rename, remove, put, is_child, synced, synced_in, without_renames_in, renamed, removed, with_unsynced_name, reached_place, after, LeavesHalf, IsWithin, EndsTold}
 use Rattle.ext_disk.specs.Fixed.{touches, Stays}
 use Rattle.ext_disk.proofs.Paths.{contrapose, or_false, or_left, or_right, put_apart, child_prefix, prefixes_weaker}
 
@@ -16,14 +16,14 @@ not_true false is = refl
 pub stays_same : (d e : Places) (p : List (List ℕ)) → e p ≡ d p → Stays d e p
 stays_same d e p same = record {
   node = ap (λ x. x.node) same;
-  settled = λ is. ap is_settled same ∙ is;
-  hard = λ is. ap (λ x. x.soft) same ∙ is;
+  synced = λ is. ap is_synced same ∙ is;
+  hard = λ is. ap (λ x. x.unsynced_bytes) same ∙ is;
 }
 
 pub stays_then : (c d e : Places) (p : List (List ℕ)) → Stays c d p → Stays d e p → Stays c e p
 stays_then c d e p one two = record {
   node = two.node ∙ one.node;
-  settled = λ is. two.settled (one.settled is);
+  synced = λ is. two.synced (one.synced is);
   hard = λ is. two.hard (one.hard is);
 }
 
@@ -31,44 +31,44 @@ stays_then c d e p one two = record {
 along : (d x e : Places) (p : List (List ℕ)) → e ≡ x → x p ≡ d p → Stays d e p
 along d x e p is same = stays_same d e p (ap (λ f. f p) is ∙ same)
 
-unswung_apart : (p : List (List ℕ)) (d : Places) (q : List (List ℕ)) → is_prefix p q ≡ false → unswung_in p d q ≡ d q
-unswung_apart p d q out = ap (λ b. cond b (record (d q) { swung = None }) (d q)) (contrapose _ _ (child_prefix p q) out)
+without_renames_apart : (p : List (List ℕ)) (d : Places) (q : List (List ℕ)) → is_prefix p q ≡ false → without_renames_in p d q ≡ d q
+without_renames_apart p d q out = ap (λ b. cond b (record (d q) { unsynced_rename = None }) (d q)) (contrapose _ _ (child_prefix p q) out)
 
-removed_apart : (p : List (List ℕ)) (soft : Bool) (d : Places) (q : List (List ℕ)) → is_prefix p q ≡ false → removed p soft d q ≡ d q
-removed_apart p soft d q out = put_apart p (loosened None soft) (unswung_in p d) q out ∙ unswung_apart p d q out
+removed_apart : (p : List (List ℕ)) (unsynced_bytes : Bool) (d : Places) (q : List (List ℕ)) → is_prefix p q ≡ false → removed p unsynced_bytes d q ≡ d q
+removed_apart p unsynced_bytes d q out = put_apart p (with_unsynced_name None unsynced_bytes) (without_renames_in p d) q out ∙ without_renames_apart p d q out
 
-half_removed_apart : (gone : Bool) (p : List (List ℕ)) (soft : Bool) (d : Places) (q : List (List ℕ)) → is_prefix p q ≡ false
-    → cond gone (removed p soft d) (put p (loosened (d p).node soft) d) q ≡ d q
-half_removed_apart true p soft d q out = removed_apart p soft d q out
-half_removed_apart false p soft d q out = put_apart p _ d q out
+half_removed_apart : (gone : Bool) (p : List (List ℕ)) (unsynced_bytes : Bool) (d : Places) (q : List (List ℕ)) → is_prefix p q ≡ false
+    → cond gone (removed p unsynced_bytes d) (put p (with_unsynced_name (d p).node unsynced_bytes) d) q ≡ d q
+half_removed_apart true p unsynced_bytes d q out = removed_apart p unsynced_bytes d q out
+half_removed_apart false p unsynced_bytes d q out = put_apart p _ d q out
 
 renamed_apart : (from to : List (List ℕ)) (moved : Bool) (d : Places) (q : List (List ℕ)) → (is_prefix from q || is_prefix to q) ≡ false → renamed from to moved d q ≡ d q
 renamed_apart from to moved d q out =
     let both = or_false (is_prefix from q) (is_prefix to q) out in
-    put_apart from _ (put to (reached_place moved (is_firm d from && is_firm d to) (d from) (d to)) d) q both.0
-    ∙ put_apart to (reached_place moved (is_firm d from && is_firm d to) (d from) (d to)) d q both.1
+    put_apart from _ (put to (reached_place moved (is_durable d from && is_durable d to) (d from) (d to)) d) q both.0
+    ∙ put_apart to (reached_place moved (is_durable d from && is_durable d to) (d from) (d to)) d q both.1
 
-hardened : (b : Bool) (d : Places) (p q : List (List ℕ)) → (b ≡ true → p ≡ q) → Stays d (λ r. cond b (record (d p) { soft = false }) (d r)) q
+hardened : (b : Bool) (d : Places) (p q : List (List ℕ)) → (b ≡ true → p ≡ q) → Stays d (λ r. cond b (record (d p) { unsynced_bytes = false }) (d r)) q
 hardened true d p q same = let is = same refl in record {
   node = ap (λ r. (d r).node) is;
-  settled = λ hit. ap (λ r. is_settled (d r)) is ∙ hit;
+  synced = λ hit. ap (λ r. is_synced (d r)) is ∙ hit;
   hard = λ _. refl;
 }
 hardened false d p q same = stays_same d d q refl
 
-synced_file : (d : Places) (p q : List (List ℕ)) → Stays d (put p (record (d p) { soft = false }) d) q
+synced_file : (d : Places) (p q : List (List ℕ)) → Stays d (put p (record (d p) { unsynced_bytes = false }) d) q
 synced_file d p q =
     let at_q = hardened (eq_by_cmp path_cmp p q) d p q (same_path p q) in
-    record { node = at_q.node; settled = at_q.settled; hard = at_q.hard }
+    record { node = at_q.node; synced = at_q.synced; hard = at_q.hard }
 
-settling : (b : Bool) (d : Places) (q : List (List ℕ)) → Stays d (λ r. cond b (settled (d r)) (d r)) q
-settling true d q = record { node = refl; settled = λ _. refl; hard = λ is. is }
-settling false d q = stays_same d d q refl
+syncing : (b : Bool) (d : Places) (q : List (List ℕ)) → Stays d (λ r. cond b (synced (d r)) (d r)) q
+syncing true d q = record { node = refl; synced = λ _. refl; hard = λ is. is }
+syncing false d q = stays_same d d q refl
 
-synced_dir : (d : Places) (p q : List (List ℕ)) → Stays d (settled_in p d) q
+synced_dir : (d : Places) (p q : List (List ℕ)) → Stays d (synced_in p d) q
 synced_dir d p q =
-    let at_q = settling (is_child p q) d q in
-    record { node = at_q.node; settled = at_q.settled; hard = at_q.hard }
+    let at_q = syncing (is_child p q) d q in
+    record { node = at_q.node; synced = at_q.synced; hard = at_q.hard }
 
 moves_along : (d x e : Places) (p : List (List ℕ)) → e ≡ x → Stays d x p → Stays d e p
 moves_along d x e p is stays = subst (λ y. Stays d y p) (sym is) stays
@@ -115,13 +115,13 @@ touches_below (rename from to) q p prefix hit =
     (λ is. prefix_trans from q p is prefix) (λ is. prefix_trans to q p is prefix) hit
 touches_below (remove r) q p prefix hit = prefix_trans r q p hit prefix
 
--- a path whose prefixes stay stays firm
-pub firm_stays : (d e : Places) (p : List (List ℕ)) → ((q : List (List ℕ)) → is_prefix q p ≡ true → Stays d e q) → Stays d e p → is_firm d p ≡ true → is_firm e p ≡ true
-firm_stays d e p stays here firm =
-    let parts = and_parts (at_prefixes (λ q. is_settled (d q)) p) (not (d p).soft) firm in
+-- a path whose prefixes stay stays durable
+pub durable_stays : (d e : Places) (p : List (List ℕ)) → ((q : List (List ℕ)) → is_prefix q p ≡ true → Stays d e q) → Stays d e p → is_durable d p ≡ true → is_durable e p ≡ true
+durable_stays d e p stays here durable =
+    let parts = and_parts (at_prefixes (λ q. is_synced (d q)) p) (not (d p).unsynced_bytes) durable in
     and_from _ _
-    (prefixes_weaker (λ q. is_settled (d q)) (λ q. is_settled (e q)) p (λ q prefix. (stays q prefix).settled) parts.0)
-    (ap not (here.hard (not_true (d p).soft parts.1)))
+    (prefixes_weaker (λ q. is_synced (d q)) (λ q. is_synced (e q)) p (λ q prefix. (stays q prefix).synced) parts.0)
+    (ap not (here.hard (not_true (d p).unsynced_bytes parts.1)))
 
 -- a call that ended is within itself
 pub ends_within : (call : Call) (done : Bool) (d e : Told) → EndsTold call done d e → IsWithin call d.places e.places

@@ -6,7 +6,7 @@ use Rattle.ext_disk.specs.Calls.{Call, look, make_dir, make_file, append, sync_f
 use Rattle.ext_disk.specs.Deeds.{call_of, told_of, replay, given_from, empty_places}
 use Rattle.ext_disk.specs.declared.deed.Deed.{Deed}
 use Rattle.ext_disk.specs.declared.deed.Deed.TheVariants.{MakeDir, MakeFile, Append, SyncFile, SyncDir, Rename, Remove}
-use Rattle.ext_disk.specs.declared.spot.Content.{Content}
+use Rattle.ext_disk.specs.declared.disk_entry.Content.{Content}
 use Rattle.ext_disk.proofs.HistoryLemmas.{replay_push}
 use Rattle.ext_disk.proofs.Sparing.{later_itself}
 

@@ -8,8 +8,6 @@ use Rattle.ext_text.proofs.ForCallers.{tied_name, same_path, tied_path, prefix_s
 use Rattle.ext_disk.specs.Disk.{Place, Places, at_prefixes, at_proper_prefixes}
 use Rattle.ext_disk.specs.Calls.{put, child_name, is_child}
 
--- ---- tests
-
 pub contrapose : (a b : Bool) → (a ≡ true → b ≡ true) → b ≡ false → a ≡ false
 contrapose true b gives out = absurd (false≢true (sym out ∙ gives refl))
 contrapose false b gives out = refl
@@ -24,8 +22,6 @@ or_left a b is = ap (λ x. x || b) is
 pub or_right : (a b : Bool) → b ≡ true → (a || b) ≡ true
 or_right true b is = refl
 or_right false b is = is
-
--- ---- paths
 
 pub apart : (p q : List (List ℕ)) → is_prefix p q ≡ false → eq_by_cmp path_cmp p q ≡ false
 apart p q out = contrapose _ _ (λ tied. subst (λ r. is_prefix p r ≡ true) (same_path p q tied) (prefix_self p)) out
@@ -46,8 +42,6 @@ pub child_prefix : (p q : List (List ℕ)) → is_child p q ≡ true → is_pref
 child_prefix [] q is = refl
 child_prefix (k ∷ p) [] is = is
 child_prefix (k ∷ p) (n ∷ q) is = child_step _ (child_name p q) _ (child_prefix p q) is
-
--- ---- at each prefix
 
 pub prefixes_weaker : (f g : List (List ℕ) → Bool) (p : List (List ℕ)) → ((q : List (List ℕ)) → is_prefix q p ≡ true → f q ≡ true → g q ≡ true) → at_prefixes f p ≡ true → at_prefixes g p ≡ true
 prefixes_weaker f g [] gives all = gives [] refl all

@@ -2,15 +2,13 @@
 use Rattle.std.proofs.Common.{◌≡◌, ◌⊎◌, ℕ, zero, suc, ◌+◌, ◌<◌, Bool, true, false, not, cond, ◌||◌, List, [], ◌∷◌, ◌++◌, length, take, Option, Some, None, refl, sym, ap, ◌∙◌, subst, inl, inr, arith}
 use Rattle.std.proofs.lemmas.Bool.{false≢true, cases_lt, and_parts, and_from}
 use Rattle.std.specs.Option.{is_some}
-use Rattle.ext_disk.specs.Disk.{Node, folder, Place, Places, Swing, MayLeave, is_file, is_settled, is_firm, at_prefixes, at_proper_prefixes, absent, root_place}
-use Rattle.ext_disk.specs.Spots.{IsGrown, IsReached}
-use Rattle.ext_disk.specs.Picked.{is_shown, is_kept, junked, outcome, settled_node, chosen, picked, picked_place}
+use Rattle.ext_disk.specs.Disk.{Node, folder, Place, Places, Swing, MayLeave, is_file, is_synced, is_durable, at_prefixes, at_proper_prefixes, absent, root_place}
+use Rattle.ext_disk.specs.DiskEntries.{IsGrown, IsReached}
+use Rattle.ext_disk.specs.Picked.{is_shown, is_kept, junked, outcome, synced_node, chosen, picked, picked_place}
 use Rattle.ext_disk.specs.declared.pick.Pick.{Pick}
 use Rattle.ext_disk.specs.declared.pick.Pick.TheVariants.{Old, New, Junk}
 use Rattle.ext_disk.proofs.Paths.{contrapose, proper_from_all, last_from_all}
 use Rattle.ext_disk.proofs.Growth.{none_none}
-
--- ---- each proper prefix
 
 pub proper_weaker : (f g : List (List ℕ) → Bool) (p : List (List ℕ)) → ((q : List (List ℕ)) → f q ≡ true → g q ≡ true) → at_proper_prefixes f p ≡ true → at_proper_prefixes g p ≡ true
 proper_weaker f g [] gives all = refl
@@ -43,8 +41,6 @@ each_below_more f p i each last k within = elim (cases_lt k i) [
   | inr not_less ↦ let same : i ≡ k = omega arith in subst (λ j. f (take j p) ≡ true) same last
 ]
 
--- ---- a stop may leave it
-
 not_true : (b : Bool) → not b ≡ true → b ≡ false
 not_true true is = absurd (false≢true is)
 not_true false is = refl
@@ -53,54 +49,52 @@ or_second : (a b : Bool) → b ≡ true → (a || b) ≡ true
 or_second true b is = refl
 or_second false b is = is
 
-unswung_if : (swing : Option Swing) → not (is_some swing) ≡ true → swing ≡ None
-unswung_if None is = refl
-unswung_if (Some w) is = absurd (false≢true is)
+without_renames_if : (swing : Option Swing) → not (is_some swing) ≡ true → swing ≡ None
+without_renames_if None is = refl
+without_renames_if (Some w) is = absurd (false≢true is)
 
-not_loose : (place : Place) → is_settled place ≡ true → not place.loose ≡ true
-not_loose place settled = (and_parts (not place.loose) _ settled).0
+no_unsynced_name : (place : Place) → is_synced place ≡ true → not place.unsynced_name ≡ true
+no_unsynced_name place synced = (and_parts (not place.unsynced_name) _ synced).0
 
-no_swing : (place : Place) → is_settled place ≡ true → place.swung ≡ None
-no_swing place settled = unswung_if place.swung (and_parts (not place.loose) _ settled).1
+no_swing : (place : Place) → is_synced place ≡ true → place.unsynced_rename ≡ None
+no_swing place synced = without_renames_if place.unsynced_rename (and_parts (not place.unsynced_name) _ synced).1
 
-kept_settled : (pick : Pick) (shown : Bool) (place : Place) → shown ≡ true → (is_some place.swung || not place.loose) ≡ true → is_kept pick shown place ≡ true
-kept_settled Old shown place is stays = and_from _ _ is stays
-kept_settled New shown place is stays = refl
-kept_settled Junk shown place is stays = refl
+kept_synced : (pick : Pick) (shown : Bool) (place : Place) → shown ≡ true → (is_some place.unsynced_rename || not place.unsynced_name) ≡ true → is_kept pick shown place ≡ true
+kept_synced Old shown place is stays = and_from _ _ is stays
+kept_synced New shown place is stays = refl
+kept_synced Junk shown place is stays = refl
 
-settled_hard : (pick : Pick) (place : Place) → place.soft ≡ false → settled_node pick place ≡ place.node
-settled_hard Old place hard = refl
-settled_hard New place hard = refl
-settled_hard Junk place hard = ap (λ b. cond b (junked place.node) place.node) hard
+synced_hard : (pick : Pick) (place : Place) → place.unsynced_bytes ≡ false → synced_node pick place ≡ place.node
+synced_hard Old place hard = refl
+synced_hard New place hard = refl
+synced_hard Junk place hard = ap (λ b. cond b (junked place.node) place.node) hard
 
-kept_is : (pick : Pick) (d : Places) (p : List (List ℕ)) → is_kept pick (is_shown d p) (d p) ≡ true → picked pick d p ≡ chosen pick (d p) (d p).swung
-kept_is pick d p kept = ap (λ b. cond b (chosen pick (d p) (d p).swung) None) kept
+kept_is : (pick : Pick) (d : Places) (p : List (List ℕ)) → is_kept pick (is_shown d p) (d p) ≡ true → picked pick d p ≡ chosen pick (d p) (d p).unsynced_rename
+kept_is pick d p kept = ap (λ b. cond b (chosen pick (d p) (d p).unsynced_rename) None) kept
 
 outcome_either : (pick : Pick) (w : Swing) → (outcome pick w ≡ w.before) ⊎ (outcome pick w ≡ w.after)
 outcome_either Old w = inl refl
 outcome_either New w = inr refl
 outcome_either Junk w = inr refl
 
-firm_picked : (pick : Pick) (d : Places) (p : List (List ℕ)) → is_firm d p ≡ true → picked pick d p ≡ (d p).node
-firm_picked pick d p firm =
-    let parts = and_parts (at_prefixes (λ q. is_settled (d q)) p) (not (d p).soft) firm in
-    let here = last_from_all (λ q. is_settled (d q)) p parts.0 in
-    let shown = proper_weaker (λ q. is_settled (d q)) (λ q. not (d q).loose) p (λ q. not_loose (d q)) (proper_from_all (λ q. is_settled (d q)) p parts.0) in
-    kept_is pick d p (kept_settled pick (is_shown d p) (d p) shown (or_second _ _ (not_loose (d p) here)))
-    ∙ ap (chosen pick (d p)) (no_swing (d p) here) ∙ settled_hard pick (d p) (not_true (d p).soft parts.1)
+durable_picked : (pick : Pick) (d : Places) (p : List (List ℕ)) → is_durable d p ≡ true → picked pick d p ≡ (d p).node
+durable_picked pick d p durable =
+    let parts = and_parts (at_prefixes (λ q. is_synced (d q)) p) (not (d p).unsynced_bytes) durable in
+    let here = last_from_all (λ q. is_synced (d q)) p parts.0 in
+    let shown = proper_weaker (λ q. is_synced (d q)) (λ q. not (d q).unsynced_name) p (λ q. no_unsynced_name (d q)) (proper_from_all (λ q. is_synced (d q)) p parts.0) in
+    kept_is pick d p (kept_synced pick (is_shown d p) (d p) shown (or_second _ _ (no_unsynced_name (d p) here)))
+    ∙ ap (chosen pick (d p)) (no_swing (d p) here) ∙ synced_hard pick (d p) (not_true (d p).unsynced_bytes parts.1)
 
-swung_picked : (pick : Pick) (d : Places) (p : List (List ℕ)) (w : Swing) → (d p).swung ≡ Some w → at_proper_prefixes (λ q. is_settled (d q)) p ≡ true
+rename_picked : (pick : Pick) (d : Places) (p : List (List ℕ)) (w : Swing) → (d p).unsynced_rename ≡ Some w → at_proper_prefixes (λ q. is_synced (d q)) p ≡ true
     → (picked pick d p ≡ w.before) ⊎ (picked pick d p ≡ w.after)
-swung_picked pick d p w is above =
-    let shown = proper_weaker (λ q. is_settled (d q)) (λ q. not (d q).loose) p (λ q. not_loose (d q)) above in
+rename_picked pick d p w is above =
+    let shown = proper_weaker (λ q. is_synced (d q)) (λ q. not (d q).unsynced_name) p (λ q. no_unsynced_name (d q)) above in
     let same : picked pick d p ≡ outcome pick w =
-    kept_is pick d p (kept_settled pick (is_shown d p) (d p) shown (ap (λ o. is_some o || not (d p).loose) is)) ∙ ap (chosen pick (d p)) is in
+    kept_is pick d p (kept_synced pick (is_shown d p) (d p) shown (ap (λ o. is_some o || not (d p).unsynced_name) is)) ∙ ap (chosen pick (d p)) is in
     subst (λ t. (t ≡ w.before) ⊎ (t ≡ w.after)) (sym same) (outcome_either pick w)
 
 pub picked_may_be_left : (pick : Pick) (d : Places) → MayLeave d (picked pick d)
-picked_may_be_left pick d = record { firm = firm_picked pick d; swung = swung_picked pick d }
-
--- ---- it is a tree
+picked_may_be_left pick d = record { durable = durable_picked pick d; unsynced_rename = rename_picked pick d }
 
 some_kept : (kept : Bool) (o : Option Node) → is_some (cond kept o None) ≡ true → kept ≡ true
 some_kept true o there = refl
@@ -110,55 +104,55 @@ some_junked : (o : Option Node) → is_some (junked o) ≡ true → is_some o �
 some_junked None there = there
 some_junked (Some n) there = refl
 
-some_soft : (soft : Bool) (o : Option Node) → is_some (cond soft (junked o) o) ≡ true → is_some o ≡ true
-some_soft true o there = some_junked o there
-some_soft false o there = there
+some_unsynced_bytes : (unsynced_bytes : Bool) (o : Option Node) → is_some (cond unsynced_bytes (junked o) o) ≡ true → is_some o ≡ true
+some_unsynced_bytes true o there = some_junked o there
+some_unsynced_bytes false o there = there
 
-some_settled : (pick : Pick) (place : Place) → is_some (settled_node pick place) ≡ true → is_some place.node ≡ true
-some_settled Old place there = there
-some_settled New place there = there
-some_settled Junk place there = some_soft place.soft place.node there
+some_synced : (pick : Pick) (place : Place) → is_some (synced_node pick place) ≡ true → is_some place.node ≡ true
+some_synced Old place there = there
+some_synced New place there = there
+some_synced Junk place there = some_unsynced_bytes place.unsynced_bytes place.node there
 
 file_some : (o : Option Node) → is_file o ≡ true → is_some o ≡ true
 file_some None is = is
 file_some (Some n) is = refl
 
-some_chosen : (pick : Pick) (place : Place) (kept : Bool) (swing : Option Swing) → place.swung ≡ swing → ((w : Swing) → swing ≡ Some w → IsReached w place.node)
+some_chosen : (pick : Pick) (place : Place) (kept : Bool) (swing : Option Swing) → place.unsynced_rename ≡ swing → ((w : Swing) → swing ≡ Some w → IsReached w place.node)
     → is_some (cond kept (chosen pick place swing) None) ≡ true → is_some place.node ≡ true
 some_chosen pick place false swing is reached there = absurd (false≢true there)
-some_chosen pick place true None is reached there = some_settled pick place there
+some_chosen pick place true None is reached there = some_synced pick place there
 some_chosen pick place true (Some w) is reached there = let r = reached w refl in file_some place.node (ap is_file r.stands ∙ r.after)
 
-folder_soft : (soft : Bool) (o : Option Node) → o ≡ Some folder → cond soft (junked o) o ≡ Some folder
-folder_soft true o is = ap junked is
-folder_soft false o is = is
+folder_has_unsynced_bytes : (unsynced_bytes : Bool) (o : Option Node) → o ≡ Some folder → cond unsynced_bytes (junked o) o ≡ Some folder
+folder_has_unsynced_bytes true o is = ap junked is
+folder_has_unsynced_bytes false o is = is
 
-folder_settled : (pick : Pick) (place : Place) → place.node ≡ Some folder → settled_node pick place ≡ Some folder
-folder_settled Old place is = is
-folder_settled New place is = is
-folder_settled Junk place is = folder_soft place.soft place.node is
+folder_synced : (pick : Pick) (place : Place) → place.node ≡ Some folder → synced_node pick place ≡ Some folder
+folder_synced Old place is = is
+folder_synced New place is = is
+folder_synced Junk place is = folder_has_unsynced_bytes place.unsynced_bytes place.node is
 
-folder_either : (pick : Pick) (place : Place) (swing : Option Swing) → place.swung ≡ swing → ((w : Swing) → swing ≡ Some w → IsReached w place.node) → place.node ≡ Some folder → chosen pick place swing ≡ Some folder
-folder_either pick place None same reached is = folder_settled pick place is
+folder_either : (pick : Pick) (place : Place) (swing : Option Swing) → place.unsynced_rename ≡ swing → ((w : Swing) → swing ≡ Some w → IsReached w place.node) → place.node ≡ Some folder → chosen pick place swing ≡ Some folder
+folder_either pick place None same reached is = folder_synced pick place is
 folder_either pick place (Some w) same reached is = let r = reached w refl in absurd (false≢true (ap is_file (sym is ∙ r.stands) ∙ r.after))
 
 -- something is taken only where something stands
 some_picked : (pick : Pick) (d : Places) (p : List (List ℕ)) → IsGrown d → is_some (picked pick d p) ≡ true → is_some (d p).node ≡ true
-some_picked pick d p grown there = some_chosen pick (d p) (is_kept pick (is_shown d p) (d p)) (d p).swung refl (λ w is. grown.swings p w is) there
+some_picked pick d p grown there = some_chosen pick (d p) (is_kept pick (is_shown d p) (d p)) (d p).unsynced_rename refl (λ w is. grown.swings p w is) there
 
 -- a folder that is kept is taken as it is
-folder_chosen : (pick : Pick) (d : Places) (p : List (List ℕ)) → IsGrown d → (d p).node ≡ Some folder → chosen pick (d p) (d p).swung ≡ Some folder
-folder_chosen pick d p grown is = folder_either pick (d p) (d p).swung refl (λ w same. grown.swings p w same) is
+folder_chosen : (pick : Pick) (d : Places) (p : List (List ℕ)) → IsGrown d → (d p).node ≡ Some folder → chosen pick (d p) (d p).unsynced_rename ≡ Some folder
+folder_chosen pick d p grown is = folder_either pick (d p) (d p).unsynced_rename refl (λ w same. grown.swings p w same) is
 
 kept_above : (pick : Pick) (d : Places) (p : List (List ℕ)) (n : List ℕ) → is_kept pick (is_shown d (p ++ n ∷ [])) (d (p ++ n ∷ [])) ≡ true → is_kept pick (is_shown d p) (d p) ≡ true
 kept_above Old d p n kept =
-    let all = proper_longer (λ q. not (d q).loose) p n (and_parts (is_shown d (p ++ n ∷ [])) _ kept).0 in
-    and_from _ _ (proper_from_all (λ q. not (d q).loose) p all) (or_second _ _ (last_from_all (λ q. not (d q).loose) p all))
+    let all = proper_longer (λ q. not (d q).unsynced_name) p n (and_parts (is_shown d (p ++ n ∷ [])) _ kept).0 in
+    and_from _ _ (proper_from_all (λ q. not (d q).unsynced_name) p all) (or_second _ _ (last_from_all (λ q. not (d q).unsynced_name) p all))
 kept_above New d p n kept = refl
 kept_above Junk d p n kept = refl
 
 abbrev root_left : Pick → Place → Place
-root_left pick x = record absent { node = cond (is_kept pick true x) (chosen pick x x.swung) None }
+root_left pick x = record absent { node = cond (is_kept pick true x) (chosen pick x x.unsynced_rename) None }
 
 root_stays : (pick : Pick) → root_left pick root_place ≡ root_place
 root_stays Old = refl
@@ -173,7 +167,7 @@ picked_grows pick d grown = record {
   root = root_picked pick d grown.root;
   parents = λ p n there.
       let is = grown.parents p n (some_picked pick d (p ++ n ∷ []) grown there) in
-      kept_is pick d p (kept_above pick d p n (some_kept (is_kept pick (is_shown d (p ++ n ∷ [])) (d (p ++ n ∷ []))) (chosen pick (d (p ++ n ∷ [])) (d (p ++ n ∷ [])).swung) there))
+      kept_is pick d p (kept_above pick d p n (some_kept (is_kept pick (is_shown d (p ++ n ∷ [])) (d (p ++ n ∷ []))) (chosen pick (d (p ++ n ∷ [])) (d (p ++ n ∷ [])).unsynced_rename) there))
       ∙ folder_chosen pick d p grown is;
   swings = λ p w is. none_none w is;
 }

@@ -7,8 +7,6 @@ use Rattle.ext_io.specs.Device.{IsReadAt}
 use Rattle.ext_disk.specs.Pieces.{joined, AreLaid, IsLaid}
 use Rattle.ext_disk.specs.declared.pieces.Part.{Part}
 
--- ---- where each begins
-
 pub joined_append : (xs ys : List Part) → joined (xs ++ ys) ≡ joined xs ++ joined ys
 joined_append [] ys = refl
 joined_append (x ∷ xs) ys = ap (λ l. x.piece ++ l) (joined_append xs ys) ∙ sym (append_assoc x.piece (joined xs) (joined ys))
@@ -55,8 +53,6 @@ part_found xs i at part laid within is begun =
     let whole : joined xs ≡ prefix ++ joined (drop i xs) = ap joined (sym (take-append-drop i xs)) ∙ joined_append (take i xs) (drop i xs) in
     let count : at ≡ length prefix + (at - part.start) = omega (arith, start, begun) in
     ap (drop at) whole ∙ ap (λ k. drop k (prefix ++ joined (drop i xs))) count ∙ drop-append-add prefix (joined (drop i xs)) (at - part.start)
-
--- ---- what is read
 
 -- after the first so many bytes
 pub drop_both : (n : ℕ) (xs ys : List ℕ) → drop n (xs ++ ys) ≡ drop n xs ++ drop (n - length xs) ys

@@ -2,24 +2,24 @@
 use Rattle.std.specs.Prelude.{◌≡◌, ℕ, List, [], ◌∷◌, length, take}
 use Rattle.ext_disk.specs.Disk.{Place, Places, Told, absent, root_place}
 use Rattle.ext_disk.specs.Calls.{Call, make_dir, make_file, append, sync_file, sync_dir, rename, remove, put, after}
-use Rattle.ext_disk.specs.Spots.{Spots, node_of, place_at, IsGrown}
+use Rattle.ext_disk.specs.DiskEntries.{DiskEntries, node_of, place_at, IsGrown}
 use Rattle.ext_disk.specs.declared.deed.Deed.{Deed}
 use Rattle.ext_disk.specs.declared.deed.Deed.TheVariants.{MakeDir, MakeFile, Append, SyncFile, SyncDir, Rename, Remove}
-use Rattle.ext_disk.specs.declared.spot.Content.{Content}
+use Rattle.ext_disk.specs.declared.disk_entry.Content.{Content}
 
 -- an empty disk
 abbrev pub empty_places : Places
 empty_places [] = root_place
 empty_places (n ∷ p) = absent
 
--- something that stands at a path, with nothing to settle
-abbrev pub firm_place : Content → Place
-firm_place content = record absent { node = node_of content }
+-- something that stands at a path, with nothing to sync
+abbrev pub durable_place : Content → Place
+durable_place content = record absent { node = node_of content }
 
 -- a disk on which these stand, put there in turn
 abbrev pub given_from : Places → List (List (List ℕ) × Content) → Places
 given_from d [] = d
-given_from d (e ∷ es) = given_from (put e.0 (firm_place e.1) d) es
+given_from d (e ∷ es) = given_from (put e.0 (durable_place e.1) d) es
 
 -- the call that did it
 abbrev pub call_of : Deed → Call
@@ -50,6 +50,6 @@ told_of given deeds appended = record {
 }
 
 -- the map says what the disk came to, which is a tree
-pub record IsWhole (spots : Spots) (given : List (List (List ℕ) × Content)) (deeds : List Deed) : Type 0 where
-  pub agrees : (p : List (List ℕ)) → place_at spots p ≡ replay given deeds p
+pub record IsWhole (disk_entries : DiskEntries) (given : List (List (List ℕ) × Content)) (deeds : List Deed) : Type 0 where
+  pub agrees : (p : List (List ℕ)) → place_at disk_entries p ≡ replay given deeds p
   pub grown : IsGrown (replay given deeds)

@@ -1,13 +1,15 @@
 -- What holds over any disk, whoever made it.
 use Rattle.std.specs.Prelude.{◌≡◌, ◌⊎◌, ℕ, ◌≤◌, Bool, true, false, List}
-use Rattle.ext_disk.specs.Disk.{Tree, Places, Told, DiskState, MayLeave, IsTree, IsDisk, now, is_firm}
+use Rattle.ext_disk.specs.Disk.{Tree, Places, Told, DiskState, MayLeave, IsTree, IsDisk, now, is_durable}
 use Rattle.ext_disk.specs.Since.{Since, IsLater, Follows}
 use Rattle.ext_disk.specs.Calls.{Call, DoesTold, Does}
 use Rattle.ext_disk.specs.Fixed.{IsFixed, touches}
 
+-- each disk follows itself
 abbrev pub FollowsItself : Type 0
 FollowsItself = (s : DiskState) → Follows s s
 
+-- what follows a disk that follows another follows that one too
 abbrev pub FollowsInTurn : Type 0
 FollowsInTurn = (r s t : DiskState) → Follows r s → Follows s t → Follows r t
 
@@ -33,9 +35,9 @@ ClockIsNow = (d : Told) (t : Tree) → IsDisk d → (Since d d.clock t → MayLe
 abbrev pub NowMayBeLeft : Type 0
 NowMayBeLeft = (d : Places) → IsTree d → MayLeave d (now d)
 
--- a firm path is fixed since now
-abbrev pub FirmIsFixed : Type 0
-FirmIsFixed = (d : Told) (p : List (List ℕ)) → IsDisk d → is_firm d.places p ≡ true → IsFixed d d.clock p
+-- a durable path is fixed since now
+abbrev pub DurableIsFixed : Type 0
+DurableIsFixed = (d : Told) (p : List (List ℕ)) → IsDisk d → is_durable d.places p ≡ true → IsFixed d d.clock p
 
 -- each of the ten calls, done or failed, keeps a path fixed that it does not touch, and what stands there
 abbrev pub FixedStays : Type 0

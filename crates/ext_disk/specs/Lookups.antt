@@ -14,8 +14,6 @@ use Rattle.ext_disk.specs.declared.kind.Kind.TheVariants.{Dir, File}
 use Rattle.ext_disk.specs.declared.list_err.ListErr.{ListErr}
 use Rattle.ext_disk.specs.declared.list_err.ListErr.TheVariants.{Failed, OutOfMemory}
 
--- ---- conditions, in force where contents are told
-
 -- a folder stands at the path
 abbrev pub MayList : DiskState → List (List ℕ) → Type 0
 MayList disk dir = IfSome disk.told (λ d. is_folder (d.places dir).node ≡ true)
@@ -23,8 +21,6 @@ MayList disk dir = IfSome disk.told (λ d. is_folder (d.places dir).node ≡ tru
 -- a file stands at the path, and the buffer has room for a byte
 abbrev pub MayRead : DiskState → List (List ℕ) → ℕ → Type 0
 MayRead disk path room = IfSome disk.told (λ d. (is_file (d.places path).node ≡ true) × (0 < room))
-
--- ---- what they give
 
 -- the names that stand directly in a folder, in byte order, each once
 pub record IsListing (d : Places) (dir : List (List ℕ)) (names : List (List ℕ)) : Type 0 where
@@ -41,6 +37,7 @@ abbrev pub ListCause : ℕ → ℕ → ListErr → Type 0
 ListCause before after Failed = Rose before after
 ListCause before after OutOfMemory = Unit {0}
 
+-- the kind of what stands at a path, and the size of a file
 abbrev pub kind_of : Option Node → Option Kind
 kind_of None = None
 kind_of (Some folder) = Some Dir

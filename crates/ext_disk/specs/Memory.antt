@@ -9,6 +9,7 @@ use Rattle.ext_disk.specs.declared.list_err.ListErr.{ListErr}
 use Rattle.ext_disk.specs.declared.list_err.ListErr.TheVariants.{Failed, OutOfMemory}
 use Rattle.ext_disk.specs.declared.memory_disk.MemoryDisk.{MemoryDisk}
 
+-- what a history tells of its disk
 abbrev pub told_by : History → Told
 told_by history = told_of history.given.items history.deeds.items history.appended
 
@@ -41,10 +42,10 @@ abbrev pub IsCalled : MemoryDisk → MemoryDisk → DiskCall → Bool → Type 0
 IsCalled old new call done = IsMetered old.meter new.meter call done
 
 -- one call of `list`, which is kept as done where the call was done and its names alone found no memory
-abbrev pub IsListed : {T : Type 0} → MemoryDisk → MemoryDisk → DiskCall → Result T ListErr → Type 0
-IsListed old new call (Ok _) = IsCalled old new call true
-IsListed old new call (Err Failed) = IsCalled old new call false
-IsListed old new call (Err OutOfMemory) = IsCalled old new call true
+abbrev pub IsListCall : {T : Type 0} → MemoryDisk → MemoryDisk → DiskCall → Result T ListErr → Type 0
+IsListCall old new call (Ok _) = IsCalled old new call true
+IsListCall old new call (Err Failed) = IsCalled old new call false
+IsListCall old new call (Err OutOfMemory) = IsCalled old new call true
 
 -- no call was made of the disk, and the calls of these numbers are to fail, and each one from the number of the stop on
 pub record IsUncalled (disk : MemoryDisk) (fails : List ℕ) (stop : Option ℕ) : Type 0 where

@@ -13,7 +13,7 @@ use std::alloc::Global;
 /// A tree of folders and files under one root, the empty path, that a program changes, and that a stop may catch at any
 /// moment.
 ///
-/// Where a disk tells what stands on it, it tells everything: each path, what of it is not settled, the moments of its past,
+/// Where a disk tells what stands on it, it tells everything: each path, what of it is not synced, the moments of its past,
 /// and the sum of the bytes appended. Conditions are in force where contents are told, so that no misuse provokes a
 /// fault. Each call that fails is counted, told or not. The model is this project's own.
 pub trait Disk {
@@ -51,35 +51,35 @@ pub trait Disk {
         ensures does { Does look (state self.old) (state self.new) (is_ok result) }
         ensures cause { HasCause result (state self.old).faults (state self.new).faults };
 
-    /// Makes an empty folder in a folder, at a path at which nothing stands. Its name is loose until the folder is synced.
+    /// Makes an empty folder in a folder, at a path at which nothing stands. Its name is unsynced until the folder is synced.
     ///
     /// # Errors
-    /// The disk failed. The new folder is there or not, and its path is loose; or nothing changed.
+    /// The disk failed. Nothing changed, or the new folder is there or not and its name is unsynced.
     fn make_dir(&mut self, path: &Path) -> Result<(), Failed>
         requires { MayCall (make_dir path.now) (state self.old) }
         ensures does { Does (make_dir path.now) (state self.old) (state self.new) (is_ok result) }
         ensures cause { HasCause result (state self.old).faults (state self.new).faults };
 
-    /// Makes an empty file in a folder, at a path at which nothing stands. Its name is loose until the folder is synced, and
-    /// its bytes are soft until the file is.
+    /// Makes an empty file in a folder, at a path at which nothing stands. Its name is unsynced until the folder is synced, and
+    /// its bytes are unsynced until the file is.
     ///
     /// # Errors
-    /// The disk failed. The new file is there or not, and its path is loose; or nothing changed.
+    /// The disk failed. Nothing changed, or the new file is there or not and its name is unsynced.
     fn make_file(&mut self, path: &Path) -> Result<(), Failed>
         requires { MayCall (make_file path.now) (state self.old) }
         ensures does { Does (make_file path.now) (state self.old) (state self.new) (is_ok result) }
         ensures cause { HasCause result (state self.old).faults (state self.new).faults };
 
-    /// Adds bytes, of which there is one at least, at the end of a file. Its bytes are soft until the file is synced.
+    /// Adds bytes, of which there is one at least, at the end of a file. Its bytes are unsynced until the file is synced.
     ///
     /// # Errors
-    /// The disk failed. The file has any bytes, and is soft; or nothing changed.
+    /// The disk failed. Nothing changed, or the file has any bytes, and has unsynced bytes.
     fn append(&mut self, path: &Path, bytes: &[u8]) -> Result<(), Failed>
         requires { MayCall (append path.now bytes.now) (state self.old) }
         ensures does { Does (append path.now bytes.now) (state self.old) (state self.new) (is_ok result) }
         ensures cause { HasCause result (state self.old).faults (state self.new).faults };
 
-    /// Settles the bytes of a file.
+    /// Syncs the bytes of a file.
     ///
     /// # Errors
     /// The disk failed. It is as before.
@@ -88,7 +88,7 @@ pub trait Disk {
         ensures does { Does (sync_file path.now) (state self.old) (state self.new) (is_ok result) }
         ensures cause { HasCause result (state self.old).faults (state self.new).faults };
 
-    /// Settles the names directly in a folder.
+    /// Syncs the names directly in a folder.
     ///
     /// # Errors
     /// The disk failed. It is as before.
@@ -97,11 +97,11 @@ pub trait Disk {
         ensures does { Does (sync_dir dir.now) (state self.old) (state self.new) (is_ok result) }
         ensures cause { HasCause result (state self.old).faults (state self.new).faults };
 
-    /// Renames a file in its folder, over the file that stands at the other name, if one does. Where both paths were firm a
-    /// stop leaves the old or the new file at the other name; else that is loose and soft.
+    /// Renames a file in its folder, over the file that stands at the other name, if one does. Where both paths were durable
+    /// a stop leaves the old or the new file at the other name. Else that has an unsynced name and unsynced bytes.
     ///
     /// # Errors
-    /// The disk failed. The file was moved or not, and both paths are marked as if it was; or nothing changed.
+    /// The disk failed. Nothing changed, or the file was moved or not and both paths are marked as if it was.
     fn rename(&mut self, from: &Path, to: &Path) -> Result<(), Failed>
         requires { MayCall (rename from.now to.now) (state self.old) }
         ensures does { Does (rename from.now to.now) (state self.old) (state self.new) (is_ok result) }
@@ -110,7 +110,7 @@ pub trait Disk {
     /// Removes a file or an empty folder, which is not the root.
     ///
     /// # Errors
-    /// The disk failed. It is gone or not, and its path is loose; or nothing changed.
+    /// The disk failed. Nothing changed, or it is gone or not and its name is unsynced.
     fn remove(&mut self, path: &Path) -> Result<(), Failed>
         requires { MayCall (remove path.now) (state self.old) }
         ensures does { Does (remove path.now) (state self.old) (state self.new) (is_ok result) }

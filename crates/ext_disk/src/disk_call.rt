@@ -15,9 +15,9 @@ pub enum DiskOp {
     MakeFile,
     /// More bytes of a file.
     Append,
-    /// A file's bytes settled.
+    /// A file's bytes synced.
     SyncFile,
-    /// A folder's names settled.
+    /// A folder's names synced.
     SyncDir,
     /// A file moved in its folder.
     Rename,

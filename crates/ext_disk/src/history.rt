@@ -1,18 +1,18 @@
 // The tree of a disk in memory, and its past.
 ghost use Rattle.std.specs.Prelude.{◌≡◌, ◌≢◌, ℕ, ◌∷◌, ◌++◌, [], List, true, Some, ◌&&◌, All, IfOk, OnOk, OnErr};
-ghost use Rattle.ext_disk.specs.Disk.{file, is_firm};
-ghost use Rattle.ext_disk.specs.Calls.{Allows, CanRename, after, loosened, renamed, appended_after};
-ghost use Rattle.ext_disk.specs.Spots.{place_of, place_at, IsGrown};
+ghost use Rattle.ext_disk.specs.Disk.{file, is_durable};
+ghost use Rattle.ext_disk.specs.Calls.{Allows, CanRename, after, with_unsynced_name, renamed, appended_after};
+ghost use Rattle.ext_disk.specs.DiskEntries.{place_of, place_at, IsGrown};
 ghost use Rattle.ext_disk.specs.Deeds.{IsWhole, call_of, empty_places, given_from, replay};
 
 use crate::deed::Deed;
-use crate::pieces::Pieces;
-use crate::settling::settle_in;
-use crate::spot::{Content, Spot};
-use crate::spots::{
-    Spots, append_at, harden_at, is_firm_at, leave_at, put_spot, reach_at, reserve,
+use crate::disk_entries::{
+    DiskEntries, append_at, harden_at, is_durable_at, leave_at, put_disk_entry, reach_at, reserve,
 };
-use crate::stopped::spots_of;
+use crate::disk_entry::{Content, DiskEntry};
+use crate::pieces::Pieces;
+use crate::stopped::disk_entries_of;
+use crate::syncing::sync_in;
 use ext_text::{OutOfMemory, Path};
 use std::alloc::Global;
 
@@ -22,11 +22,11 @@ use std::alloc::Global;
 #[derive(Debug, Drop)]
 pub(crate) struct History {
     pub(crate) alloc: Global,
-    pub(crate) spots: Spots,
+    pub(crate) disk_entries: DiskEntries,
     pub(crate) given: Vec<(Path, Content)>,
     pub(crate) deeds: Vec<Deed>,
     pub(crate) appended: u64,
-    ghost whole: { IsWhole spots given.items deeds.items },
+    ghost whole: { IsWhole disk_entries given.items deeds.items },
 }
 
 impl History {
@@ -38,7 +38,7 @@ impl History {
     {
         History {
             alloc,
-            spots: Spots::new(alloc),
+            disk_entries: DiskEntries::new(alloc),
             given: Vec::new(alloc),
             deeds: Vec::new(alloc),
             appended: 0,
@@ -53,10 +53,10 @@ impl History {
         ensures deeds { IfOk result (λ history. history.deeds.items ≡ []) }
         ensures appended { IfOk result (λ history. history.appended ≡ 0) }
     {
-        let spots = spots_of(alloc, &given)?;
+        let disk_entries = disk_entries_of(alloc, &given)?;
         Ok(History {
             alloc,
-            spots,
+            disk_entries,
             given,
             deeds: Vec::new(alloc),
             appended: 0,
@@ -64,11 +64,11 @@ impl History {
     }
 
     /// The places alone; the past is let go.
-    pub(crate) fn into_spots(self) -> Spots
+    pub(crate) fn into_disk_entries(self) -> DiskEntries
         ensures places { (q : List (List ℕ)) → place_at result q ≡ replay self.given.items self.deeds.items q }
         ensures grown { IsGrown (replay self.given.items self.deeds.items) }
     {
-        self.spots
+        self.disk_entries
     }
 
     /// Does a deed that is allowed. At an error nothing was done.
@@ -81,7 +81,7 @@ impl History {
         ensures sum_stays { OnErr result (self.new.appended ≡ self.old.appended) }
     {
         self.deeds.reserve(1)?;
-        apply(self.alloc, &mut self.spots, &deed)?;
+        apply(self.alloc, &mut self.disk_entries, &deed)?;
         self.appended = sum_after(self.appended, &deed);
         self.deeds.push_reserved(deed);
         Ok(())
@@ -99,56 +99,64 @@ fn sum_after(sum: u64, deed: &Deed) -> u64
 }
 
 // Does one deed to the places. At an error none has changed.
-fn apply(alloc: Global, spots: &mut Spots, deed: &Deed) -> Result<(), OutOfMemory>
-    requires grown { IsGrown (place_at spots.old) }
-    requires allowed { Allows (call_of deed.now) (place_at spots.old) }
-    ensures ok { OnOk result ((q : List (List ℕ)) → place_at spots.new q
-        ≡ after (call_of deed.now) (place_at spots.old) q) }
-    ensures err { OnErr result ((q : List (List ℕ)) → place_at spots.new q ≡ place_at spots.old q) }
+fn apply(alloc: Global, disk_entries: &mut DiskEntries, deed: &Deed) -> Result<(), OutOfMemory>
+    requires grown { IsGrown (place_at disk_entries.old) }
+    requires allowed { Allows (call_of deed.now) (place_at disk_entries.old) }
+    ensures ok { OnOk result ((q : List (List ℕ)) → place_at disk_entries.new q
+        ≡ after (call_of deed.now) (place_at disk_entries.old) q) }
+    ensures err { OnErr result ((q : List (List ℕ)) → place_at disk_entries.new q ≡ place_at disk_entries.old q) }
 {
     match deed {
-        Deed::MakeDir(path) => put_spot(spots, path, Spot::loose(Content::Folder, false)),
-        Deed::MakeFile(path) => put_spot(spots, path, empty_file(alloc)),
-        Deed::Append(path, piece) => append_at(spots, path, piece),
+        Deed::MakeDir(path) => put_disk_entry(
+            disk_entries,
+            path,
+            DiskEntry::unsynced_name(Content::Folder, false),
+        ),
+        Deed::MakeFile(path) => put_disk_entry(disk_entries, path, empty_file(alloc)),
+        Deed::Append(path, piece) => append_at(disk_entries, path, piece),
         Deed::SyncFile(path) => {
-            harden_at(spots, path);
+            harden_at(disk_entries, path);
             Ok(())
         }
-        Deed::SyncDir(dir) => settle_in(alloc, spots, dir),
-        Deed::Rename(from, to) => rename_in(alloc, spots, from, to),
-        Deed::Remove(path) => put_spot(spots, path, Spot::loose(Content::Absent, false)),
+        Deed::SyncDir(dir) => sync_in(alloc, disk_entries, dir),
+        Deed::Rename(from, to) => rename_in(disk_entries, from, to),
+        Deed::Remove(path) => put_disk_entry(
+            disk_entries,
+            path,
+            DiskEntry::unsynced_name(Content::Absent, false),
+        ),
     }
 }
 
-// An empty file whose name and bytes are not settled.
-fn empty_file(alloc: Global) -> Spot
-    ensures { place_of result ≡ loosened (Some (file [])) true }
+// An empty file whose name and bytes are not synced.
+fn empty_file(alloc: Global) -> DiskEntry
+    ensures { place_of result ≡ with_unsynced_name (Some (file [])) true }
 {
-    Spot::loose(Content::File(Pieces::new(alloc)), true)
+    DiskEntry::unsynced_name(Content::File(Pieces::new(alloc)), true)
 }
 
 // Moves a file in its folder. At an error no place has changed.
-fn rename_in(alloc: Global, spots: &mut Spots, from: &Path, to: &Path) -> Result<(), OutOfMemory>
-    requires { CanRename (place_at spots.old) from.now to.now }
-    ensures ok { OnOk result ((q : List (List ℕ)) → place_at spots.new q
-        ≡ renamed from.now to.now true (place_at spots.old) q) }
-    ensures err { OnErr result ((q : List (List ℕ)) → place_at spots.new q ≡ place_at spots.old q) }
+fn rename_in(disk_entries: &mut DiskEntries, from: &Path, to: &Path) -> Result<(), OutOfMemory>
+    requires { CanRename (place_at disk_entries.old) from.now to.now }
+    ensures ok { OnOk result ((q : List (List ℕ)) → place_at disk_entries.new q
+        ≡ renamed from.now to.now true (place_at disk_entries.old) q) }
+    ensures err { OnErr result ((q : List (List ℕ)) → place_at disk_entries.new q ≡ place_at disk_entries.old q) }
 {
-    let firm = are_firm(alloc, spots, from, to)?;
-    reserve(spots, to)?;
-    let file = leave_at(spots, from);
-    reach_at(spots, to, file, firm);
+    let durable = are_durable(disk_entries, from, to)?;
+    reserve(disk_entries, to)?;
+    let file = leave_at(disk_entries, from);
+    reach_at(disk_entries, to, file, durable);
     Ok(())
 }
 
-// Whether both paths are firm.
-fn are_firm(alloc: Global, spots: &Spots, from: &Path, to: &Path) -> Result<bool, OutOfMemory>
+// Whether both paths are durable.
+fn are_durable(disk_entries: &DiskEntries, from: &Path, to: &Path) -> Result<bool, OutOfMemory>
     requires from { from.now ≢ [] }
     requires to { to.now ≢ [] }
-    ensures { IfOk result (λ firm. firm
-        ≡ (is_firm (place_at spots.now) from.now && is_firm (place_at spots.now) to.now)) }
+    ensures { IfOk result (λ durable. durable
+        ≡ (is_durable (place_at disk_entries.now) from.now && is_durable (place_at disk_entries.now) to.now)) }
 {
-    let from = is_firm_at(alloc, spots, from)?;
-    let to = is_firm_at(alloc, spots, to)?;
+    let from = is_durable_at(disk_entries, from)?;
+    let to = is_durable_at(disk_entries, to)?;
     Ok(from && to)
 }

@@ -1,5 +1,5 @@
 //! Laws of disks, each the contract of a function that does nothing: what holds over any disk, whoever made it.
-ghost use Rattle.ext_disk.specs.Laws.{FollowsItself, FollowsInTurn, EachCallFollows, PastStays, LaterAllowsNoMore, ClockIsNow, NowMayBeLeft, FirmIsFixed, FixedStays};
+ghost use Rattle.ext_disk.specs.Laws.{FollowsItself, FollowsInTurn, EachCallFollows, PastStays, LaterAllowsNoMore, ClockIsNow, NowMayBeLeft, DurableIsFixed, FixedStays};
 
 /// A disk follows itself, and what follows a disk that follows a first one follows the first one.
 pub fn disks_follow()
@@ -25,10 +25,10 @@ pub fn now_may_be_left()
     ensures { NowMayBeLeft }
 {}
 
-/// A path that is firm is fixed since now: each tree that a stop may have left has there what stands there. Each of the ten
-/// calls, done or failed, keeps a path fixed that is neither its own nor below its own, and what stands there; a call that
-/// reads and a sync keep each path fixed.
+/// A path that is durable is fixed since now: each tree that a stop may have left has there what stands there. Each of the
+/// ten calls, done or failed, keeps a path fixed that is neither its own nor below its own, and what stands there. A call
+/// that reads and a sync keep each path fixed.
 pub fn fixed_paths_stay()
-    ensures firm { FirmIsFixed }
+    ensures durable { DurableIsFixed }
     ensures calls { FixedStays }
 {}

@@ -4,23 +4,23 @@ ghost use Rattle.ext_text.specs.Causes.{HasCause};
 ghost use Rattle.ext_disk.specs.Disk.{MayLeave, now};
 ghost use Rattle.ext_disk.specs.Picked.{picked_place};
 ghost use Rattle.ext_disk.specs.Calls.{Call, look, make_dir, make_file, append, sync_file, sync_dir, rename, remove, Allows, MayCall, Does, DoesTold};
-ghost use Rattle.ext_disk.specs.Spots.{IsGrown};
+ghost use Rattle.ext_disk.specs.DiskEntries.{IsGrown};
 ghost use Rattle.ext_disk.specs.Deeds.{call_of, empty_places, given_from};
 ghost use Rattle.ext_disk.specs.Lookups.{MayList, MayRead, Lists, ListCause, IsKindAt, IsReadOf};
-ghost use Rattle.ext_disk.specs.Memory.{memory_state, told_by, came_to, places_of, appended_on, calls_of, starved_of, IsCalled, IsListed, IsUncalled};
+ghost use Rattle.ext_disk.specs.Memory.{memory_state, told_by, came_to, places_of, appended_on, calls_of, starved_of, IsCalled, IsListCall, IsUncalled};
 ghost use Rattle.ext_disk.specs.declared.disk_call.DiskOp.TheVariants as ops;
 
 use crate::deed::Deed;
 use crate::disk::Disk;
 use crate::disk_call::{DiskCall, DiskOp};
+use crate::disk_entries::{bytes_at, kind_at};
+use crate::disk_entry::Content;
 use crate::history::History;
 use crate::kind::Kind;
 use crate::list_err::ListErr;
 use crate::listing::names_in;
 use crate::meter::Meter;
 use crate::pick::Pick;
-use crate::spot::Content;
-use crate::spots::{bytes_at, kind_at};
 use crate::stopped::left_by_stop;
 use ext_io::{Calls, Failed};
 use ext_text::{Names, OutOfMemory, Path};
@@ -38,7 +38,7 @@ pub struct MemoryDisk {
 }
 
 impl MemoryDisk {
-    /// An empty disk with nothing to settle, whose calls of these numbers fail, and each call from the number `stop` on.
+    /// An empty disk with nothing to sync, whose calls of these numbers fail, and each call from the number `stop` on.
     pub fn new(alloc: Global, fails: Calls, stop: Option<u64>) -> MemoryDisk
         ensures empty { (p : List (List ℕ)) → places_of result p ≡ empty_places p }
         ensures uncalled { IsUncalled result fails stop }
@@ -56,7 +56,7 @@ impl MemoryDisk {
         self.meter.starved
     }
 
-    /// The sum of the bytes of all appends that were done; at 18,446,744,073,709,551,615 it stays there.
+    /// The sum of the bytes of all appends that were done. At 18,446,744,073,709,551,615 it stays there.
     pub fn appended(&self) -> u64
         ensures { result ≡ appended_on self.now }
     {
@@ -77,7 +77,7 @@ impl MemoryDisk {
         self.meter.calls.get(index as usize)
     }
 
-    /// The disk after a stop now: it holds one tree that a stop may leave, with nothing to settle, and none of its calls is
+    /// The disk after a stop now: it holds one tree that a stop may leave, with nothing to sync, and none of its calls is
     /// to fail. The past is let go.
     ///
     /// # Errors
@@ -123,17 +123,17 @@ impl Disk for MemoryDisk {
 
     ghost state = { memory_state };
 
-    /// Beside what each disk promises: the call fails exactly where it is to fail, and is kept in the record; names that
+    /// Beside what each disk promises: the call fails exactly where it is to fail, and is kept in the record. Names that
     /// find no memory are no fault.
     fn list(&mut self, alloc: Global, dir: &Path) -> Result<Names, ListErr>
         requires { MayList (memory_state self.old) dir.now }
         ensures names { IfOk result (Lists (memory_state self.old) dir.now) }
         ensures does { Does look (memory_state self.old) (memory_state self.new) (is_ok result) }
         ensures cause { IfErr result (ListCause (memory_state self.old).faults (memory_state self.new).faults) }
-        ensures exact { IsListed self.old self.new (record { op = ops.List; path = dir.now; bytes = 0 }) result }
+        ensures exact { IsListCall self.old self.new (record { op = ops.List; path = dir.now; bytes = 0 }) result }
     {
         self.meter.admit(DiskOp::List, dir, 0)?;
-        let names = names_in(alloc, &self.history.spots, dir)?;
+        let names = names_in(alloc, &self.history.disk_entries, dir)?;
         Ok(names)
     }
 
@@ -145,7 +145,7 @@ impl Disk for MemoryDisk {
         ensures exact { IsCalled self.old self.new (record { op = ops.Kind; path = path.now; bytes = 0 }) (is_ok result) }
     {
         self.meter.admit(DiskOp::Kind, path, 0)?;
-        Ok(kind_at(&self.history.spots, path))
+        Ok(kind_at(&self.history.disk_entries, path))
     }
 
     /// Beside what each disk promises: the call fails exactly where it is to fail, and is kept in the record.
@@ -158,7 +158,7 @@ impl Disk for MemoryDisk {
         ensures exact { IsCalled self.old self.new (record { op = ops.Read; path = path.now; bytes = length buf.old }) (is_ok result) }
     {
         self.meter.admit(DiskOp::Read, path, buf.len() as u64)?;
-        match bytes_at(&self.history.spots, path) {
+        match bytes_at(&self.history.disk_entries, path) {
             Some(file) => Ok(file.read(at, buf)),
             None => Ok(0),
         }
@@ -251,8 +251,8 @@ fn left_of(history: History, pick: Pick) -> Result<Vec<(Path, Content)>, OutOfMe
     ensures grown { IfOk result (λ given. IsGrown (given_from empty_places given.items)) }
 {
     let alloc = history.alloc;
-    let spots = history.into_spots();
-    left_by_stop(alloc, &spots, pick)
+    let disk_entries = history.into_disk_entries();
+    left_by_stop(alloc, &disk_entries, pick)
 }
 
 // Does a deed for which there was memory.

@@ -1,10 +1,10 @@
-/// What a stop takes of what is not settled.
+/// What a stop takes of what is not synced.
 #[derive(Clone, Copy, Debug, PartialEq, Eq)]
 pub enum Pick {
-    /// Loose paths vanish, with what lies below them; swung ones have the old file.
+    /// Paths with an unsynced name vanish, with what lies below them. Those with an unsynced rename have the old file.
     Old,
-    /// Loose paths stay; swung ones have the new file.
+    /// Paths with an unsynced name stay. Those with an unsynced rename have the new file.
     New,
-    /// As `New`, but the bytes of soft files are `junk`.
+    /// As `New`, but the bytes of files with unsynced bytes are `junk`.
     Junk,
 }

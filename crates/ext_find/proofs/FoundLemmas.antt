@@ -19,17 +19,15 @@ use Rattle.ext_text.specs.declared.arch.Arch.{Arch}
 use Rattle.ext_text.specs.declared.class.Class.{Class}
 use Rattle.ext_text.proofs.ForCallers.{is_less}
 use Rattle.ext_tree.specs.Tree.{Entries}
+use Rattle.ext_vers.specs.Order.{orders_total, orders_ties}
 use Rattle.ext_vers.specs.Version.{order_of}
 use Rattle.ext_find.specs.Directories.{search_directories}
-use Rattle.ext_find.specs.Found.{IsFirst, IsFound}
+use Rattle.ext_find.specs.Found.{IsFirst, AreFound}
 use Rattle.ext_find.specs.Keeps.{Keeps, before, kept_at}
-use Rattle.ext_find.specs.Order.{orders_total, stems_ties}
 use Rattle.ext_find.specs.Usable.{item_with}
 use Rattle.ext_find.specs.declared.found.FoundItem.{FoundItem}
-use Rattle.ext_find.specs.declared.seat.Seat.{Seat}
+use Rattle.ext_find.specs.declared.found_image.FoundImage.{FoundImage}
 use Rattle.ext_find.proofs.KeepsLemmas.{names_equal}
-
--- ---- keys that are sorted and distinct rise
 
 less_of : (r s : Ordering) → s ≡ ordering_reverse r → is_lt r ≡ false → is_eq s ≡ false → s ≡ Less
 less_of Less s is low other = absurd (true≢false low)
@@ -53,44 +51,42 @@ rising (e ∷ []) sorted distinct = refl
 rising (e ∷ f ∷ es) sorted distinct =
     let rest = rising (f ∷ es) (sorted_tail e.0 (keys_of (f ∷ es)) sorted) (IsDistinct-tail (pointwise nat_eq) e.0 (keys_of (f ∷ es)) distinct) in
     let other = (IsDistinct-head (pointwise nat_eq) e.0 (keys_of (f ∷ es)) distinct).0 in
-    let less : order_of e.0 f.0 ≡ Less = less_of (order_of f.0 e.0) (order_of e.0 f.0) (orders_total.antisymm e.0 f.0) (sorted 0 e.0 (omega arith) (omega arith)) (sym (stems_ties e.0 f.0) ∙ other) in
+    let less : order_of e.0 f.0 ≡ Less = less_of (order_of f.0 e.0) (order_of e.0 f.0) (orders_total.antisymm e.0 f.0) (sorted 0 e.0 (omega arith) (omega arith)) (sym (orders_ties e.0 f.0) ∙ other) in
     and_from _ _ (and_from _ _ (ap is_lt less) (below_trans e.0 f.0 es less (and_parts (below_all order_of f.0 es) (is_sorted order_of es) rest).0)) rest
 
--- ---- the items of entries
-
-abbrev by_items : List (List ℕ × Seat) → List (List ℕ × FoundItem)
+abbrev by_items : List (List ℕ × FoundImage) → List (List ℕ × FoundItem)
 by_items es = map (λ item. (item.name, item)) (map (λ e. item_with e.0 e.1) es)
 
-is_some_map : (q : List ℕ) (o : Option Seat) → is_some o ≡ true → is_some (option_map (item_with q) o) ≡ true
+is_some_map : (q : List ℕ) (o : Option FoundImage) → is_some o ≡ true → is_some (option_map (item_with q) o) ≡ true
 is_some_map q None some = some
-is_some_map q (Some seat) some = refl
+is_some_map q (Some found_image) some = refl
 
-below_named : (k : List ℕ) (es : List (List ℕ × Seat)) → below_all order_of k (by_items es) ≡ below_all order_of k es
+below_named : (k : List ℕ) (es : List (List ℕ × FoundImage)) → below_all order_of k (by_items es) ≡ below_all order_of k es
 below_named k [] = refl
 below_named k (e ∷ es) = ap (λ b. is_lt (order_of k e.0) && b) (below_named k es)
 
-sorted_named : (es : List (List ℕ × Seat)) → is_sorted order_of (by_items es) ≡ is_sorted order_of es
+sorted_named : (es : List (List ℕ × FoundImage)) → is_sorted order_of (by_items es) ≡ is_sorted order_of es
 sorted_named [] = refl
 sorted_named (e ∷ es) = λ i. below_named e.0 es i && sorted_named es i
 
-find_named : (q : List ℕ) (es : List (List ℕ × Seat)) → find order_of q (by_items es) ≡ option_map (item_with q) (lookup_in (pointwise nat_eq q) es)
+find_named : (q : List ℕ) (es : List (List ℕ × FoundImage)) → find order_of q (by_items es) ≡ option_map (item_with q) (lookup_in (pointwise nat_eq q) es)
 find_named q [] = refl
 find_named q (e ∷ es) =
     elim (pointwise nat_eq q e.0) as (λ b. pointwise nat_eq q e.0 ≡ b → cond (is_eq (order_of q e.0)) (Some (item_with e.0 e.1)) (find order_of q (by_items es)) ≡ option_map (item_with q) (cond b (Some e.1) (lookup_in (pointwise nat_eq q) es))) [
-      | true ↦ λ same. ap (λ b. cond b (Some (item_with e.0 e.1)) (find order_of q (by_items es))) (sym (stems_ties q e.0) ∙ same) ∙ ap (λ n. Some (item_with n e.1)) (sym (names_equal q e.0 same))
-      | false ↦ λ other. ap (λ b. cond b (Some (item_with e.0 e.1)) (find order_of q (by_items es))) (sym (stems_ties q e.0) ∙ other) ∙ find_named q es
+      | true ↦ λ same. ap (λ b. cond b (Some (item_with e.0 e.1)) (find order_of q (by_items es))) (sym (orders_ties q e.0) ∙ same) ∙ ap (λ n. Some (item_with n e.1)) (sym (names_equal q e.0 same))
+      | false ↦ λ other. ap (λ b. cond b (Some (item_with e.0 e.1)) (find order_of q (by_items es))) (sym (orders_ties q e.0) ∙ other) ∙ find_named q es
     ] refl
 
 module _ {C : Type 0} (size : C → ℕ) (es : Entries C) (class : Class) (arch : Arch) (hierarchies : List (List ℕ)) {S : Type 0} where
-  pub found_of : (old new : IndexMap (List ℕ) Seat S) → Keeps size es class arch hierarchies (before (length (search_directories class))) old → IsReordered (pointwise nat_eq) old new → IsSorted order_of (keys new) → IsUnique (pointwise nat_eq) new → IsFound size es class arch hierarchies (map (λ e. item_with e.0 e.1) new.entries)
+  pub found_of : (old new : IndexMap (List ℕ) FoundImage S) → Keeps size es class arch hierarchies (before (length (search_directories class))) old → IsReordered (pointwise nat_eq) old new → IsSorted order_of (keys new) → IsUnique (pointwise nat_eq) new → AreFound size es class arch hierarchies (map (λ e. item_with e.0 e.1) new.entries)
   found_of old new keeps reordered sorted unique = record {
     ordered = sorted_named new.entries ∙ rising new.entries sorted unique;
-    least = λ stem item at. from_seat stem item (kept_at new stem) refl (sym (find_named stem new.entries) ∙ at);
+    least = λ stem item at. from_found_image stem item (kept_at new stem) refl (sym (find_named stem new.entries) ∙ at);
     each = λ index name item usable. ap is_some (find_named item.name new.entries) ∙ is_some_map item.name (kept_at new item.name) (ap is_some (reordered.2 item.name) ∙ keeps.all index name item (slice_get_within (search_directories class) index usable.opens.text usable.opens.searched) usable);
   }
     where
-      from_seat : (stem : List ℕ) (item : FoundItem) (o : Option Seat) → kept_at new stem ≡ o → option_map (item_with stem) o ≡ Some item → (index : ℕ) × (name : List ℕ) × IsFirst size es class arch hierarchies index name item
-      from_seat stem item None at is = absurd (false≢true (ap is_some is))
-      from_seat stem item (Some seat) at is =
-          let first = keeps.kept stem seat (sym (reordered.2 stem) ∙ at) in
+      from_found_image : (stem : List ℕ) (item : FoundItem) (o : Option FoundImage) → kept_at new stem ≡ o → option_map (item_with stem) o ≡ Some item → (index : ℕ) × (name : List ℕ) × IsFirst size es class arch hierarchies index name item
+      from_found_image stem item None at is = absurd (false≢true (ap is_some is))
+      from_found_image stem item (Some found_image) at is =
+          let first = keeps.kept stem found_image (sym (reordered.2 stem) ∙ at) in
           (first.0, first.1, subst (IsFirst size es class arch hierarchies first.0 first.1) (ap (λ o. unwrap_or o item) is) first.2)

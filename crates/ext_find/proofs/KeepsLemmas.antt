@@ -6,24 +6,23 @@ use mathlib.Core.Logic.{inl, inr}
 use Rattle.std.specs.Cmp.Lexicographic.{pointwise, texts_ties}
 use Rattle.std.proofs.lemmas.Bool.{false≢true, ltb-false, ltb-true}
 use Rattle.std.specs.FinMap.Entries.{where_key}
-use Rattle.indexmap.specs.IndexMap.{IndexMap}
 use Rattle.std.specs.Map.{lookup as lookup_in}
+use Rattle.indexmap.specs.IndexMap.{IndexMap}
 use Rattle.ext_text.specs.Path.{path_cmp, is_proper_prefix}
 use Rattle.ext_text.specs.declared.arch.Arch.{Arch}
 use Rattle.ext_text.specs.declared.class.Class.{Class}
 use Rattle.ext_text.proofs.ForCallers.{same_name, tied_name}
 use Rattle.ext_tree.specs.Tree.{Entries, lookup}
-use Rattle.ext_tree.proofs.ForCallers.{below_append}
+use Rattle.ext_tree.proofs.ForCallers.{below_append, lookup_where}
+use Rattle.ext_walk.specs.Row.{Passes}
 use Rattle.ext_walk.specs.Walk.{Ends, parts}
+use Rattle.ext_walk.proofs.ForCallers.{same_end}
 use Rattle.ext_find.specs.Directories.{Opens}
 use Rattle.ext_find.specs.Found.{CountsBefore, IsFirst, IsUsable, IsUsableIn}
 use Rattle.ext_find.specs.Keeps.{Keeps, KeepsToo, before, kept_at, passed}
-use Rattle.ext_find.specs.Row.{Passes}
 use Rattle.ext_find.specs.Usable.{UsableAt, item_with}
 use Rattle.ext_find.specs.declared.found.FoundItem.{FoundItem}
-use Rattle.ext_find.specs.declared.seat.Seat.{Seat}
-use Rattle.ext_find.proofs.LeadsLemmas.{same_end}
-use Rattle.ext_find.proofs.RowLemmas.{lookup_where}
+use Rattle.ext_find.specs.declared.found_image.FoundImage.{FoundImage}
 
 -- a search directory leads to one directory
 pub one_opens : {C : Type 0} (es : Entries C) (class : Class) (index : ℕ) (a b : List (List ℕ)) → Opens es class index a → Opens es class index b → a ≡ b
@@ -37,24 +36,24 @@ equal_names a b same = texts_ties a b ∙ tied_name a b same
 pub names_equal : (a b : List ℕ) → pointwise nat_eq a b ≡ true → a ≡ b
 names_equal a b same = same_name a b (sym (texts_ties a b) ∙ same)
 
-module _ {S : Type 0} (old new : IndexMap (List ℕ) Seat S) where
+module _ {S : Type 0} (old new : IndexMap (List ℕ) FoundImage S) where
   -- what is kept stays
   more_kept : (item : Option FoundItem) → KeepsToo old new item → (q : List ℕ) → is_some (kept_at old q) ≡ true → is_some (kept_at new q) ≡ true
   more_kept None keeps q there = ap is_some (keeps q) ∙ there
   more_kept (Some item) keeps q there =
       ap is_some (keeps q)
-      ∙ elim (is_some (kept_at old item.name)) as (λ b. is_some (cond b (kept_at old q) (cond (pointwise nat_eq item.name q) (Some (record { place = item.place; kind = item.kind })) (kept_at old q))) ≡ true) [
+      ∙ elim (is_some (kept_at old item.name)) as (λ b. is_some (cond b (kept_at old q) (cond (pointwise nat_eq item.name q) (Some (record { place = item.place; kind = item.kind; release = item.release })) (kept_at old q))) ≡ true) [
         | true ↦ there
-        | false ↦ elim (pointwise nat_eq item.name q) as (λ b. is_some (cond b (Some (record { place = item.place; kind = item.kind })) (kept_at old q)) ≡ true) [ true ↦ refl | false ↦ there ]
+        | false ↦ elim (pointwise nat_eq item.name q) as (λ b. is_some (cond b (Some (record { place = item.place; kind = item.kind; release = item.release })) (kept_at old q)) ≡ true) [ true ↦ refl | false ↦ there ]
       ]
 
   -- the item's own stem has one
   own_kept : (item : FoundItem) → KeepsToo old new (Some item) → is_some (kept_at new item.name) ≡ true
   own_kept item keeps =
       ap is_some (keeps item.name)
-      ∙ elim (is_some (kept_at old item.name)) as (λ b. is_some (kept_at old item.name) ≡ b → is_some (cond b (kept_at old item.name) (cond (pointwise nat_eq item.name item.name) (Some (record { place = item.place; kind = item.kind })) (kept_at old item.name))) ≡ true) [
+      ∙ elim (is_some (kept_at old item.name)) as (λ b. is_some (kept_at old item.name) ≡ b → is_some (cond b (kept_at old item.name) (cond (pointwise nat_eq item.name item.name) (Some (record { place = item.place; kind = item.kind; release = item.release })) (kept_at old item.name))) ≡ true) [
         | true ↦ λ there. there
-        | false ↦ λ _. ap (λ b. is_some (cond b (Some (record { place = item.place; kind = item.kind })) (kept_at old item.name))) (equal_names item.name item.name refl)
+        | false ↦ λ _. ap (λ b. is_some (cond b (Some (record { place = item.place; kind = item.kind; release = item.release })) (kept_at old item.name))) (equal_names item.name item.name refl)
       ] refl
 
 less_or_same : (j i : ℕ) → j < i + 1 → (j < i) ⊎ (j ≡ i)
@@ -71,14 +70,14 @@ usable_here size es class arch hierarchies index directory opens name item usabl
 
 module _ {C : Type 0} (size : C → ℕ) (es : Entries C) (class : Class) (arch : Arch) (hierarchies : List (List ℕ)) {S : Type 0} where
   -- before any visit nothing is kept
-  pub keeps_none : (m : IndexMap (List ℕ) Seat S) → m.entries ≡ [] → Keeps size es class arch hierarchies (before 0) m
+  pub keeps_none : (m : IndexMap (List ℕ) FoundImage S) → m.entries ≡ [] → Keeps size es class arch hierarchies (before 0) m
   keeps_none m empty = record {
-    kept = λ stem seat at. absurd (false≢true (sym (ap (λ es. is_some (lookup_in (pointwise nat_eq stem) es)) empty) ∙ ap is_some at));
+    kept = λ stem found_image at. absurd (false≢true (sym (ap (λ es. is_some (lookup_in (pointwise nat_eq stem) es)) empty) ∙ ap is_some at));
     all = λ index name item made usable. absurd (omega (arith, made));
   }
 
   -- what holds of a directory's visits holds of all visits up to the next directory
-  at_index : (m : IndexMap (List ℕ) Seat S) (index : ℕ) → Keeps size es class arch hierarchies (before index) m → ((name : List ℕ) (item : FoundItem) → IsUsable size es class arch hierarchies index name item → is_some (kept_at m item.name) ≡ true) → Keeps size es class arch hierarchies (before (index + 1)) m
+  at_index : (m : IndexMap (List ℕ) FoundImage S) (index : ℕ) → Keeps size es class arch hierarchies (before index) m → ((name : List ℕ) (item : FoundItem) → IsUsable size es class arch hierarchies index name item → is_some (kept_at m item.name) ≡ true) → Keeps size es class arch hierarchies (before (index + 1)) m
   at_index m index keeps here = record { kept = keeps.kept; all = λ j name item made usable. by_case j name item usable (less_or_same j index made) }
     where
       by_case : (j : ℕ) (name : List ℕ) (item : FoundItem) → IsUsable size es class arch hierarchies j name item → (j < index) ⊎ (j ≡ index) → is_some (kept_at m item.name) ≡ true
@@ -86,12 +85,12 @@ module _ {C : Type 0} (size : C → ℕ) (es : Entries C) (class : Class) (arch 
       by_case j name item usable (inr same) = here name item (subst (λ i. IsUsable size es class arch hierarchies i name item) same usable)
 
   -- visits to a directory that is not there
-  pub keeps_closed : (m : IndexMap (List ℕ) Seat S) (index : ℕ) → ((directory : List (List ℕ)) → ¬ Opens es class index directory) → Keeps size es class arch hierarchies (before index) m → Keeps size es class arch hierarchies (before (index + 1)) m
+  pub keeps_closed : (m : IndexMap (List ℕ) FoundImage S) (index : ℕ) → ((directory : List (List ℕ)) → ¬ Opens es class index directory) → Keeps size es class arch hierarchies (before index) m → Keeps size es class arch hierarchies (before (index + 1)) m
   keeps_closed m index closed keeps = at_index m index keeps (λ name item usable. absurd (closed usable.directory usable.opens))
 
   module _ (index : ℕ) (directory : List (List ℕ)) (opens : Opens es class index directory) where
     -- at the start all names of the directory are left
-    pub keeps_start : (m : IndexMap (List ℕ) Seat S) (rest : Entries C) → rest ≡ where_key path_cmp (is_proper_prefix directory) es → Keeps size es class arch hierarchies (before index) m → Keeps size es class arch hierarchies (passed index directory rest) m
+    pub keeps_start : (m : IndexMap (List ℕ) FoundImage S) (rest : Entries C) → rest ≡ where_key path_cmp (is_proper_prefix directory) es → Keeps size es class arch hierarchies (before index) m → Keeps size es class arch hierarchies (passed index directory rest) m
     keeps_start m rest is keeps = record { kept = keeps.kept; all = all }
       where
         all : (j : ℕ) (name : List ℕ) (item : FoundItem) → passed index directory rest j name → IsUsable size es class arch hierarchies j name item → is_some (kept_at m item.name) ≡ true
@@ -102,12 +101,12 @@ module _ {C : Type 0} (size : C → ℕ) (es : Entries C) (class : Class) (arch 
             ∙ ap is_some (lookup_where (is_proper_prefix directory) (directory ++ name ∷ []) es ∙ ap (λ b. cond b (lookup es (directory ++ name ∷ [])) None) (below_append directory name [])) ∙ there))
 
     -- at the end none is left
-    pub keeps_end : (m : IndexMap (List ℕ) Seat S) (rest : Entries C) → ((name : List ℕ) → lookup rest (directory ++ name ∷ []) ≡ None) → Keeps size es class arch hierarchies (passed index directory rest) m → Keeps size es class arch hierarchies (before (index + 1)) m
+    pub keeps_end : (m : IndexMap (List ℕ) FoundImage S) (rest : Entries C) → ((name : List ℕ) → lookup rest (directory ++ name ∷ []) ≡ None) → Keeps size es class arch hierarchies (passed index directory rest) m → Keeps size es class arch hierarchies (before (index + 1)) m
     keeps_end m rest none keeps =
         at_index m index (record { kept = keeps.kept; all = λ j name item less usable. keeps.all j name item (inl less) usable })
         (λ name item usable. keeps.all index name item (inr (refl, none name)) usable)
 
-    module _ (rest more : Entries C) (name : List ℕ) (next : Passes directory rest name more) (old new : IndexMap (List ℕ) Seat S) (keeps : Keeps size es class arch hierarchies (passed index directory rest) old) where
+    module _ (rest more : Entries C) (name : List ℕ) (next : Passes directory rest name more) (old new : IndexMap (List ℕ) FoundImage S) (keeps : Keeps size es class arch hierarchies (passed index directory rest) old) where
       -- an item whose stem has none is the first of its stem
       is_first : (item : FoundItem) → IsUsableIn size es class arch hierarchies directory name item → is_some (kept_at old item.name) ≡ false → IsFirst size es class arch hierarchies index name item
       is_first item usable none = record { usable = record { directory = directory; opens = opens; entry = usable }; first = first }
@@ -118,22 +117,22 @@ module _ {C : Type 0} (size : C → ℕ) (es : Entries C) (class : Class) (arch 
           first j other another earlier same (inr here) =
               false≢true (sym none ∙ ap (λ n. is_some (kept_at old n)) (sym same) ∙ keeps.all j other another (inr (here.0, next.none_before other here.1)) earlier)
 
-      kept_next : (item : FoundItem) → IsUsableIn size es class arch hierarchies directory name item → (there : Bool) → is_some (kept_at old item.name) ≡ there → (stem : List ℕ) (seat : Seat) → cond there (kept_at old stem) (cond (pointwise nat_eq item.name stem) (Some (record { place = item.place; kind = item.kind })) (kept_at old stem)) ≡ Some seat → (j : ℕ) × (n : List ℕ) × IsFirst size es class arch hierarchies j n (item_with stem seat)
-      kept_next item usable true there stem seat at = keeps.kept stem seat at
-      kept_next item usable false none stem seat at = by_name (pointwise nat_eq item.name stem) refl at
+      kept_next : (item : FoundItem) → IsUsableIn size es class arch hierarchies directory name item → (there : Bool) → is_some (kept_at old item.name) ≡ there → (stem : List ℕ) (found_image : FoundImage) → cond there (kept_at old stem) (cond (pointwise nat_eq item.name stem) (Some (record { place = item.place; kind = item.kind; release = item.release })) (kept_at old stem)) ≡ Some found_image → (j : ℕ) × (n : List ℕ) × IsFirst size es class arch hierarchies j n (item_with stem found_image)
+      kept_next item usable true there stem found_image at = keeps.kept stem found_image at
+      kept_next item usable false none stem found_image at = by_name (pointwise nat_eq item.name stem) refl at
         where
-          by_name : (b : Bool) → pointwise nat_eq item.name stem ≡ b → cond b (Some (record { place = item.place; kind = item.kind })) (kept_at old stem) ≡ Some seat → (j : ℕ) × (n : List ℕ) × IsFirst size es class arch hierarchies j n (item_with stem seat)
+          by_name : (b : Bool) → pointwise nat_eq item.name stem ≡ b → cond b (Some (record { place = item.place; kind = item.kind; release = item.release })) (kept_at old stem) ≡ Some found_image → (j : ℕ) × (n : List ℕ) × IsFirst size es class arch hierarchies j n (item_with stem found_image)
           by_name true same is =
-              let seat_is : record { place = item.place; kind = item.kind } ≡ seat = ap (λ o. unwrap_or o seat) is in
-              (index, name, subst (IsFirst size es class arch hierarchies index name) (λ i. item_with (names_equal item.name stem same i) (seat_is i)) (is_first item usable none))
-          by_name false other is = keeps.kept stem seat is
+              let found_image_is : record { place = item.place; kind = item.kind; release = item.release } ≡ found_image = ap (λ o. unwrap_or o found_image) is in
+              (index, name, subst (IsFirst size es class arch hierarchies index name) (λ i. item_with (names_equal item.name stem same i) (found_image_is i)) (is_first item usable none))
+          by_name false other is = keeps.kept stem found_image is
 
       pub keeps_next : (item : Option FoundItem) → UsableAt size es class arch hierarchies directory name item → KeepsToo old new item → Keeps size es class arch hierarchies (passed index directory more) new
       keeps_next item at too = record { kept = kept item at too; all = λ j n another made usable. all j n another made usable }
         where
-          kept : (item : Option FoundItem) → UsableAt size es class arch hierarchies directory name item → KeepsToo old new item → (stem : List ℕ) (seat : Seat) → kept_at new stem ≡ Some seat → (j : ℕ) × (n : List ℕ) × IsFirst size es class arch hierarchies j n (item_with stem seat)
-          kept None none same stem seat is = keeps.kept stem seat (sym (same stem) ∙ is)
-          kept (Some x) usable adds stem seat is = kept_next x usable (is_some (kept_at old x.name)) refl stem seat (sym (adds stem) ∙ is)
+          kept : (item : Option FoundItem) → UsableAt size es class arch hierarchies directory name item → KeepsToo old new item → (stem : List ℕ) (found_image : FoundImage) → kept_at new stem ≡ Some found_image → (j : ℕ) × (n : List ℕ) × IsFirst size es class arch hierarchies j n (item_with stem found_image)
+          kept None none same stem found_image is = keeps.kept stem found_image (sym (same stem) ∙ is)
+          kept (Some x) usable adds stem found_image is = kept_next x usable (is_some (kept_at old x.name)) refl stem found_image (sym (adds stem) ∙ is)
 
           own : (item : Option FoundItem) → UsableAt size es class arch hierarchies directory name item → KeepsToo old new item → (another : FoundItem) → IsUsableIn size es class arch hierarchies directory name another → is_some (kept_at new another.name) ≡ true
           own None none same another usable = absurd (none another usable)

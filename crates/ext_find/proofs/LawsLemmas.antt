@@ -13,15 +13,20 @@ use Rattle.std.proofs.lemmas.Float.{T_from_true}
 use Rattle.ext_lines.specs.ByteOrder.{bytes_cmp, bytes_exact, bytes_total}
 use Rattle.ext_text.specs.declared.arch.Arch.{Arch}
 use Rattle.ext_text.specs.declared.class.Class.{Class}
+use Rattle.ext_text.specs.declared.class.Class.TheVariants.{Sysext, Confext, Portable}
+use Rattle.ext_text.specs.declared.extension.Extension.TheVariants as extensions
 use Rattle.ext_text.proofs.ForCallers.{is_equal}
 use Rattle.ext_tree.specs.Part.{part}
 use Rattle.ext_tree.specs.Tree.{Entries}
+use Rattle.ext_walk.specs.Walk.{parts}
+use Rattle.ext_walk.proofs.ForCallers.{same_end}
+use Rattle.ext_vers.specs.Order.{orders_exact, orders_total}
 use Rattle.ext_vers.specs.Version.{order_of}
 use Rattle.ext_find.specs.Ending.{ending_of, stem_of}
-use Rattle.ext_find.specs.Found.{Gives, IsFirst, IsFound, IsImage, IsPlace, IsUsable, IsUsableIn, LeadsToRaw, by_name}
-use Rattle.ext_find.specs.Image.{Breaks, kind_of}
+use Rattle.ext_find.specs.ExtensionRelease.{release_text}
+use Rattle.ext_find.specs.Found.{Gives, IsFirst, AreFound, IsImage, IsPlace, IsReleaseOf, IsUsable, IsUsableIn, LeadsToRaw, by_name}
+use Rattle.ext_find.specs.Image.{Breaks, IsReleaseIn, LeadsToFileAt}
 use Rattle.ext_find.specs.Laws.{OneFound, OneItem}
-use Rattle.ext_find.specs.Order.{orders_exact, orders_total}
 use Rattle.ext_find.specs.declared.ending.Ending.{Ending}
 use Rattle.ext_find.specs.declared.ending.Ending.TheVariants.{Plain, DotRaw, DotV, DotRawV}
 use Rattle.ext_find.specs.declared.found.BreakWhy.{BreakWhy}
@@ -30,13 +35,15 @@ use Rattle.ext_find.specs.declared.found.FoundItem.{FoundItem}
 use Rattle.ext_find.specs.declared.found.FoundKind.{FoundKind}
 use Rattle.ext_find.specs.declared.found.FoundKind.TheVariants.{Image, Masked, Raw, Broken}
 use Rattle.ext_find.proofs.KeepsLemmas.{one_opens}
-use Rattle.ext_find.proofs.LeadsLemmas.{same_end}
 use Rattle.ext_find.proofs.PickLemmas.{one_pick}
-
--- ---- one item
 
 clash : {b : Bool} {A : Type 0} → b ≡ true → b ≡ false → A
 clash on off = absurd (true≢false (sym on ∙ off))
+
+-- the kind of an image
+abbrev kind_of : Option BreakWhy → FoundKind
+kind_of None = Image
+kind_of (Some why) = Broken why
 
 -- an image is broken for one reason, or for none
 breaks_once : {C : Type 0} (image : Entries C) (class : Class) (hierarchies : List (List ℕ)) (name : List ℕ) (x y : Option BreakWhy) → Breaks image class hierarchies name x → Breaks image class hierarchies name y → x ≡ y
@@ -56,6 +63,19 @@ breaks_once image class hierarchies name None (Some NotDirectory) a b = clash b 
 breaks_once image class hierarchies name None (Some HasOsRelease) a b = clash b.1 a.1
 breaks_once image class hierarchies name None (Some NoRelease) a b = absurd (b.2 a.2)
 breaks_once image class hierarchies name None None a b = refl
+
+-- names lead to one file inside an image
+file_once : {C : Type 0} (es : Entries C) (image names p q : List (List ℕ)) → LeadsToFileAt es image names p → LeadsToFileAt es image names q → p ≡ q
+file_once es image names p q a b = a.whole ∙ ap (λ end. image ++ end) (same_end (part image es) names a.end b.end a.ends b.ends) ∙ sym b.whole
+
+release_once : {C : Type 0} (es : Entries C) (image : List (List ℕ)) (class : Class) (name : List ℕ) (r s : Option (List (List ℕ))) → IsReleaseIn es image class name r → IsReleaseIn es image class name s → r ≡ s
+release_once es image Sysext name None s a b = absurd a
+release_once es image Sysext name (Some p) None a b = absurd b
+release_once es image Sysext name (Some p) (Some q) a b = ap Some (file_once es image (parts (release_text extensions.Sysext name)) p q a b)
+release_once es image Confext name None s a b = absurd a
+release_once es image Confext name (Some p) None a b = absurd b
+release_once es image Confext name (Some p) (Some q) a b = ap Some (file_once es image (parts (release_text extensions.Confext name)) p q a b)
+release_once es image Portable name r s a b = a ∙ sym b
 
 module _ {C : Type 0} (size : C → ℕ) (es : Entries C) (class : Class) (arch : Arch) (hierarchies : List (List ℕ)) where
   one_place : (path : List (List ℕ)) (stem : List ℕ) (ending : Ending) (p q : List (List ℕ)) → IsPlace size es class arch hierarchies path stem ending p → IsPlace size es class arch hierarchies path stem ending q → p ≡ q
@@ -98,17 +118,24 @@ module _ {C : Type 0} (size : C → ℕ) (es : Entries C) (class : Class) (arch 
     one_kind p q (Broken v) Image a b = both_images p q (Some v) None a.1 a.2 b.1 b.2
     one_kind p q (Broken v) (Broken w) a b = both_images p q (Some v) (Some w) a.1 a.2 b.1 b.2
 
+  -- a release file is in one place
+  one_release : (place : List (List ℕ)) (stem : List ℕ) (kind : FoundKind) (r s : Option (List (List ℕ))) → IsReleaseOf size es class arch hierarchies place stem kind r → IsReleaseOf size es class arch hierarchies place stem kind s → r ≡ s
+  one_release place stem Image r s a b =
+      release_once es b.0 class stem r s (subst (λ end. IsReleaseIn es end class stem r) (same_end es place a.0 b.0 a.1 b.1) a.2) b.2
+  one_release place stem Masked r s a b = a ∙ sym b
+  one_release place stem Raw r s a b = a ∙ sym b
+  one_release place stem (Broken why) r s a b = a ∙ sym b
+
   item_of : (directory : List (List ℕ)) (name : List ℕ) (a b : FoundItem) → IsUsableIn size es class arch hierarchies directory name a → IsUsableIn size es class arch hierarchies directory name b → a ≡ b
   item_of directory name a b first other =
       let named : a.name ≡ b.name = first.stem ∙ sym other.stem in
       let rest = one_kind (directory ++ name ∷ []) name a.place b.place a.kind b.kind first.gives other.gives in
-      λ i. record { name = named i; place = rest.0 i; kind = rest.1 i }
+      let release = one_release b.place b.name b.kind a.release b.release (subst (λ k. IsReleaseOf size es class arch hierarchies b.place b.name k a.release) rest.1 (subst (λ p. IsReleaseOf size es class arch hierarchies p b.name a.kind a.release) rest.0 (subst (λ n. IsReleaseOf size es class arch hierarchies a.place n a.kind a.release) named first.release))) other.release in
+      λ i. record { name = named i; place = rest.0 i; kind = rest.1 i; release = release i }
 
   pub one_item : (index : ℕ) (name : List ℕ) (a b : FoundItem) → IsUsable size es class arch hierarchies index name a → IsUsable size es class arch hierarchies index name b → a ≡ b
   one_item index name a b first other =
       item_of other.directory name a b (subst (λ d. IsUsableIn size es class arch hierarchies d name a) (one_opens es class index first.directory other.directory first.opens other.opens) first.entry) other.entry
-
-  -- ---- one list
 
   -- the item that is found for a stem has that name
   find_name : (xs : List FoundItem) (stem : List ℕ) (item : FoundItem) → find order_of stem (by_name xs) ≡ Some item → item.name ≡ stem
@@ -137,7 +164,7 @@ module _ {C : Type 0} (size : C → ℕ) (es : Entries C) (class : Class) (arch 
           ] refl
         ] refl
 
-  module _ (xs ys : List FoundItem) (first : IsFound size es class arch hierarchies xs) (other : IsFound size es class arch hierarchies ys) where
+  module _ (xs ys : List FoundItem) (first : AreFound size es class arch hierarchies xs) (other : AreFound size es class arch hierarchies ys) where
     found_there : (q : List ℕ) (a : FoundItem) → find order_of q (by_name xs) ≡ Some a → is_some (find order_of q (by_name ys)) ≡ true
     found_there q a at =
         let least = first.least q a at in
@@ -153,7 +180,7 @@ module _ {C : Type 0} (size : C → ℕ) (es : Entries C) (class : Class) (arch 
   values_named [] = refl
   values_named (x ∷ xs) = ap (λ l. x ∷ l) (values_named xs)
 
-  pub one_found : (xs ys : List FoundItem) → IsFound size es class arch hierarchies xs → IsFound size es class arch hierarchies ys → xs ≡ ys
+  pub one_found : (xs ys : List FoundItem) → AreFound size es class arch hierarchies xs → AreFound size es class arch hierarchies ys → xs ≡ ys
   one_found xs ys first other =
       sym (values_named xs) ∙ ap (map (λ (e : List ℕ × FoundItem). e.1)) (same_entries order_of orders_total orders_exact (by_name xs) (by_name ys) (T_from_true _ first.ordered) (T_from_true _ other.ordered) agree) ∙ values_named ys
     where

@@ -1,14 +1,12 @@
-pub mod LeadsLemmas
 pub mod StandsLemmas
 pub mod InsideLemmas
 pub mod VersionLemmas
 pub mod ImageLemmas
-pub mod RowLemmas
-pub mod NextLemmas
 pub mod PartedLemmas
 pub mod PickLemmas
-pub mod SeatLemmas
+pub mod FoundImageLemmas
 pub mod KeepsLemmas
 pub mod FoundLemmas
 pub mod ReleaseLemmas
 pub mod LawsLemmas
+pub mod TextLemmas

@@ -7,8 +7,8 @@ use Rattle.ext_text.specs.Path.{parent}
 use Rattle.ext_tree.specs.declared.entry.Entry.{Entry}
 use Rattle.ext_tree.specs.declared.entry.Entry.TheVariants.{Dir, Opaque, File, Link, Hide}
 use Rattle.ext_tree.specs.Tree.{Entries, IsTree, lookup, is_directory_or_root}
-use Rattle.ext_find.specs.Leads.{LeadsToDirectory}
 use Rattle.ext_tree.proofs.ForCallers.{parent_child}
+use Rattle.ext_walk.specs.Leads.{LeadsToDirectory}
 use Rattle.ext_walk.specs.Walk.{Walk, walk, Ends, EndsFrom, enter, follow, is_absolute, is_idle, is_up, most_links, parts, step, steps}
 use Rattle.ext_walk.specs.Steps.{Same}
 use Rattle.ext_walk.proofs.ForCallers.{from_some, no_some, same_self, same_step, step_into, stuck}

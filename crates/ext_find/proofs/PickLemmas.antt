@@ -5,7 +5,9 @@ use mathlib.Core.Logic.{inl, inr}
 use Rattle.std.specs.Borrow.{Bor}
 use Rattle.std.specs.Cmp.{IsTotalOrder, on_total, then_total, tied_itself, upto}
 use Rattle.std.specs.Cmp.Lexicographic.{pointwise, texts_ties}
+use Rattle.std.specs.FinMap.Entries.{where_key}
 use Rattle.std.specs.List.{starts_with}
+use Rattle.std.specs.Option.{option_map}
 use Rattle.std.specs.Ordering.{is_gt, is_lt, ordering_reverse, ordering_then}
 use Rattle.std.specs.declared.cmp.Ordering.{Ordering}
 use Rattle.std.specs.declared.cmp.Ordering.TheVariants.{Less, Equal, Greater}
@@ -13,24 +15,21 @@ use Rattle.std.proofs.lemmas.Bool.{false≢true, true≢false}
 use Rattle.std.proofs.lemmas.List.{append_assoc, take-append-drop}
 use Rattle.std.proofs.Math.Seq.{take-append_seam}
 use Rattle.ext_lines.specs.ByteOrder.{bytes_exact, bytes_total}
+use Rattle.ext_text.specs.Path.{path_cmp}
 use Rattle.ext_text.specs.declared.arch.Arch.{Arch}
 use Rattle.ext_text.proofs.ForCallers.{same_name, tied_name}
+use Rattle.ext_tree.specs.Slices.{is_named}
 use Rattle.ext_tree.specs.Tree.{Entries, IsTree, lookup}
-use Rattle.std.specs.Option.{option_map}
+use Rattle.ext_tree.proofs.ForCallers.{lookup_where}
 use Rattle.ext_walk.specs.Walk.{Ends, is_idle, is_up}
-use Rattle.ext_find.specs.Leads.{LeadsToDirectory}
-use Rattle.ext_find.specs.Order.{orders_total}
+use Rattle.ext_walk.specs.Leads.{LeadsToDirectory}
+use Rattle.ext_walk.specs.Row.{Passes}
+use Rattle.ext_walk.proofs.ForCallers.{named_child}
+use Rattle.ext_vers.specs.Order.{orders_total}
 use Rattle.ext_find.specs.Pick.{CandidateAt, IsBest, IsCandidate, IsPick, Picks, better_of, candidate_cmp}
-use Rattle.ext_find.specs.Row.{Passes}
 use Rattle.ext_find.specs.Version.{NamesVersion, ReadsVersion, ReadsVersionAfter}
 use Rattle.ext_find.specs.declared.pick.Candidate.{Candidate}
-use Rattle.std.specs.FinMap.Entries.{where_key}
-use Rattle.ext_text.specs.Path.{path_cmp}
-use Rattle.ext_tree.specs.Slices.{is_named}
-use Rattle.ext_find.proofs.RowLemmas.{lookup_where, named_child}
 use Rattle.ext_find.proofs.PartedLemmas.{child_leads, plain_name, not_up}
-
--- ---- the order
 
 pub candidates_total : IsTotalOrder candidate_cmp
 candidates_total = then_total (on_total (λ (c : List ℕ × List ℕ). c.0) orders_total) (on_total (λ (c : List ℕ × List ℕ). c.1) bytes_total)
@@ -68,8 +67,6 @@ module _ {C : Type 0} (es : Entries C) (arch : Arch) (path : List (List ℕ)) (s
   one_pick a b first other =
       let tied = neither (candidate_cmp (first.version, a) (other.version, b)) (candidate_cmp (other.version, b) (first.version, a)) (candidates_total.antisymm (first.version, a) (other.version, b)) (other.greatest a first.version first.candidate) (first.greatest b other.version other.candidate) in
       bytes_exact a b (second _ _ tied)
-
-  -- ---- the best candidate so far
 
   module _ (directory : List (List ℕ)) (rest more : Entries C) (name : List ℕ) (next : Passes directory rest name more) where
     -- a candidate that is passed now was passed before or has the name
@@ -121,8 +118,6 @@ module _ {C : Type 0} (es : Entries C) (arch : Arch) (path : List (List ℕ)) (s
   pub picked : (directory : List (List ℕ)) (rest : Entries C) (best : Option Candidate) → ((n : List ℕ) → lookup rest (directory ++ n ∷ []) ≡ None) → IsBest es arch path stem directory rest best → Picks es arch path stem (option_map (λ c. c.name) best)
   picked directory rest None none best = λ n pick. best n pick.version pick.candidate (none n)
   picked directory rest (Some c) none best = record { version = c.version.now; candidate = best.0; greatest = λ n v candidate. best.1 n v candidate (none n) }
-
--- ---- the names of candidates
 
 same_text : (start a b : List ℕ) → start ++ a ≡ start ++ b → a ≡ b
 same_text [] a b same = same

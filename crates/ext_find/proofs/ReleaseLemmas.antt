@@ -6,10 +6,11 @@ use Rattle.std.specs.Borrow.{Bor}
 use Rattle.std.proofs.lemmas.Bool.{false≢true}
 use Rattle.ext_tree.specs.Tree.{Entries, lookup}
 use Rattle.ext_walk.specs.Walk.{Ends, Resolves}
+use Rattle.ext_walk.proofs.ForCallers.{same_end}
 use Rattle.ext_host.specs.Held.{HeldFile}
+use Rattle.ext_host.specs.Planning.{ServesAll}
 use Rattle.ext_find.specs.Content.{is_file_at}
-use Rattle.ext_find.specs.HostRelease.{ContentAt, IsContent, IsReleaseFile, ServesAll}
-use Rattle.ext_find.proofs.LeadsLemmas.{same_end}
+use Rattle.ext_find.specs.HostRelease.{ContentAt, IsContent, IsReleaseFile}
 
 pub content_none : {C : Type 0} (es : Entries C) (names : List (List ℕ)) → Resolves es names None → ContentAt es names None
 content_none es names none = λ leads. none leads.0 leads.1

@@ -12,14 +12,11 @@ use Rattle.ext_tree.specs.declared.entry.Entry.{Entry}
 use Rattle.ext_tree.specs.declared.entry.Entry.TheVariants.{Dir, Opaque, File, Link, Hide}
 use Rattle.ext_tree.specs.Tree.{Entries, IsTree, lookup, is_directory, is_directory_at, is_directory_or_root}
 use Rattle.ext_tree.proofs.ForCallers.{dir_directory, directory_dir, prefix_append, prefixes}
+use Rattle.ext_walk.specs.Leads.{LeadsToDirectory}
 use Rattle.ext_walk.specs.Walk.{Ends, EndsFrom, enter, is_idle, is_standing, is_up, step, walk}
-use Rattle.ext_walk.proofs.ForCallers.{same_step, step_into, stuck}
+use Rattle.ext_walk.proofs.ForCallers.{other_directory, same_step, step_into, stuck}
 use Rattle.ext_find.specs.Content.{is_file_at, is_link}
-use Rattle.ext_find.specs.Leads.{LeadsTo, LeadsToDirectory}
-use Rattle.ext_find.proofs.LeadsLemmas.{other_directory}
 use Rattle.ext_find.proofs.PartedLemmas.{parted_from}
-
--- ---- names
 
 pub name_plain : (n : List ℕ) → IsName n → is_idle n ≡ false
 name_plain [] is = absurd (omega (arith, is.non_empty))
@@ -35,8 +32,6 @@ name_not_up (b ∷ c ∷ []) is =
       | false ↦ λ _. refl
     ] refl
 name_not_up (b ∷ c ∷ d ∷ n) is = refl
-
--- ---- what stands
 
 directory_stands : {C : Type 0} (o : Option (Entry C)) → is_directory_at o ≡ true → is_standing o ≡ true
 directory_stands None is = absurd (false≢true is)
@@ -67,8 +62,6 @@ entered (Some (Link target)) at name left links stands = absurd (false≢true st
 entered (Some Hide) at name left links stands = absurd (false≢true stands)
 
 module _ {C : Type 0} (es : Entries C) (tree : IsTree es) where
-  -- ---- a path leads to itself
-
   -- above what stands there are directories
   stands_above : (at : List (List ℕ)) (n : List ℕ) (rest : List (List ℕ)) → is_standing (lookup es (at ++ n ∷ rest)) ≡ true → is_standing (lookup es (at ++ n ∷ [])) ≡ true
   stands_above at n [] stands = stands
@@ -93,10 +86,8 @@ module _ {C : Type 0} (es : Entries C) (tree : IsTree es) where
   pub own_directory : (p : List (List ℕ)) → is_directory_at (lookup es p) ≡ true → Ends es p p × (is_directory_or_root es p ≡ true)
   own_directory p directory = (own_end p (directory_stands (lookup es p) directory), dir_directory es p directory)
 
-  pub own_file : (p : List (List ℕ)) → is_file_at (lookup es p) ≡ true → LeadsTo is_file_at es p
-  own_file p file = (p, own_end p (file_stands (lookup es p) file), file)
-
-  -- ---- a name in a directory to which names lead
+  pub own_file : (p : List (List ℕ)) → is_file_at (lookup es p) ≡ true → Ends es p p
+  own_file p file = own_end p (file_stands (lookup es p) file)
 
   module _ (path directory : List (List ℕ)) (name : List ℕ) (first : Ends es path directory) (is : is_some (lookup es (directory ++ name ∷ [])) ≡ true) where
     named : IsName name

@@ -24,6 +24,7 @@ is_mask size (File mode content) = size content == 0
 is_mask size (Link target) = eq_by_cmp bytes_cmp target (codes "/dev/null")
 is_mask size Hide = false
 
+-- a mask stands there: an empty file, or a link to `/dev/null`
 abbrev pub is_mask_at : {C : Type 0} → (C → ℕ) → Option (Entry C) → Bool
 is_mask_at size None = false
 is_mask_at size (Some e) = is_mask size e
@@ -44,6 +45,7 @@ is_full size (File mode content) = not (size content == 0)
 is_full size (Link target) = false
 is_full size Hide = false
 
+-- a file that is not empty stands there
 abbrev pub is_full_at : {C : Type 0} → (C → ℕ) → Option (Entry C) → Bool
 is_full_at size None = false
 is_full_at size (Some e) = is_full size e

@@ -3,7 +3,7 @@ use Rattle.std.specs.Prelude.{◌≡◌, ℕ, List}
 use Rattle.ext_text.specs.declared.arch.Arch.{Arch}
 use Rattle.ext_text.specs.declared.class.Class.{Class}
 use Rattle.ext_tree.specs.Tree.{Entries}
-use Rattle.ext_find.specs.Found.{IsFound, IsUsable}
+use Rattle.ext_find.specs.Found.{AreFound, IsUsable}
 use Rattle.ext_find.specs.declared.found.FoundItem.{FoundItem}
 
 -- an entry of a search directory gives one item
@@ -18,6 +18,6 @@ OneItem {C} size =
 abbrev pub OneFound : {C : Type 0} → (C → ℕ) → Type 0
 OneFound {C} size =
     (es : Entries C) (class : Class) (arch : Arch) (hierarchies : List (List ℕ)) (found other : List FoundItem)
-    → IsFound size es class arch hierarchies found
-    → IsFound size es class arch hierarchies other
+    → AreFound size es class arch hierarchies found
+    → AreFound size es class arch hierarchies other
     → found ≡ other

@@ -1,12 +1,10 @@
-pub mod Order
 pub mod Directories
 pub mod Ending
 pub mod Content
-pub mod Leads
 pub mod Version
 pub mod Pick
-pub mod Row
 pub mod Inside
+pub mod ExtensionRelease
 pub mod Image
 pub mod Found
 pub mod Usable

@@ -20,7 +20,8 @@ NamesVersion arch text version =
 -- the one version that the text names, or that it names none
 abbrev pub ReadsVersion : Arch → List ℕ → Option (Bor (List ℕ)) → Type 0
 ReadsVersion arch text None = (version : List ℕ) → ¬ NamesVersion arch text version
-ReadsVersion arch text (Some version) = NamesVersion arch text version.now × ((other : List ℕ) → NamesVersion arch text other → other ≡ version.now)
+ReadsVersion arch text (Some version) =
+    NamesVersion arch text version.now × ((other : List ℕ) → NamesVersion arch text other → other ≡ version.now)
 
 -- a version and, after a `_`, an architecture with which a text ends, or that it ends with none
 abbrev pub EndsWithArch : List ℕ → Option (Bor (List ℕ) × Bor (List ℕ)) → Type 0

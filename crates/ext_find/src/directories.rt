@@ -3,9 +3,9 @@ ghost use Rattle.std.specs.Prelude.{◌≡◌, length, IfOk};
 ghost use Rattle.ext_text.specs.declared.class.Class.TheVariants as classes;
 ghost use Rattle.ext_find.specs.Directories.{IsText, OpensAt, search_directories};
 
-use crate::leading::directory_of_text;
-use ext_text::{Class, Name, OutOfMemory};
+use ext_text::{Class, OutOfMemory, PathRef};
 use ext_tree::Tree;
+use ext_walk::directory_of_text;
 use std::alloc::Global;
 
 // How many search directories a class has.
@@ -25,7 +25,7 @@ pub(crate) fn opened<'a, C>(
     base: &'a Tree<C>,
     class: Class,
     index: usize,
-) -> Result<Option<&'a [Name]>, OutOfMemory>
+) -> Result<Option<PathRef<'a>>, OutOfMemory>
     ensures { IfOk result (OpensAt base.now class index) }
 {
     match text_of(class, index) {
@@ -45,7 +45,7 @@ fn text_of<'a>(class: Class, index: usize) -> Option<&'a [u8]>
     }
 }
 
-// Those of system extensions.
+// The search directory of system extensions with this index.
 fn text_of_sysext<'a>(index: usize) -> Option<&'a [u8]>
     ensures { IsText classes.Sysext index result }
 {
@@ -57,7 +57,7 @@ fn text_of_sysext<'a>(index: usize) -> Option<&'a [u8]>
     }
 }
 
-// Those of configuration extensions.
+// The search directory of configuration extensions with this index.
 fn text_of_confext<'a>(index: usize) -> Option<&'a [u8]>
     ensures { IsText classes.Confext index result }
 {

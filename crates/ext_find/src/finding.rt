@@ -1,25 +1,25 @@
 // The search itself.
 ghost use Rattle.std.specs.Prelude.{◌≡◌, ◌+◌, map, length, IfOk, OnOk};
 ghost use Rattle.ext_find.specs.Directories.{Opens};
-ghost use Rattle.ext_find.specs.Found.{IsFound};
+ghost use Rattle.ext_find.specs.Found.{AreFound};
 ghost use Rattle.ext_find.specs.Keeps.{Keeps, KeepsToo, before};
 ghost use Rattle.ext_find.specs.Usable.{item_with};
 
 use crate::content::Measured;
 use crate::directories::{count_of_directories, opened};
 use crate::found::{Found, FoundItem};
-use crate::row::next_name;
+use crate::found_image::FoundImage;
 use crate::search::Search;
-use crate::seat::Seat;
 use crate::stem::Stem;
 use crate::usable::usable_at;
-use ext_text::{Arch, Class, ListOf, Name, Names, OutOfMemory};
+use ext_text::{Arch, Class, ListOf, Names, OutOfMemory, PathRef};
 use ext_tree::Tree;
+use ext_walk::next_name;
 use indexmap::IndexMap;
 use std::alloc::Global;
 
 // What was found so far: of each stem the first usable entry.
-type Kept = IndexMap<Stem, Seat>;
+type Kept = IndexMap<Stem, FoundImage>;
 
 /// The images of a class that a host has, with its masks and its images in files, in the order of versions of the names.
 ///
@@ -32,20 +32,20 @@ type Kept = IndexMap<Stem, Seat>;
 /// | `Portable` | `/etc/portables`, `/run/portables`, `/var/lib/portables`, `/usr/local/lib/portables`, `/usr/lib/portables` |
 ///
 /// The stem of a name is what is left without one ending `.raw.v`, `.raw` or `.v`. Of each stem the first usable entry
-/// counts, by its directory, then by the bytes of its name; its kind does not matter. Usable are, of the names that do not
+/// counts, by its directory, then by the bytes of its name. Its kind does not matter. Usable are, of the names that do not
 /// begin with a dot:
 ///
-/// - an empty file and a link to `/dev/null`: a mask, whatever the ending;
-/// - a name without an ending that leads to a directory: an image;
+/// - An empty file and a link to `/dev/null`: a mask, whatever the ending.
+/// - A name without an ending that leads to a directory: an image.
 /// - `N.v` that leads to a directory with candidates `N_VERSION` or `N_VERSION_ARCH`, names that lead to directories: the
 ///   image that no other candidate exceeds, by the order of versions, and of one version by the bytes of the names. An
-///   architecture counts after a version alone, and then only the given one;
+///   architecture counts after a version alone, and then only the given one.
 /// - `N.raw` that leads to a file that is not empty, and `N.raw.v` that leads to a directory: an image in a file.
 ///
-/// An image is broken as [`why_broken`](crate::why_broken) says, at the given hierarchies of its class; for `Portable` they
+/// An image is broken as [`why_broken`](crate::why_broken) says, at the given hierarchies of its class. For `Portable` they
 /// are not looked at. An image whose place is past the limits of a path is not usable, and no other candidate is tried.
 ///
-/// After systemd-sysext(8), systemd-confext(8), portablectl(1) and systemd.v(7); the order of the directories of the last
+/// After systemd-sysext(8), systemd-confext(8), portablectl(1) and systemd.v(7). The order of the directories of the last
 /// two classes, the order within a directory, and what those pages are silent on, are this project's own choice.
 ///
 /// The work grows with the names in the search directories and with what is looked at in each image, times logarithms.
@@ -59,7 +59,7 @@ pub fn find<C: Measured>(
     arch: Arch,
     hierarchies: &Names,
 ) -> Result<Found, OutOfMemory>
-    ensures { IfOk result (IsFound C.size base.now class arch hierarchies.now) }
+    ensures { IfOk result (AreFound C.size base.now class arch hierarchies.now) }
 {
     let search = Search {
         alloc,
@@ -83,11 +83,12 @@ fn keep_directory<C: Measured>(
     kept: &mut Kept,
 ) -> Result<(), OutOfMemory>
     requires { Keeps C.size search.now.base.now search.now.class search.now.arch search.now.hierarchies.now (before index) kept.old }
-    ensures { OnOk result (Keeps C.size search.now.base.now search.now.class search.now.arch search.now.hierarchies.now (before (index + 1)) kept.new) }
+    ensures { OnOk result (Keeps C.size search.now.base.now search.now.class search.now.arch search.now.hierarchies.now
+        (before (index + 1)) kept.new) }
 {
     match opened(search.alloc, search.base, search.class, index)? {
         None => Ok(()),
-        Some(directory) => keep_names(search, index, directory, kept),
+        Some(directory) => keep_names(search, index, &directory, kept),
     }
 }
 
@@ -95,12 +96,13 @@ fn keep_directory<C: Measured>(
 fn keep_names<C: Measured>(
     search: &Search<C>,
     index: usize,
-    directory: &[Name],
+    directory: &PathRef,
     kept: &mut Kept,
 ) -> Result<(), OutOfMemory>
     requires opens { Opens search.now.base.now search.now.class index directory.now }
     requires kept { Keeps C.size search.now.base.now search.now.class search.now.arch search.now.hierarchies.now (before index) kept.old }
-    ensures { OnOk result (Keeps C.size search.now.base.now search.now.class search.now.arch search.now.hierarchies.now (before (index + 1)) kept.new) }
+    ensures { OnOk result (Keeps C.size search.now.base.now search.now.class search.now.arch search.now.hierarchies.now
+        (before (index + 1)) kept.new) }
 {
     let mut rest = search.base.below(directory);
     'names: loop {
@@ -120,10 +122,22 @@ fn keep_item(kept: &mut Kept, item: Option<FoundItem>) -> Result<(), OutOfMemory
 {
     match item {
         None => Ok(()),
-        Some(FoundItem { name, place, kind }) => {
+        Some(
+            FoundItem {
+                name,
+                place,
+                kind,
+                release,
+            },
+        ) => {
             let stem = Stem::new(name);
             if !kept.contains_key(&stem) {
-                kept.insert(stem, Seat { place, kind })?;
+                let found_image = FoundImage {
+                    place,
+                    kind,
+                    release,
+                };
+                kept.insert(stem, found_image)?;
             }
             Ok(())
         }
@@ -136,19 +150,24 @@ fn items_of(alloc: Global, kept: Kept) -> Result<Found, OutOfMemory>
 {
     let items = kept
         .into_iter()
-        .map(|(stem, seat)| item_of(stem, seat))
+        .map(|(stem, found_image)| item_of(stem, found_image))
         .collect(alloc)?;
     Ok(ListOf::from_vec(items))
 }
 
 // The item of this stem.
-fn item_of(stem: Stem, seat: Seat) -> FoundItem
-    ensures { result ≡ item_with stem seat }
+fn item_of(stem: Stem, found_image: FoundImage) -> FoundItem
+    ensures { result ≡ item_with stem found_image }
 {
-    let Seat { place, kind } = seat;
+    let FoundImage {
+        place,
+        kind,
+        release,
+    } = found_image;
     FoundItem {
         name: stem.into_name(),
         place,
         kind,
+        release,
     }
 }

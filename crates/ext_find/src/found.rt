@@ -11,6 +11,9 @@ pub struct FoundItem {
     pub place: Path,
     /// What it is.
     pub kind: FoundKind,
+    /// Where the release file of an image that can be used is in the base. Any other item has none, and so has an image of
+    /// portable services.
+    pub release: Option<Path>,
 }
 
 /// What a found item is.

@@ -1,38 +1,44 @@
-// What an image is, and what is amiss with it.
-ghost use Rattle.std.specs.Prelude.{◌≡◌, ◌↔◌, ℕ, List, ◌∷◌, ◌++◌, [], IsTrue, IfOk, is_some, codes};
+// What an image is, and why it can't be used.
+ghost use Rattle.std.specs.Prelude.{◌≡◌, true, ℕ, List, ◌∷◌, ◌++◌, [], IfOk};
 ghost use Rattle.std.specs.List.{list_any};
-ghost use Rattle.ext_text.specs.declared.class.Class.TheVariants as classes;
+ghost use Rattle.ext_text.specs.Path.{IsPath};
+ghost use Rattle.ext_text.specs.declared.extension.Extension.TheVariants as extensions;
 ghost use Rattle.ext_tree.specs.Part.{part};
-ghost use Rattle.ext_tree.specs.Tree.{IsTree, lookup};
+ghost use Rattle.ext_tree.specs.Tree.{lookup};
 ghost use Rattle.ext_walk.specs.Walk.{parts};
 ghost use Rattle.ext_find.specs.Content.{is_file_at, is_other_at};
-ghost use Rattle.ext_find.specs.Image.{Breaks, HasRelease, has_os_release, is_blocked};
+ghost use Rattle.ext_find.specs.Image.{Breaks, ChecksAs, ReleaseChecksAs, ReleaseAt, check_of, has_os_release, is_blocked};
 ghost use Rattle.ext_find.specs.Inside.{borrowed};
-ghost use Rattle.ext_find.specs.Leads.{LeadsTo};
+ghost use Rattle.ext_find.specs.ExtensionRelease.{release_text};
 
+use crate::extension_release::release_text;
 use crate::found::BreakWhy;
 use crate::inside::Inside;
-use crate::leading::{entry_at, joined};
-use ext_text::{Class, Name, Names, OutOfMemory};
+use crate::leading::joined;
+use ext_text::{Class, Extension, Name, Names, OutOfMemory, Path, PathErr, PathRef};
 use ext_tree::Tree;
 use ext_walk::end_of_text;
 use std::alloc::Global;
 
-/// Why the image of this name cannot be used, the first of these: `NotDirectory` where it has something other than a
-/// directory at one of the hierarchies; `HasOsRelease` where it is a system extension and has an entry
-/// `usr/lib/os-release`, be it a whiteout; `NoRelease` where its release file leads to no file inside it. That is
-/// `usr/lib/extension-release.d/extension-release.NAME` of a system extension and
-/// `etc/extension-release.d/extension-release.NAME` of a configuration extension. `None` where none of these holds, and
-/// for each image of portable services, whatever the hierarchies. The image is what the base has below these names.
+/// Why the image of this name cannot be used, the first of these:
 ///
-/// After systemd-sysext(8); that an image may not bring an os-release file is this project's own choice.
+/// - `NotDirectory` where it has something other than a directory at one of the hierarchies.
+/// - `HasOsRelease` where it is a system extension and has an entry `usr/lib/os-release`, be it a whiteout.
+/// - `NoRelease` where its release file leads to no file inside it. That is
+///   `usr/lib/extension-release.d/extension-release.NAME` of a system extension and
+///   `etc/extension-release.d/extension-release.NAME` of a configuration extension.
+///
+/// `None` where none of these holds, and for each image of portable services, whatever the hierarchies. The image is
+/// what the base has below these names.
+///
+/// After systemd-sysext(8). That an image may not bring an os-release file is this project's own choice.
 ///
 /// # Errors
 /// `OutOfMemory` alone.
-pub fn why_broken<C>(
+pub fn why_broken<'a, C>(
     alloc: Global,
-    base: &Tree<C>,
-    image: &[Name],
+    base: &'a Tree<C>,
+    image: &PathRef<'a>,
     class: Class,
     hierarchies: &Names,
     name: &Name,
@@ -40,30 +46,38 @@ pub fn why_broken<C>(
     ensures { IfOk result (Breaks (part image.now base.now) class hierarchies.now name.now) }
 {
     let inside = Inside::of(base, image);
-    why_broken_inside(alloc, base, image, &inside, class, hierarchies, name)
+    match check_inside(alloc, base, image, &inside, class, hierarchies, name)? {
+        ImageCheck::Usable(_release) => Ok(None),
+        ImageCheck::Broken(why) => Ok(Some(why)),
+    }
 }
 
-// The same; what the image has is known.
-pub(crate) fn why_broken_inside<C>(
+// What a look into an image says: that it can be used, and where in the base its release file is, or why it can't.
+#[derive(Debug, Drop)]
+pub enum ImageCheck {
+    Usable(Option<Path>),
+    Broken(BreakWhy),
+}
+
+// What a look into an image says, by the entries that stand inside it.
+pub(crate) fn check_inside<'a, C>(
     alloc: Global,
-    base: &Tree<C>,
-    image: &[Name],
+    base: &'a Tree<C>,
+    image: &PathRef<'a>,
     inside: &Inside<C>,
     class: Class,
     hierarchies: &Names,
     name: &Name,
-) -> Result<Option<BreakWhy>, OutOfMemory>
+) -> Result<ImageCheck, OutOfMemory>
     requires { inside.now ≡ part image.now base.now }
-    ensures { IfOk result (Breaks (part image.now base.now) class hierarchies.now name.now) }
+    ensures { IfOk result (ChecksAs base.now image.now class hierarchies.now name.now) }
 {
     if is_blocked(inside, class, hierarchies.as_slice()) {
-        Ok(Some(BreakWhy::NotDirectory))
+        Ok(ImageCheck::Broken(BreakWhy::NotDirectory))
     } else if has_os_release(inside, class) {
-        Ok(Some(BreakWhy::HasOsRelease))
-    } else if has_release(alloc, base, image, inside, class, name)? {
-        Ok(None)
+        Ok(ImageCheck::Broken(BreakWhy::HasOsRelease))
     } else {
-        Ok(Some(BreakWhy::NoRelease))
+        check_release(alloc, base, image, inside, class, name)
     }
 }
 
@@ -110,38 +124,46 @@ fn has_os_release<C>(inside: &Inside<C>, class: Class) -> bool
     }
 }
 
-// Whether the release file leads to a file inside the image.
-fn has_release<C>(
+// What the release file makes of an image.
+fn check_release<'a, C>(
     alloc: Global,
-    base: &Tree<C>,
-    image: &[Name],
+    base: &'a Tree<C>,
+    image: &PathRef<'a>,
     inside: &Inside<C>,
     class: Class,
     name: &Name,
-) -> Result<bool, OutOfMemory>
+) -> Result<ImageCheck, OutOfMemory>
     requires { inside.now ≡ part image.now base.now }
-    ensures { IfOk result (λ has. IsTrue has ↔ HasRelease (part image.now base.now) class name.now) }
+    ensures { IfOk result (ReleaseChecksAs base.now image.now class name.now) }
 {
     match class {
-        Class::Sysext => has_system_release(alloc, base, image, inside, name),
-        Class::Confext => has_configuration_release(alloc, base, image, inside, name),
-        Class::Portable => Ok(true),
+        Class::Sysext => Ok(check_of(system_release(alloc, base, image, inside, name)?)),
+        Class::Confext => Ok(check_of(configuration_release(alloc, base, image, inside, name)?)),
+        Class::Portable => Ok(ImageCheck::Usable(None)),
     }
 }
 
-// Whether that of a system extension does. Where a file stands at its path, nothing has to be followed.
-fn has_system_release<C>(
+// What the release file of an extension makes of it.
+fn check_of(release: Option<Path>) -> ImageCheck
+    ensures { result ≡ check_of release }
+{
+    match release {
+        None => ImageCheck::Broken(BreakWhy::NoRelease),
+        Some(path) => ImageCheck::Usable(Some(path)),
+    }
+}
+
+// Where the release file of a system extension is. Where a file stands at its path, nothing has to be followed.
+fn system_release<'a, C>(
     alloc: Global,
-    base: &Tree<C>,
-    image: &[Name],
+    base: &'a Tree<C>,
+    image: &PathRef<'a>,
     inside: &Inside<C>,
     name: &Name,
-) -> Result<bool, OutOfMemory>
+) -> Result<Option<Path>, OutOfMemory>
     requires { inside.now ≡ part image.now base.now }
-    ensures { IfOk result (λ has. IsTrue has ↔ HasRelease (part image.now base.now) classes.Sysext name.now) }
+    ensures { IfOk result (ReleaseAt base.now image.now extensions.Sysext name.now) }
 {
-    // `pairs` says of the base that it is a tree.
-    let _entries = base.pairs();
     let file = joined(alloc, b"extension-release.", name.bytes())?;
     let names = [
         b"usr".as_slice(),
@@ -150,24 +172,22 @@ fn has_system_release<C>(
         file.as_slice(),
     ];
     if is_file_inside(inside, &names) {
-        return Ok(true);
+        return own_release(alloc, base, image, Extension::Sysext, name);
     }
-    let start = b"usr/lib/extension-release.d/extension-release.";
-    leads_to_file(alloc, base, image, start, name)
+    followed_release(alloc, base, image, Extension::Sysext, name)
 }
 
-// Whether that of a configuration extension does.
-fn has_configuration_release<C>(
+// Where that of a configuration extension is.
+fn configuration_release<'a, C>(
     alloc: Global,
-    base: &Tree<C>,
-    image: &[Name],
+    base: &'a Tree<C>,
+    image: &PathRef<'a>,
     inside: &Inside<C>,
     name: &Name,
-) -> Result<bool, OutOfMemory>
+) -> Result<Option<Path>, OutOfMemory>
     requires { inside.now ≡ part image.now base.now }
-    ensures { IfOk result (λ has. IsTrue has ↔ HasRelease (part image.now base.now) classes.Confext name.now) }
+    ensures { IfOk result (ReleaseAt base.now image.now extensions.Confext name.now) }
 {
-    let _entries = base.pairs();
     let file = joined(alloc, b"extension-release.", name.bytes())?;
     let names = [
         b"etc".as_slice(),
@@ -175,10 +195,9 @@ fn has_configuration_release<C>(
         file.as_slice(),
     ];
     if is_file_inside(inside, &names) {
-        return Ok(true);
+        return own_release(alloc, base, image, Extension::Confext, name);
     }
-    let start = b"etc/extension-release.d/extension-release.";
-    leads_to_file(alloc, base, image, start, name)
+    followed_release(alloc, base, image, Extension::Confext, name)
 }
 
 // Whether a file stands at these names.
@@ -191,28 +210,65 @@ fn is_file_inside<C>(inside: &Inside<C>, names: &[&[u8]]) -> bool
     }
 }
 
-// Whether a text and the name after it lead to a file inside the image.
-fn leads_to_file<C>(
+// Where the release file is, where a file stands at its path itself.
+fn own_release<C>(
     alloc: Global,
     base: &Tree<C>,
-    image: &[Name],
-    start: &[u8],
+    image: &PathRef,
+    class: Extension,
     name: &Name,
-) -> Result<bool, OutOfMemory>
-    ensures { IfOk result (λ leads. IsTrue leads ↔ LeadsTo is_file_at (part image.now base.now) (parts (start.now ++ name.now))) }
+) -> Result<Option<Path>, OutOfMemory>
+    requires { is_file_at (lookup (part image.now base.now) (parts (release_text class name.now))) ≡ true }
+    ensures { IfOk result (ReleaseAt base.now image.now class name.now) }
 {
-    let text = joined(alloc, start, name.bytes())?;
+    // `pairs` says of the base that it is a tree.
+    let _entries = base.pairs();
+    let text = release_text(alloc, class, name)?;
+    let names = PathRef::of_text(text.as_slice());
+    Ok(Some(path_below(alloc, image, &names)?))
+}
+
+// The path of the names below others, which both together are within the limits.
+fn path_below(alloc: Global, upper: &PathRef, lower: &PathRef) -> Result<Path, OutOfMemory>
+    requires { IsPath (upper.now ++ lower.now) }
+    ensures { IfOk result (λ path. path ≡ upper.now ++ lower.now) }
+{
+    match upper.join(alloc, lower) {
+        Ok(path) => Ok(path),
+        Err(PathErr::OutOfMemory) => Err(OutOfMemory),
+        Err(PathErr::TooLong | PathErr::TooDeep | PathErr::BadName) => unreachable!(),
+    }
+}
+
+// Where the release file is, to which its path leads inside the image.
+fn followed_release<'a, C>(
+    alloc: Global,
+    base: &'a Tree<C>,
+    image: &PathRef<'a>,
+    class: Extension,
+    name: &Name,
+) -> Result<Option<Path>, OutOfMemory>
+    ensures { IfOk result (ReleaseAt base.now image.now class name.now) }
+{
+    let _entries = base.pairs();
+    let text = release_text(alloc, class, name)?;
     match end_of_text(alloc, base, image, text.as_slice())? {
-        None => Ok(false),
-        Some(end) => Ok(is_file_in(base, image, end)),
+        None => Ok(None),
+        Some(end) => {
+            if is_file_in(base, image, &end) {
+                Ok(Some(Path::of_names(alloc, &end)?))
+            } else {
+                Ok(None)
+            }
+        }
     }
 }
 
 // Whether a file stands there, and not the image's own root.
-fn is_file_in<C>(base: &Tree<C>, image: &[Name], end: &[Name]) -> bool
+fn is_file_in<C>(base: &Tree<C>, image: &PathRef, end: &PathRef) -> bool
     ensures { (at : List (List ℕ)) → end.now ≡ image.now ++ at → result ≡ is_file_at (lookup (part image.now base.now) at) }
 {
-    if end.len() > image.len() {
+    if end.depth() > image.depth() {
         is_file_at(base, end)
     } else {
         false
@@ -220,10 +276,10 @@ fn is_file_in<C>(base: &Tree<C>, image: &[Name], end: &[Name]) -> bool
 }
 
 // Whether a file stands there.
-fn is_file_at<C>(base: &Tree<C>, names: &[Name]) -> bool
+fn is_file_at<C>(base: &Tree<C>, names: &PathRef) -> bool
     ensures { result ≡ is_file_at (lookup base.now names.now) }
 {
-    match entry_at(base, names) {
+    match base.entry_at(names) {
         None => false,
         Some(entry) => entry.is_file(),
     }

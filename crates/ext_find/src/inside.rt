@@ -1,5 +1,5 @@
 // What stands below a directory, seen from there.
-ghost use Rattle.std.specs.Prelude.{◌≡◌, [], drop, IsTrue};
+ghost use Rattle.std.specs.Prelude.{◌≡◌, [], IsTrue};
 ghost use Rattle.std.specs.FinMap.{is_sorted};
 ghost use Rattle.std.specs.Option.{option_copied};
 ghost use Rattle.ext_text.specs.Path.{path_cmp};
@@ -8,7 +8,7 @@ ghost use Rattle.ext_tree.specs.Part.{part};
 ghost use Rattle.ext_tree.specs.Tree.{lookup};
 ghost use Rattle.ext_find.specs.Inside.{borrowed, seen, seen_entry};
 
-use ext_text::{Name, Path};
+use ext_text::{Path, PathRef};
 use ext_tree::{Entry, Tree};
 use std::cmp::Ordering;
 use std::marker::Model;
@@ -37,11 +37,11 @@ impl<'a, C> Model for Inside<'a, C> {
 
 impl<'a, C> Inside<'a, C> {
     // What the tree has below the directory.
-    pub(crate) fn of(tree: &'a Tree<C>, directory: &[Name]) -> Inside<'a, C>
+    pub(crate) fn of(tree: &'a Tree<C>, directory: &PathRef) -> Inside<'a, C>
         ensures { result ≡ part directory.now tree.now }
     {
         let _entries = tree.pairs();
-        Inside::new(tree.below(directory), directory.len())
+        Inside::new(tree.below(directory), directory.depth())
     }
 
     // The entries without so many first names each.
@@ -101,30 +101,21 @@ fn is_past<C>(names: &[&[u8]], entry: &(Path, Entry<C>), depth: usize) -> bool
 fn cmp_seen<C>(names: &[&[u8]], entry: &(Path, Entry<C>), depth: usize) -> Ordering
     ensures { result ≡ path_cmp (borrowed names.now) (seen_entry depth entry.now).0 }
 {
-    cmp_names(names, names_past(entry.0.names(), depth))
-}
-
-// The names past so many.
-fn names_past(names: &[Name], depth: usize) -> &[Name]
-    ensures { result.now ≡ drop depth names.now }
-{
-    if depth <= names.len() {
-        &names[depth..]
-    } else {
-        &[]
-    }
+    cmp_names(names, &entry.0.names().rest(depth))
 }
 
 // How names stand to a path's.
-fn cmp_names(names: &[&[u8]], path: &[Name]) -> Ordering
+fn cmp_names(names: &[&[u8]], path: &PathRef) -> Ordering
     ensures { result ≡ path_cmp (borrowed names.now) path.now }
 {
-    match (names, path) {
-        (names, []) => cmp_root(names),
-        ([], [_own, ..]) => Ordering::Less,
-        ([first, more @ ..], [own, below @ ..]) => match first.cmp(own.bytes()) {
-            Ordering::Equal => cmp_names(more, below),
-            other => other,
+    match path.split_first() {
+        None => cmp_root(names),
+        Some((own, below)) => match names {
+            [] => Ordering::Less,
+            [first, more @ ..] => match first.cmp(own) {
+                Ordering::Equal => cmp_names(more, &below),
+                other => other,
+            },
         },
     }
 }

@@ -1,25 +1,25 @@
 //! The search for images: which extensions and portable services a host has, where they are, and what they are.
 //!
-//! [`find`] looks through the search directories of a class and gives each image, mask and image file once. Contracts say
-//! what it finds as a set: of each stem the usable entry that counts first. [`why_broken`] says what is amiss with one
-//! image. [`host_release`] reads the host's own release file. The crates that merge, attach and update images stand on
-//! this one.
+//! [`find`] looks through the search directories of a class and gives each image, mask and image file once, and where the
+//! release file of an image that can be used is. Contracts say what it finds as a set: of each stem the usable entry that
+//! counts first. [`why_broken`] says why one image cannot be used. [`host_release`] reads the host's own release file. The
+//! crates that merge, attach and update images stand on this one.
 #![tactic(auto)]
 
 mod content;
 mod directories;
 mod ending;
+mod extension_release;
 mod finding;
 mod found;
+mod found_image;
 mod image;
 mod inside;
 pub mod laws;
 mod leading;
 mod pick;
 mod release;
-mod row;
 mod search;
-mod seat;
 mod stem;
 mod usable;
 mod version;

@@ -2,24 +2,27 @@
 ghost use Rattle.std.specs.Prelude.{◌≡◌, ◌↔◌, ◌++◌, ◌∷◌, ℕ, List, [], IsTrue, IfOk};
 ghost use Rattle.std.specs.Option.{option_map};
 ghost use Rattle.std.specs.Ordering.{is_gt};
+ghost use Rattle.std.specs.List.{AllByRecursion};
+ghost use Rattle.ext_text.specs.Name.{IsName};
+ghost use Rattle.ext_text.specs.Path.{path_parts};
 ghost use Rattle.ext_walk.specs.Walk.{Ends};
-ghost use Rattle.ext_find.specs.Leads.{LeadsToDirectory};
+ghost use Rattle.ext_walk.specs.Leads.{LeadsToDirectory};
+ghost use Rattle.ext_walk.specs.Row.{Stands};
 ghost use Rattle.ext_find.specs.Pick.{CandidateAt, Picks, better_of, candidate_cmp};
-ghost use Rattle.ext_find.specs.Row.{Stands};
 
 use crate::content::is_link;
-use crate::leading::{directory_at, joined};
-use crate::row::{Next, next_name};
+use crate::leading::joined;
 use crate::version::version_after;
-use ext_text::{Arch, Name, OutOfMemory, Path};
+use ext_text::{Arch, OutOfMemory, Path, PathRef};
 use ext_tree::Tree;
 use ext_vers::order;
+use ext_walk::{Next, directory_at, next_name};
 use std::alloc::Global;
 
 // A candidate: its name, and the version that this names.
 #[derive(Clone, Copy)]
 pub struct Candidate<'a> {
-    pub(crate) name: &'a Name,
+    pub(crate) name: &'a [u8],
     pub(crate) version: &'a [u8],
 }
 
@@ -29,9 +32,9 @@ pub(crate) fn pick<'a, C>(
     base: &'a Tree<C>,
     arch: Arch,
     path: &Path,
-    directory: &[Name],
+    directory: &PathRef,
     stem: &[u8],
-) -> Result<Option<&'a Name>, OutOfMemory>
+) -> Result<Option<&'a [u8]>, OutOfMemory>
     requires { Ends base.now path.now directory.now }
     ensures { IfOk result (Picks base.now arch path.now stem.now) }
 {
@@ -53,7 +56,7 @@ pub(crate) fn pick<'a, C>(
 }
 
 // The candidate's name.
-fn name_of<'a>(candidate: Option<Candidate<'a>>) -> Option<&'a Name>
+fn name_of<'a>(candidate: Option<Candidate<'a>>) -> Option<&'a [u8]>
     ensures { result ≡ option_map (λ c. c.name) candidate.entry }
 {
     match candidate {
@@ -84,7 +87,7 @@ fn exceeds(new: Candidate, old: Candidate) -> bool
     ensures { result ≡ is_gt (candidate_cmp (new.entry.version.now, new.entry.name.now) (old.entry.version.now, old.entry.name.now)) }
 {
     order(new.version, old.version)
-        .then_with(|| new.name.bytes().cmp(old.name.bytes()))
+        .then_with(|| new.name.cmp(old.name))
         .is_gt()
 }
 
@@ -98,13 +101,15 @@ fn candidate_at<'a, C>(
     next: &Next<'a, C>,
 ) -> Result<Option<Candidate<'a>>, OutOfMemory>
     requires { Stands base.now next.now }
-    ensures { (directory : List (List ℕ)) (stem : List ℕ) → Ends base.now path.now directory → next.now.entry.now.0 ≡ directory ++ next.now.name.now ∷ [] → start.now ≡ stem ++ 95 ∷ [] → IfOk result (CandidateAt base.now arch path.now stem next.now.name.now) }
+    ensures { (directory : List (List ℕ)) (stem : List ℕ) → Ends base.now path.now directory → next.now.entry.now.0
+        ≡ directory ++ next.now.name.now ∷ [] → start.now ≡ stem ++ 95 ∷ []
+        → IfOk result (CandidateAt base.now arch path.now stem next.now.name.now) }
 {
     let name = next.name;
-    match version_after(name.bytes(), start, arch) {
+    match version_after(name, start, arch) {
         None => Ok(None),
         Some(version) => {
-            if leads_at(alloc, base, path.names(), next)? {
+            if leads_at(alloc, base, &path.names(), next)? {
                 Ok(Some(Candidate { name, version }))
             } else {
                 Ok(None)
@@ -117,11 +122,13 @@ fn candidate_at<'a, C>(
 fn leads_at<C>(
     alloc: Global,
     base: &Tree<C>,
-    path: &[Name],
+    path: &PathRef,
     next: &Next<C>,
 ) -> Result<bool, OutOfMemory>
     requires { Stands base.now next.now }
-    ensures { (directory : List (List ℕ)) → Ends base.now path.now directory → next.now.entry.now.0 ≡ directory ++ next.now.name.now ∷ [] → IfOk result (λ leads. IsTrue leads ↔ LeadsToDirectory base.now (path.now ++ next.now.name.now ∷ [])) }
+    ensures { (directory : List (List ℕ)) → Ends base.now path.now directory → next.now.entry.now.0 ≡ directory
+        ++ next.now.name.now ∷ [] → IfOk result (λ leads. IsTrue leads
+        ↔ LeadsToDirectory base.now (path.now ++ next.now.name.now ∷ [])) }
 {
     let _entries = base.pairs();
     let (_path, entry) = next.entry;
@@ -132,27 +139,31 @@ fn leads_at<C>(
     }
 }
 
-// The same; the name is looked for.
+// Whether the name below the path leads to a directory, where it has to be looked for.
 fn leads_below<C>(
     alloc: Global,
     base: &Tree<C>,
-    path: &[Name],
-    name: &Name,
+    path: &PathRef,
+    name: &[u8],
 ) -> Result<bool, OutOfMemory>
+    requires { IsName name.now }
     ensures { IfOk result (λ leads. IsTrue leads ↔ LeadsToDirectory base.now (path.now ++ name.now ∷ [])) }
 {
-    let names = names_below(alloc, path, name)?;
-    Ok(directory_at(alloc, base, names.as_slice())?.is_some())
+    let text = text_below(alloc, path, name)?;
+    let names = PathRef::of_text(text.as_slice());
+    Ok(directory_at(alloc, base, &names)?.is_some())
 }
 
-// The names of the path, and the name.
-fn names_below(alloc: Global, path: &[Name], name: &Name) -> Result<Vec<Name>, OutOfMemory>
-    ensures { IfOk result (λ names. names.items ≡ path.now ++ name.now ∷ []) }
+// The text of the path's names and of the name, which need not be within the limits of a path.
+fn text_below(alloc: Global, path: &PathRef, name: &[u8]) -> Result<Vec<u8>, OutOfMemory>
+    requires { IsName name.now }
+    ensures parts { IfOk result (λ text. path_parts text.items ≡ path.now ++ name.now ∷ []) }
+    ensures names { IfOk result (λ text. AllByRecursion IsName (path_parts text.items)) }
 {
-    let mut names = Vec::with_capacity(alloc, path.len().saturating_add(1))?;
-    'names: for upper in path {
-        names.push(upper.copy()?)?;
+    let upper = path.text();
+    if upper.is_empty() {
+        return Ok(Vec::from_slice(alloc, name)?);
     }
-    names.push(name.copy()?)?;
-    Ok(names)
+    let above = joined(alloc, upper, b"/")?;
+    joined(alloc, above.as_slice(), name)
 }

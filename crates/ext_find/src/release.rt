@@ -2,12 +2,12 @@
 ghost use Rattle.std.specs.Prelude.{◌≤◌, IfOk, IsTrue, Some};
 ghost use Rattle.ext_tree.specs.Tree.{lookup};
 ghost use Rattle.ext_walk.specs.Walk.{parts};
-ghost use Rattle.ext_find.specs.HostRelease.{ContentAt, IsContent, ReadsHeld, ReadsHost, ReleaseFileAt, ServesAll};
+ghost use Rattle.ext_host.specs.Planning.{ServesAll};
+ghost use Rattle.ext_find.specs.HostRelease.{ContentAt, IsContent, ReadsHeld, ReadsHost, ReleaseFileAt};
 
-use crate::leading::entry_at;
 use ext_host::{Held, Shelf, ShelfErr};
 use ext_release::{Release, ReleaseErr, read_release};
-use ext_text::{Name, OutOfMemory};
+use ext_text::{OutOfMemory, PathRef};
 use ext_tree::{Entry, Tree};
 use ext_walk::end_of_text;
 use std::alloc::Global;
@@ -43,15 +43,15 @@ impl From<OutOfMemory> for FindErr {
 
 impl From<ShelfErr> for FindErr {
     ghost use Rattle.std.specs.Prelude.{◌≡◌};
-    ghost use Rattle.ext_find.specs.HostRelease.{of_shelf};
+    ghost use Rattle.ext_find.specs.HostRelease.{find_err_of_shelf};
 
-    ghost from_gives = { λ failed e. e ≡ of_shelf failed };
+    ghost from_gives = { λ failed e. e ≡ find_err_of_shelf failed };
 
     fn from(failed: ShelfErr) -> FindErr {
         match failed {
             ShelfErr::OutOfMemory => FindErr::OutOfMemory,
             ShelfErr::Fault => FindErr::Shelf(failed),
-            ShelfErr::Damaged { .. } => FindErr::Shelf(failed),
+            ShelfErr::Damaged(_) => FindErr::Shelf(failed),
         }
     }
 }
@@ -74,9 +74,12 @@ impl From<ReleaseErr> for FindErr {
 /// the base. `None` exactly where neither does. After os-release(5).
 ///
 /// # Errors
-/// `BadHostRelease` with the first faulty line of that file; `Shelf` where the shelf does not give its bytes, for the cause
-/// that it has: a fault only where its count rose, damage only of that file; `OutOfMemory`. Whatever the answer, the shelf
-/// tells the same afterwards.
+/// - `BadHostRelease` with the first faulty line of that file.
+/// - `Shelf` where the shelf does not give its bytes, for the cause that it has: a fault only where its count rose, damage
+///   only of that file.
+/// - `OutOfMemory`.
+///
+/// Whatever the answer, the shelf tells the same afterwards.
 pub fn host_release<H: Shelf>(
     alloc: Global,
     base: &Tree<Held>,
@@ -123,17 +126,17 @@ fn content_of<'a, C>(
     ensures { IfOk result (ContentAt base.now (parts text.now)) }
 {
     let _entries = base.pairs();
-    match end_of_text(alloc, base, &[], text)? {
+    match end_of_text(alloc, base, &PathRef::root(), text)? {
         None => Ok(None),
-        Some(end) => Ok(content_at(base, end)),
+        Some(end) => Ok(content_at(base, &end)),
     }
 }
 
 // What is known of the bytes of a file that stands there.
-fn content_at<'a, C>(base: &'a Tree<C>, names: &[Name]) -> Option<&'a C>
+fn content_at<'a, C>(base: &'a Tree<C>, names: &PathRef) -> Option<&'a C>
     ensures { IsContent (lookup base.now names.now) result }
 {
-    match entry_at(base, names) {
+    match base.entry_at(names) {
         None => None,
         Some(entry) => content(entry),
     }

@@ -59,11 +59,11 @@ impl Eq for Stem {
 impl PartialOrd for Stem {
     ghost use Rattle.std.specs.Prelude.{Some};
     ghost use Rattle.ext_vers.specs.Version.{order_of};
-    ghost use Rattle.ext_find.specs.Order.{stems_po};
+    ghost use Rattle.ext_vers.specs.Order.{orders_po};
 
     ghost partial_cmp = { λ a b. Some (order_of a b) };
 
-    ghost laws = { stems_po };
+    ghost laws = { orders_po };
 
     fn partial_cmp(&self, other: &Stem) -> Option<Ordering> {
         Some(self.cmp(other))
@@ -73,7 +73,7 @@ impl PartialOrd for Stem {
 impl Ord for Stem {
     ghost use Rattle.std.proofs.Common.{refl};
     ghost use Rattle.ext_vers.specs.Version.{order_of};
-    ghost use Rattle.ext_find.specs.Order.{orders_total, stems_ties};
+    ghost use Rattle.ext_vers.specs.Order.{orders_total, orders_ties};
 
     ghost cmp = { order_of };
 
@@ -81,7 +81,7 @@ impl Ord for Stem {
 
     ghost matches_partial_cmp = { λ a b. refl };
 
-    ghost matches_eq = { stems_ties };
+    ghost matches_eq = { orders_ties };
 
     fn cmp(&self, other: &Stem) -> Ordering {
         ext_vers::order(self.name.bytes(), other.name.bytes())

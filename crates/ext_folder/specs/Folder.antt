@@ -7,6 +7,7 @@ use Rattle.ext_disk.specs.declared.list_err.ListErr.{ListErr}
 use Rattle.ext_disk.specs.declared.list_err.ListErr.TheVariants.{Failed, OutOfMemory}
 use Rattle.ext_depot.specs.Depot.{DepotState}
 
+-- what contracts see of a real folder: how often a call failed
 pub record FolderView : Type 0 where
   -- the folder's path in the system
   pub root : List ℕ
@@ -18,8 +19,8 @@ abbrev pub disk_state : FolderView → DiskState
 disk_state folder = record { told = None; faults = folder.faults }
 
 -- what it is as a depot
-abbrev pub depot_state : FolderView → DepotState
-depot_state folder = record { contents = None; faults = folder.faults }
+abbrev pub folder_depot_state : FolderView → DepotState
+folder_depot_state folder = record { contents = None; faults = folder.faults }
 
 -- the folder after a call that was done, or one that failed, which is counted
 abbrev pub counted : FolderView → Bool → FolderView

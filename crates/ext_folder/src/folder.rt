@@ -11,18 +11,18 @@ use crate::trouble::Trouble;
 use crate::ways::Ways;
 use ext_disk::Kind;
 use ext_io::{Failed, next_count};
-use ext_lines::grown;
-use ext_text::{Name, OutOfMemory, Path, Text};
+use ext_lines::allocated;
+use ext_text::{OutOfMemory, Path, PathRef, Text};
 use std::fs::{Files, Metadata};
 use std::io::ErrorKind;
 use std::marker::Model;
 use std::{fs, io};
 
-/// A folder of the system, and how often a call on it failed. The folder itself may be a link to one; what is done with links
-/// below it is chosen where it is made. A file is opened only where it was found to be one, since opening a pipe would wait for
-/// its other end.
+/// A folder of the system, and how often a call on it failed. The folder itself may be a link to one. What is done with
+/// links below it is chosen where it is made. A file is opened only where it was found to be one, since opening a pipe would
+/// wait for its other end.
 ///
-/// The file that is read stays open until its end was read, or another one is; a read that goes on where the last one ended
+/// The file that is read stays open until its end was read, or another one is. A read that goes on where the last one ended
 /// asks the system for nothing else.
 #[derive(Drop)]
 pub(crate) struct Folder<R: Files> {
@@ -69,7 +69,7 @@ impl<R: Files> Folder<R> {
     }
 
     /// What came of a call of this name at a path, which is counted where it was not done.
-    pub(crate) fn settle<T>(
+    pub(crate) fn count_outcome<T>(
         &mut self,
         call: &'static str,
         path: &Path,
@@ -120,8 +120,8 @@ impl<R: Files> Folder<R> {
         ensures { self.new ≡ self.old }
     {
         let location = location(&self.root, path)?;
-        if let (Links::Refused, Some((_last, folders))) = (self.links, path.names().split_last()) {
-            self.need_way(location.as_str(), folders)?;
+        if let (Links::Refused, Some((folders, _last))) = (self.links, path.names().split_last()) {
+            self.need_way(location.as_str(), &folders)?;
         }
         Ok(location)
     }
@@ -130,21 +130,21 @@ impl<R: Files> Folder<R> {
     pub(crate) fn location_below_root(&mut self, path: &Path) -> Result<String, FolderErr>
         ensures { self.new ≡ self.old }
     {
-        if path.names().is_empty() {
+        if path.is_root() {
             return Err(FolderErr::IsRoot);
         }
         self.location(path)
     }
 
     // That a link stands on the way to a location through these folders is a fault.
-    fn need_way(&mut self, location: &str, folders: &[Name]) -> Result<(), FolderErr>
+    fn need_way(&mut self, location: &str, folders: &PathRef) -> Result<(), FolderErr>
         ensures { self.new ≡ self.old }
     {
         let whole = match location.rsplit_once('/') {
             Some((whole, _last)) => whole,
             None => location,
         };
-        if !folders.is_empty() && !self.ways.has(whole) && self.are_folders(location, folders)? {
+        if !folders.is_root() && !self.ways.has(whole) && self.are_folders(location, folders)? {
             self.keep_way(whole)?;
         }
         Ok(())
@@ -153,16 +153,16 @@ impl<R: Files> Folder<R> {
     fn keep_way(&mut self, folder: &str) -> Result<(), OutOfMemory>
         ensures { self.new ≡ self.old }
     {
-        let folder = grown(String::from_str(*self.root.allocator(), folder))?;
+        let folder = allocated(String::from_str(*self.root.allocator(), folder))?;
         self.ways.keep(folder);
         Ok(())
     }
 
     // Whether each of the names at the beginning of a location below the root is that of a folder; a link is a fault.
-    fn are_folders(&self, location: &str, names: &[Name]) -> Result<bool, FolderErr> {
-        let mut end = self.root.len();
-        for name in names {
-            end = end.saturating_add(name.bytes().len()).saturating_add(1);
+    fn are_folders(&self, location: &str, names: &PathRef) -> Result<bool, FolderErr> {
+        let below = self.root.len().saturating_add(1);
+        for count in 0..names.depth() {
+            let end = below.saturating_add(names.prefix(count + 1).text().len());
             let folder = location.get(..end).unwrap_or(location);
             if self.entry(folder)?.need_no_link()? != Entry::Folder {
                 return Ok(false);
@@ -240,7 +240,7 @@ impl<R: Files> Folder<R> {
         ensures { self.new ≡ self.old }
     {
         match self.found.take() {
-            Some(found) if !path.names().is_empty() && self.is_location(found.as_str(), path) => {
+            Some(found) if !path.is_root() && self.is_location(found.as_str(), path) => {
                 Some(found)
             }
             _ => None,

@@ -61,31 +61,31 @@ impl<R: Files> FolderDepot<R> {
 }
 
 impl<R: Files> Depot for FolderDepot<R> {
-    ghost use Rattle.ext_folder.specs.Folder.{depot_state};
+    ghost use Rattle.ext_folder.specs.Folder.{folder_depot_state};
 
-    ghost state = { depot_state };
+    ghost state = { folder_depot_state };
 
     /// Beside what each depot promises: exactly the calls that fail are counted.
     fn size(&mut self, path: &Path) -> Result<Option<u64>, Failed>
-        ensures size { IfOk result (IsSizeAt (depot_state self.old) path.now) }
-        ensures kept { IsKept (depot_state self.old) (depot_state self.new) }
+        ensures size { IfOk result (IsSizeAt (folder_depot_state self.old) path.now) }
+        ensures kept { IsKept (folder_depot_state self.old) (folder_depot_state self.new) }
         ensures cause { HasCause result self.old.faults self.new.faults }
         ensures exact { self.new ≡ counted self.old (is_ok result) }
     {
         let size = self.file_size(path);
-        self.folder.settle("look at", path, size)
+        self.folder.count_outcome("look at", path, size)
     }
 
     /// Beside what each depot promises: exactly the calls that fail are counted.
     fn read(&mut self, path: &Path, at: u64, buf: &mut [u8]) -> Result<usize, Failed>
-        requires { MayRead (depot_state self.old) path.now (length buf.old) }
+        requires { MayRead (folder_depot_state self.old) path.now (length buf.old) }
         ensures within { IfOk result (λ count. count ≤ length buf.new) }
-        ensures moved { IfOk result (IsReadOf (depot_state self.old) path.now at buf.new) }
-        ensures kept { IsKept (depot_state self.old) (depot_state self.new) }
+        ensures moved { IfOk result (IsReadOf (folder_depot_state self.old) path.now at buf.new) }
+        ensures kept { IsKept (folder_depot_state self.old) (folder_depot_state self.new) }
         ensures cause { HasCause result self.old.faults self.new.faults }
         ensures exact { self.new ≡ counted self.old (is_ok result) }
     {
         let count = self.folder.read(path, at, buf);
-        self.folder.settle("read", path, count)
+        self.folder.count_outcome("read", path, count)
     }
 }

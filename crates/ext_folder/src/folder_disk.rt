@@ -20,18 +20,18 @@ use std::{fs, io};
 
 /// A folder of the system as a disk, which has what stands in it and below it. It tells nothing of that.
 ///
-/// The folder itself may be a link to one. A link below it is a file of its text's length, which `kind` tells, `list` names and
-/// `remove` takes away; every other call at it, or through it, is a fault that touches nothing behind it. An entry that is
+/// The folder itself may be a link to one. A link below it is a file of its text's length, which `kind` tells, `list` names
+/// and `remove` takes away. Every other call at it, or through it, is a fault that touches nothing past it. An entry that is
 /// neither a file nor a folder is a fault everywhere. Everything that the system refuses is one, and so is a failed
 /// allocation, but in `list`.
 ///
 /// A system may tell once alone that it could not write something back, so a sync that failed is remembered: every later sync,
 /// rename and removal fails.
 ///
-/// The file that was made or appended to last stays open until it is synced, or until another one is made or appended to;
-/// and the file that is read, until its end was read or another one is. Where something was renamed or removed meanwhile, a
-/// file that stayed open is used again only where its path still leads to it: so no call of the disk changes what another one
-/// comes to. What others do to the folder meanwhile is not looked for.
+/// The file that was made or appended to last stays open until it is synced, or until another one is made or appended to.
+/// The file that is read stays open until its end was read or another one is. Where something was renamed or removed
+/// meanwhile, a file that stayed open is used again only where its path still leads to it. So no call of the disk changes
+/// what another one gives. What others do to the folder meanwhile is not looked for.
 #[derive(Drop)]
 pub struct FolderDisk<R: Files> {
     folder: Folder<R>,
@@ -308,7 +308,7 @@ impl<R: Files> Disk for FolderDisk<R> {
         ensures exact { self.new ≡ counted self.old (is_ok result) }
     {
         let kind = self.folder.look(path);
-        self.folder.settle("look at", path, kind)
+        self.folder.count_outcome("look at", path, kind)
     }
 
     /// Beside what each disk promises: exactly the calls that fail are counted.
@@ -321,7 +321,7 @@ impl<R: Files> Disk for FolderDisk<R> {
         ensures exact { self.new ≡ counted self.old (is_ok result) }
     {
         let count = self.folder.read(path, at, buf);
-        self.folder.settle("read", path, count)
+        self.folder.count_outcome("read", path, count)
     }
 
     /// Beside what each disk promises: exactly the calls that fail are counted.
@@ -332,7 +332,7 @@ impl<R: Files> Disk for FolderDisk<R> {
         ensures exact { self.new ≡ counted self.old (is_ok result) }
     {
         let outcome = self.try_make_dir(path);
-        self.folder.settle("make", path, outcome)
+        self.folder.count_outcome("make", path, outcome)
     }
 
     /// Beside what each disk promises: exactly the calls that fail are counted.
@@ -343,7 +343,7 @@ impl<R: Files> Disk for FolderDisk<R> {
         ensures exact { self.new ≡ counted self.old (is_ok result) }
     {
         let outcome = self.try_make_file(path);
-        self.folder.settle("make", path, outcome)
+        self.folder.count_outcome("make", path, outcome)
     }
 
     /// Beside what each disk promises: exactly the calls that fail are counted.
@@ -354,7 +354,7 @@ impl<R: Files> Disk for FolderDisk<R> {
         ensures exact { self.new ≡ counted self.old (is_ok result) }
     {
         let outcome = self.try_append(path, bytes);
-        self.folder.settle("write", path, outcome)
+        self.folder.count_outcome("write", path, outcome)
     }
 
     /// Beside what each disk promises: exactly the calls that fail are counted.
@@ -365,7 +365,7 @@ impl<R: Files> Disk for FolderDisk<R> {
         ensures exact { self.new ≡ counted self.old (is_ok result) }
     {
         let outcome = self.try_sync_file(path);
-        self.folder.settle("sync", path, outcome)
+        self.folder.count_outcome("sync", path, outcome)
     }
 
     /// Beside what each disk promises: exactly the calls that fail are counted.
@@ -376,7 +376,7 @@ impl<R: Files> Disk for FolderDisk<R> {
         ensures exact { self.new ≡ counted self.old (is_ok result) }
     {
         let outcome = self.try_sync_dir(dir);
-        self.folder.settle("sync", dir, outcome)
+        self.folder.count_outcome("sync", dir, outcome)
     }
 
     /// Beside what each disk promises: exactly the calls that fail are counted.
@@ -387,7 +387,7 @@ impl<R: Files> Disk for FolderDisk<R> {
         ensures exact { self.new ≡ counted self.old (is_ok result) }
     {
         let outcome = self.try_rename(from, to);
-        self.folder.settle("rename", from, outcome)
+        self.folder.count_outcome("rename", from, outcome)
     }
 
     /// Beside what each disk promises: exactly the calls that fail are counted.
@@ -398,6 +398,6 @@ impl<R: Files> Disk for FolderDisk<R> {
         ensures exact { self.new ≡ counted self.old (is_ok result) }
     {
         let outcome = self.try_remove(path);
-        self.folder.settle("remove", path, outcome)
+        self.folder.count_outcome("remove", path, outcome)
     }
 }

@@ -8,7 +8,7 @@ ghost use Rattle.ext_text.specs.Path.{IsPath};
 use crate::folder::Folder;
 use crate::folder_err::FolderErr;
 use crate::noted::read_some;
-use ext_lines::grown;
+use ext_lines::allocated;
 use ext_text::{Name, NameErr, Names, Path, PathErr};
 use std::alloc::Global;
 use std::collections::BTreeSet;
@@ -22,8 +22,8 @@ impl<R: Files> Folder<R> {
     /// The names in a folder, in byte order.
     ///
     /// # Errors
-    /// No folder stands there, the system refused, or a listed name is no name or makes no path with the folder; and
-    /// `OutOfMemory`.
+    /// - No folder stands there, the system refused, or a listed name is no name or makes no path with the folder.
+    /// - `OutOfMemory`.
     pub(crate) fn list(&mut self, alloc: Global, dir: &Path) -> Result<Names, FolderErr>
         ensures same { self.new ≡ self.old }
         ensures sorted { IfOk result (IsStrictlySortedBy bytes_cmp) }
@@ -31,9 +31,9 @@ impl<R: Files> Folder<R> {
     {
         let mut location = self.location(dir)?;
         self.need_folder(location.as_str())?;
-        if dir.names().is_empty() {
+        if dir.is_root() {
             // Only with a slash is a link to a folder followed, as the root may be.
-            grown(location.push('/'))?;
+            allocated(location.push('/'))?;
         }
         let mut listed = self.rt.open_dir(location.as_str())?;
         in_order(alloc, dir, names_of(alloc, &mut listed)?)
@@ -44,7 +44,7 @@ impl<R: Files> Folder<R> {
 // where the folder changes meanwhile.
 fn names_of<D: Read>(alloc: Global, listed: &mut D) -> Result<BTreeSet<Name>, FolderErr> {
     let mut names = BTreeSet::new(alloc);
-    let mut piece = grown(vec![in alloc; 0u8; PIECE])?;
+    let mut piece = allocated(vec![in alloc; 0u8; PIECE])?;
     'pieces: for _ in 0..u64::MAX {
         let count = read_some(listed, &mut piece)?;
         if count == 0 {
@@ -59,7 +59,7 @@ fn names_of<D: Read>(alloc: Global, listed: &mut D) -> Result<BTreeSet<Name>, Fo
 fn add_names(alloc: Global, names: &mut BTreeSet<Name>, piece: &[u8]) -> Result<(), FolderErr> {
     'names: for bytes in piece.split(|byte| *byte == 0) {
         if !is_left_out(bytes) {
-            grown(names.insert(read_name(alloc, bytes)?))?;
+            allocated(names.insert(read_name(alloc, bytes)?))?;
         }
     }
     Ok(())

@@ -1,6 +1,6 @@
 use crate::folder_err::FolderErr;
-use ext_lines::grown;
-use ext_text::{Name, OutOfMemory, Path};
+use ext_lines::allocated;
+use ext_text::{OutOfMemory, Path};
 
 // How many bytes most paths have at most, with the slash before them.
 const USUAL_BYTES: usize = 64;
@@ -19,7 +19,7 @@ pub(crate) fn location(root: &Vec<u8>, path: &Path) -> Result<String, FolderErr>
 /// # Errors
 /// As of `location`.
 pub(crate) fn folder_location(root: &Vec<u8>) -> Result<String, FolderErr> {
-    text_of(grown(root.clone())?)
+    text_of(allocated(root.clone())?)
 }
 
 fn text_of(bytes: Vec<u8>) -> Result<String, FolderErr> {
@@ -34,7 +34,7 @@ fn joined(root: &Vec<u8>, path: &Path) -> Result<Vec<u8>, OutOfMemory> {
     let room = root.len().saturating_add(USUAL_BYTES);
     let mut bytes = Vec::with_capacity(*root.allocator(), room)?;
     bytes.extend_from_slice(root)?;
-    if !bytes.is_empty() && !path.names().is_empty() {
+    if !bytes.is_empty() && !path.is_root() {
         bytes.push(b'/')?;
         path.append_to(&mut bytes)?;
     }
@@ -44,28 +44,19 @@ fn joined(root: &Vec<u8>, path: &Path) -> Result<Vec<u8>, OutOfMemory> {
 /// Whether a location is that of a path below a root.
 pub(crate) fn is_location(location: &str, root: &[u8], path: &Path) -> bool {
     match location.as_bytes().strip_prefix(root) {
-        Some(rest) => are_below(rest, path.names()),
+        Some(rest) => is_below(rest, path),
         None => false,
     }
 }
 
-// Whether a text is that of names, each after a slash.
-fn are_below(text: &[u8], names: &[Name]) -> bool {
-    let mut rest = text;
-    for name in names {
-        match after_name(rest, name) {
-            Some(after) => rest = after,
-            None => return false,
-        }
+// Whether a text is that of a path after a slash; the empty text is the root's.
+fn is_below(text: &[u8], path: &Path) -> bool {
+    if path.is_root() {
+        return text.is_empty();
     }
-    rest.is_empty()
-}
-
-// What follows a slash and a name at the start of a text.
-fn after_name<'a>(text: &'a [u8], name: &Name) -> Option<&'a [u8]> {
     match text.strip_prefix(b"/".as_slice()) {
-        Some(rest) => rest.strip_prefix(name.bytes()),
-        None => None,
+        Some(rest) => rest == path.text(),
+        None => false,
     }
 }
 

@@ -14,8 +14,8 @@ use std::alloc::Global;
 use std::fs::Files;
 use std::marker::Model;
 
-/// A folder of the system as a disk that is locked from the first call on. Where the lock can't be taken, each call is a fault;
-/// else it is the disk in it. The lock is held until the disk goes.
+/// A folder of the system as a disk that is locked from the first call on. Where the lock can't be taken, each call is a
+/// fault. Else it is the disk in it. The lock is held until the disk goes.
 #[derive(Drop)]
 pub struct LockedDisk<R: Files, N: Notice + Drop> {
     disk: FolderDisk<R>,

@@ -1,4 +1,4 @@
-use ext_lines::grown;
+use ext_lines::allocated;
 use ext_text::OutOfMemory;
 use std::alloc::Global;
 use std::fs;
@@ -31,7 +31,7 @@ fn is_below<R: Files>(
     folder: &str,
     other: &Metadata,
 ) -> Result<bool, OutOfMemory> {
-    let mut location = grown(String::from_str(alloc, folder))?;
+    let mut location = allocated(String::from_str(alloc, folder))?;
     let mut below = None;
     for _ in 0..MOST_FOLDERS {
         let found = fs::metadata(rt, location.as_str()).ok();
@@ -41,7 +41,7 @@ fn is_below<R: Files>(
             Some(found) if below != Some(inode(&found)) => below = Some(inode(&found)),
             _ => return Ok(false),
         }
-        grown(location.push_str("/.."))?;
+        allocated(location.push_str("/.."))?;
     }
     Ok(false)
 }

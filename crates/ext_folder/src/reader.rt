@@ -32,7 +32,7 @@ impl<R: Files> Reader<R> {
         self.location.as_str()
     }
 
-    /// Whether a read comes to that byte next.
+    /// Whether that byte is the one that is read next.
     pub(crate) fn is_next(&self, at: u64) -> bool {
         self.at == at
     }

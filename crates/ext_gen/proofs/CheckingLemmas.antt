@@ -27,12 +27,10 @@ use Rattle.ext_host.specs.declared.host.Host.{Host}
 use Rattle.ext_host.specs.declared.past.Past.{Past}
 use Rattle.ext_host.specs.declared.shelf.ShelfErr.{ShelfErr}
 use Rattle.ext_host.specs.declared.shelf.ShelfErr.TheVariants.{OutOfMemory, Fault, Damaged}
-use Rattle.ext_store.specs.HeldFiles.{body_told, told_at, IsListed}
-use Rattle.ext_store.specs.Names.{home_path}
-use Rattle.ext_store.proofs.ForCallers.{rose_since}
-use Rattle.ext_gen.specs.Checking.{AreChecked, AreCounted, AreServed, IsAsListed, IsServed, MayCheckPast, StopsAt, files_in, files_of, files_of_both, files_of_past, sizes_of}
-
--- ---- a disk that rests
+use Rattle.ext_store_files.specs.HeldFiles.{body_told, told_at, IsListed}
+use Rattle.ext_store_files.specs.Names.{home_path}
+use Rattle.ext_store_files.proofs.ForCallers.{rose_since}
+use Rattle.ext_gen.specs.Checking.{AreChecked, AreCounted, AreServed, IsAsListed, IsServed, MayCheckPast, StopsAtFile, files_in, files_of, files_of_both, files_of_past, sizes_of}
 
 told_rests : (a b : DiskState) (body : Body) → Rests a b → body_told b body ≡ body_told a body
 told_rests a b (Here bytes) rests = refl
@@ -49,9 +47,7 @@ all_listed_before a b (x ∷ files) rests all = (listed_before a b x rests all.0
 cause_before : (a b c : DiskState) (held : HeldFile) (e : ShelfErr) → Rests a b → ShelfCause b.faults c.faults (body_told b held.body) held e → ShelfCause a.faults c.faults (body_told a held.body) held e
 cause_before a b c held OutOfMemory rests cause = tt
 cause_before a b c held Fault rests cause = rose_since _ _ _ rests.count cause
-cause_before a b c held (Damaged home listed found) rests cause = subst (λ t. ShelfCause b.faults c.faults t held (Damaged home listed found)) (told_rests a b held.body rests) cause
-
--- ---- one list of files after another
+cause_before a b c held (Damaged damage) rests cause = subst (λ t. ShelfCause b.faults c.faults t held (Damaged damage)) (told_rests a b held.body rests) cause
 
 -- both were checked
 pub checked_more : (a b : DiskState) (xs ys : List HeldFile) (one two whole : ℕ × ℕ) → Rests a b → AreChecked a xs one → AreChecked b ys two
@@ -72,7 +68,7 @@ pub checked_none : (a : DiskState) → AreChecked a [] (0, 0)
 checked_none a = record { listed = tt; number = refl; bytes = refl }
 
 -- the second was not, and others that follow
-pub stops_later : (a b c : DiskState) (xs ys : List HeldFile) (counts : ℕ × ℕ) (e : ShelfErr) → Rests a b → AreChecked a xs counts → StopsAt b c ys e → StopsAt a c (xs ++ ys) e
+pub stops_later : (a b c : DiskState) (xs ys : List HeldFile) (counts : ℕ × ℕ) (e : ShelfErr) → Rests a b → AreChecked a xs counts → StopsAtFile b c ys e → StopsAtFile a c (xs ++ ys) e
 stops_later a b c xs ys counts e rests first stops = record {
   before = xs ++ stops.before;
   held = stops.held;
@@ -83,7 +79,7 @@ stops_later a b c xs ys counts e rests first stops = record {
 }
 
 -- the first was not, and others follow
-pub stops_early : (a c : DiskState) (ys zs : List HeldFile) (e : ShelfErr) → StopsAt a c ys e → StopsAt a c (ys ++ zs) e
+pub stops_early : (a c : DiskState) (ys zs : List HeldFile) (e : ShelfErr) → StopsAtFile a c ys e → StopsAtFile a c (ys ++ zs) e
 stops_early a c ys zs e stops = record {
   before = stops.before;
   held = stops.held;
@@ -94,10 +90,8 @@ stops_early a c ys zs e stops = record {
 }
 
 -- one file was not
-pub stops_at_once : (a c : DiskState) (held : HeldFile) (e : ShelfErr) → ShelfCause a.faults c.faults (body_told a held.body) held e → StopsAt a c (held ∷ []) e
+pub stops_at_once : (a c : DiskState) (held : HeldFile) (e : ShelfErr) → ShelfCause a.faults c.faults (body_told a held.body) held e → StopsAtFile a c (held ∷ []) e
 stops_at_once a c held e cause = record { before = []; held = held; after = []; is = refl; listed = tt; cause = cause }
-
--- ---- in a loop over a list of which each element has files
 
 split_here : {X : Type 0} (xs : List X) (i : ℕ) (x : X) → i < length xs → x ≡ get_or xs i x → xs ≡ take i xs ++ x ∷ drop (suc i) xs
 split_here xs i x inside is = sym (take-append-drop i xs) ∙ ap (λ l. take i xs ++ l) (drop-cons xs i x inside ∙ ap (λ y. y ∷ drop (suc i) xs) (sym is))
@@ -135,8 +129,6 @@ pub bytes_fit : (whole xs ys zs : List HeldFile) (m n most : ℕ) → whole ≡ 
 bytes_fit whole xs ys zs m n most is first second bound =
     let all = ap sizes_of is ∙ sum_by-append (λ (held : HeldFile). held.stamp.size) xs (ys ++ zs) in
     omega (arith, sum_by-append (λ (held : HeldFile). held.stamp.size) ys zs)
-
--- ---- how many files there are, and how many bytes
 
 one_entry : (e : Entry HeldFile) → length (files_in e) ≤ 1
 one_entry (Dir mode) = omega arith
@@ -202,8 +194,6 @@ sizes_of-pasts (past ∷ pasts) may =
     let one = sizes_of-both past.root past.lower may.0.counted in
     omega (arith, sum_by-append (λ (held : HeldFile). held.stamp.size) (files_of_past past) (flat_map files_of_past pasts))
 
--- ---- which files are served
-
 slice_get-after : {X : Type 0} (seen : List X) (x : X) (xs : List X) → slice_get (seen ++ x ∷ xs) (length seen) ≡ Some x
 slice_get-after [] x xs = refl
 slice_get-after (f ∷ seen) x xs = slice_get-after seen x xs
@@ -236,8 +226,6 @@ first_among x xs = (0, omega arith, refl)
 pub second_among : {X : Type 0} (x y : X) (xs : List X) → Contains (x ∷ y ∷ xs) y
 second_among x y xs = (1, omega arith, refl)
 
--- ---- both trees
-
 -- the sums of both are in range
 pub both_files : (root lower pairs more : Entries HeldFile) (m n : ℕ) → AreCounted root lower → pairs ≡ root → more ≡ lower → m ≡ length (files_of pairs) → n ≡ length (files_of more) → m + n < 2 ^ 64
 both_files root lower pairs more m n counted first second seen under =
@@ -253,8 +241,6 @@ both_bytes root lower pairs more m n counted first second seen under =
     let two = under ∙ ap (λ l. sizes_of (files_of l)) second in
     omega (arith, sum_by-append (λ (held : HeldFile). held.stamp.size) (files_of root) (files_of lower))
 
--- ---- past trees
-
 pub few_of_pasts : (pasts : List Past) → AllByRecursion MayCheckPast pasts → length pasts ≤ 16 → length (flat_map files_of_past pasts) < 2 ^ 64
 few_of_pasts pasts may few = let count = length-pasts pasts may in omega arith
 
@@ -264,8 +250,6 @@ small_of_pasts pasts may few = let sum = sizes_of-pasts pasts may in omega arith
 -- what a host has at one time is within its limits
 counted_tree : (hierarchies : Hierarchies) (tree : HostTree) → IsValidTree hierarchies tree → AreCounted tree.root tree.lower
 counted_tree hierarchies tree valid = record { entries = valid.limits.entries; bytes = valid.limits.bytes }
-
--- ---- which trees are served
 
 served_first : (xs ys : List (Entries HeldFile)) → AreServed (xs ++ ys) → AreServed xs
 served_first xs ys served = λ held is. served held (record { tree = is.tree; among = Contains-append_left xs ys is.tree is.among; file = is.file })

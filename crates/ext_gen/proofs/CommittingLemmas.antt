@@ -6,46 +6,42 @@ use Rattle.std.specs.Result.{is_ok}
 use Rattle.std.specs.Ordering.{eq_by_cmp}
 use Rattle.ext_text.specs.Path.{path_cmp}
 use Rattle.ext_io.specs.declared.failed.Failed.{Failed}
-use Rattle.ext_disk.specs.Disk.{Node, Place, Places, Told, DiskState, BothTold, Swing, IsDisk, is_file, is_firm, now, root_place}
-use Rattle.ext_disk.specs.Calls.{Allows, IsWithin, MayCall, Does, DoesTold, reached_place, rename, renamed, settled_in, sync_dir}
-use Rattle.ext_store.specs.Names.{current_name, current_path, index_path, next_name, next_path}
-use Rattle.ext_store.specs.Writing.{is_at}
-use Rattle.ext_store.proofs.ForCallers.{told_map, told_then}
+use Rattle.ext_disk.specs.Disk.{Node, Place, Places, Told, DiskState, BothTold, Swing, IsDisk, is_file, is_durable, now, root_place}
+use Rattle.ext_disk.specs.Calls.{Allows, IsWithin, MayCall, Does, DoesTold, reached_place, rename, renamed, synced_in, sync_dir}
+use Rattle.ext_store_files.specs.Names.{current_name, current_path, index_path, next_name, next_path}
+use Rattle.ext_store_files.specs.Writing.{is_at}
+use Rattle.ext_store_files.proofs.ForCallers.{told_map, told_then}
 use Rattle.ext_gen.specs.Opened.{Generation}
 use Rattle.ext_gen.specs.Store.{State, Points, Stands}
-use Rattle.ext_gen.specs.Sound.{IsBase, base_folder, base_index, base_home, IsBaseFirm, MayHold, as_now, as_before, as_after, with_current, IsEither, IsFirmly, IsReady, StandsSince}
+use Rattle.ext_gen.specs.Sound.{IsGenerationPath, base_folder, base_index, base_home, IsBaseDurable, MayHold, as_now, as_before, as_after, with_current, IsEither, IsDurably, IsReady, StandsSince}
 use Rattle.ext_gen.specs.Committing.{HasPaths, IsOneOf, IsPrepared, MayCommit, PointsAfter, SwitchesNow, is_switched, CommitsTold}
-use Rattle.ext_gen.proofs.StatesLemmas.{either_left, firmly_is_either, firmly_marks, stands_same, stands_with, stands_without, with_apart}
-use Rattle.ext_gen.proofs.FirmLemmas.{stands_since_then}
-use Rattle.ext_gen.proofs.SettlingLemmas.{firm_settled, firmly_settled, no_more, now_settled, settle_works, within_since}
-
--- ---- the paths of a switch
+use Rattle.ext_gen.proofs.StatesLemmas.{either_left, durably_is_either, durably_marks, stands_same, stands_with, stands_without, with_apart}
+use Rattle.ext_gen.proofs.DurableLemmas.{stands_since_then}
+use Rattle.ext_gen.proofs.SyncingLemmas.{durable_synced, durably_synced, no_more, now_synced, sync_works, within_since}
 
 -- what a state rests on lies apart from `next`, too
-next_apart : (s : State) (p : List (List ℕ)) → IsBase s p → eq_by_cmp path_cmp next_path p ≡ false
+next_apart : (s : State) (p : List (List ℕ)) → IsGenerationPath s p → eq_by_cmp path_cmp next_path p ≡ false
 next_apart s p (base_folder g contents) = refl
 next_apart s p (base_index g contents) = refl
 next_apart s p (base_home g contents held kept is) = refl
 
--- a path on which a state rests is as before, and as firm
-base_switched : (moved : Bool) (d : Places) (s : State) (p : List (List ℕ)) → IsBase s p → renamed next_path current_path moved d p ≡ d p
+-- a path on which a state rests is as before, and as durable
+base_switched : (moved : Bool) (d : Places) (s : State) (p : List (List ℕ)) → IsGenerationPath s p → renamed next_path current_path moved d p ≡ d p
 base_switched moved d s p (base_folder g contents) = refl
 base_switched moved d s p (base_index g contents) = refl
 base_switched moved d s p (base_home g contents held kept is) = refl
 
-firm_switched : (moved : Bool) (d : Places) (s : State) (p : List (List ℕ)) → IsBase s p → is_firm (renamed next_path current_path moved d) p ≡ is_firm d p
-firm_switched moved d s p (base_folder g contents) = refl
-firm_switched moved d s p (base_index g contents) = refl
-firm_switched moved d s p (base_home g contents held kept is) = refl
+durable_switched : (moved : Bool) (d : Places) (s : State) (p : List (List ℕ)) → IsGenerationPath s p → is_durable (renamed next_path current_path moved d) p ≡ is_durable d p
+durable_switched moved d s p (base_folder g contents) = refl
+durable_switched moved d s p (base_index g contents) = refl
+durable_switched moved d s p (base_home g contents held kept is) = refl
 
-base_firm_switched : (moved : Bool) (d : Places) (s : State) → IsBaseFirm d s → IsBaseFirm (renamed next_path current_path moved d) s
-base_firm_switched moved d s firm = λ p base. firm_switched moved d s p base ∙ firm p base
+base_durable_switched : (moved : Bool) (d : Places) (s : State) → IsBaseDurable d s → IsBaseDurable (renamed next_path current_path moved d) s
+base_durable_switched moved d s durable = λ p base. durable_switched moved d s p base ∙ durable p base
 
-current_switched : (moved : Bool) (d : Places) → is_firm d next_path ≡ true → is_firm d current_path ≡ true
+current_switched : (moved : Bool) (d : Places) → is_durable d next_path ≡ true → is_durable d current_path ≡ true
     → renamed next_path current_path moved d current_path ≡ reached_place moved true (d next_path) (d current_path)
 current_switched moved d next current = ap (λ b. reached_place moved b (d next_path) (d current_path)) (and_from _ _ next current)
-
--- ---- what `current` may have then
 
 pub swing_before : (to from : Option Node) (o : Option Swing) (w : Swing) → o ≡ Some (record { before = to; after = from }) → o ≡ Some w → w.before ≡ to
 swing_before to from o w is some = ap (λ (x : Option Swing). elim x [ None ↦ to | Some v ↦ v.before ]) (sym some ∙ is)
@@ -58,19 +54,17 @@ reached_node true from to = inr refl
 reached_node false from to = inl refl
 
 -- what it had, or what `next` had
-held_switched : (moved : Bool) (d : Places) → is_firm d next_path ≡ true → is_firm d current_path ≡ true → (content : Option Node)
+held_switched : (moved : Bool) (d : Places) → is_durable d next_path ≡ true → is_durable d current_path ≡ true → (content : Option Node)
     → MayHold (renamed next_path current_path moved d) content → (content ≡ (d current_path).node) ⊎ (content ≡ (d next_path).node)
 held_switched moved d next current content as_now =
     subst (λ (x : Place). (x.node ≡ (d current_path).node) ⊎ (x.node ≡ (d next_path).node)) (sym (current_switched moved d next current))
     (reached_node moved (d next_path) (d current_path))
 held_switched moved d next current content (as_before w is) =
-    inl (swing_before (d current_path).node (d next_path).node (renamed next_path current_path moved d current_path).swung w
-    (ap (λ (x : Place). x.swung) (current_switched moved d next current)) is)
+    inl (swing_before (d current_path).node (d next_path).node (renamed next_path current_path moved d current_path).unsynced_rename w
+    (ap (λ (x : Place). x.unsynced_rename) (current_switched moved d next current)) is)
 held_switched moved d next current content (as_after w is) =
-    inr (swing_after (d current_path).node (d next_path).node (renamed next_path current_path moved d current_path).swung w
-    (ap (λ (x : Place). x.swung) (current_switched moved d next current)) is)
-
--- ---- states
+    inr (swing_after (d current_path).node (d next_path).node (renamed next_path current_path moved d current_path).unsynced_rename w
+    (ap (λ (x : Place). x.unsynced_rename) (current_switched moved d next current)) is)
 
 -- with something else at `current`, what stands at each path on which a state rests is the same
 stands_switched : (moved : Bool) (d : Places) (s : State) (content : Option Node)
@@ -82,36 +76,34 @@ stands_switched moved d s content stands =
     stands
 
 either_of : (s u : State) (d : Places) (moved : Bool) → IsReady s u d → (content : Option Node) → (content ≡ (d current_path).node) ⊎ (content ≡ (d next_path).node)
-    → (Stands (with_current content (now (renamed next_path current_path moved d))) s × IsBaseFirm (renamed next_path current_path moved d) s)
-    ⊎ (Stands (with_current content (now (renamed next_path current_path moved d))) u × IsBaseFirm (renamed next_path current_path moved d) u)
+    → (Stands (with_current content (now (renamed next_path current_path moved d))) s × IsBaseDurable (renamed next_path current_path moved d) s)
+    ⊎ (Stands (with_current content (now (renamed next_path current_path moved d))) u × IsBaseDurable (renamed next_path current_path moved d) u)
 either_of s u d moved ready content (inl before) =
     inl (
-      stands_switched moved d s content (subst (λ x. Stands (with_current x (now d)) s) (sym before) (stands_with (now d) s ready.firmly.stands)),
-      base_firm_switched moved d s ready.firmly.base,
+      stands_switched moved d s content (subst (λ x. Stands (with_current x (now d)) s) (sym before) (stands_with (now d) s ready.durably.stands)),
+      base_durable_switched moved d s ready.durably.base,
     )
 either_of s u d moved ready content (inr after) =
     inr (
       stands_switched moved d u content (subst (λ x. Stands (with_current x (now d)) u) (sym after) ready.coming),
-      base_firm_switched moved d u ready.base,
+      base_durable_switched moved d u ready.base,
     )
 
 -- a rename of `next`, done or failed, leaves one of both states
 pub ready_switched : (s u : State) (d : Places) (moved : Bool) → IsReady s u d → IsEither s u (renamed next_path current_path moved d)
 ready_switched s u d moved ready =
-    let marks = firmly_marks s d ready.firmly in
-    let is = current_switched moved d ready.next ready.firmly.current in
+    let marks = durably_marks s d ready.durably in
+    let is = current_switched moved d ready.next ready.durably.current in
     record {
-      settled = ap (λ (x : Place). x.loose) is ∙ marks.0;
-      hard = ap (λ (x : Place). x.soft) is ∙ marks.1;
-      each = λ content may. either_of s u d moved ready content (held_switched moved d ready.next ready.firmly.current content may);
+      synced = ap (λ (x : Place). x.unsynced_name) is ∙ marks.0;
+      hard = ap (λ (x : Place). x.unsynced_bytes) is ∙ marks.1;
+      each = λ content may. either_of s u d moved ready content (held_switched moved d ready.next ready.durably.current content may);
     }
 
--- ---- within the rename
-
 either_renaming : (s u : State) (d x : Places) → IsReady s u d → (x ≡ d) ⊎ IsWithin (rename next_path current_path) d x → IsEither s u x
-either_renaming s u d x ready (inl same) = subst (IsEither s u) (sym same) (firmly_is_either s u d ready.firmly)
+either_renaming s u d x ready (inl same) = subst (IsEither s u) (sym same) (durably_is_either s u d ready.durably)
 either_renaming s u d x ready (inr (inl is)) = subst (IsEither s u) (sym is) (ready_switched s u d true ready)
-either_renaming s u d x ready (inr (inr (inl same))) = subst (IsEither s u) (sym same) (firmly_is_either s u d ready.firmly)
+either_renaming s u d x ready (inr (inr (inl same))) = subst (IsEither s u) (sym same) (durably_is_either s u d ready.durably)
 either_renaming s u d x ready (inr (inr (inr half))) = subst (IsEither s u) (sym half.1) (ready_switched s u d half.0 ready)
 
 root_renaming : (d x : Places) → (x ≡ d) ⊎ IsWithin (rename next_path current_path) d x → x [] ≡ d []
@@ -125,53 +117,49 @@ renaming_since s u done d e disk ready does =
     within_since (IsOneOf s u) (rename next_path current_path) done d e disk does
     (λ x t is left. either_left s u x t (root_renaming d.places x is ∙ disk.tree.root) (either_renaming s u d.places x ready is) left)
 
--- ---- within the settling
+none_unsynced_rename : (o : Option Swing) (w : Swing) → o ≡ None → o ≡ Some w → ⊥
+none_unsynced_rename o w still some = false≢true (ap is_some (sym still) ∙ ap is_some some)
 
-none_swung : (o : Option Swing) (w : Swing) → o ≡ None → o ≡ Some w → ⊥
-none_swung o w still some = false≢true (ap is_some (sym still) ∙ ap is_some some)
+held_synced : (d : Places) (content : Option Node) → MayHold (synced_in [] d) content → content ≡ (d current_path).node
+held_synced d content as_now = refl
+held_synced d content (as_before w is) = absurd (none_unsynced_rename _ w refl is)
+held_synced d content (as_after w is) = absurd (none_unsynced_rename _ w refl is)
 
-held_settled : (d : Places) (content : Option Node) → MayHold (settled_in [] d) content → content ≡ (d current_path).node
-held_settled d content as_now = refl
-held_settled d content (as_before w is) = absurd (none_swung _ w refl is)
-held_settled d content (as_after w is) = absurd (none_swung _ w refl is)
-
-stands_settled : (d : Places) (s : State) (content : Option Node) → content ≡ (d current_path).node → Stands (with_current (d current_path).node (now d)) s → Stands (with_current content (now (settled_in [] d))) s
-stands_settled d s content is stands =
-    stands_same (with_current (d current_path).node (now d)) (with_current content (now (settled_in [] d))) s is
-    (λ p base. with_apart content (now (settled_in [] d)) s p base ∙ now_settled [] d p ∙ sym (with_apart (d current_path).node (now d) s p base))
+stands_synced : (d : Places) (s : State) (content : Option Node) → content ≡ (d current_path).node → Stands (with_current (d current_path).node (now d)) s → Stands (with_current content (now (synced_in [] d))) s
+stands_synced d s content is stands =
+    stands_same (with_current (d current_path).node (now d)) (with_current content (now (synced_in [] d))) s is
+    (λ p base. with_apart content (now (synced_in [] d)) s p base ∙ now_synced [] d p ∙ sym (with_apart (d current_path).node (now d) s p base))
     stands
 
-settled_side : (s u : State) (d : Places) (content : Option Node) → content ≡ (d current_path).node
-    → (Stands (with_current (d current_path).node (now d)) s × IsBaseFirm d s) ⊎ (Stands (with_current (d current_path).node (now d)) u × IsBaseFirm d u)
-    → (Stands (with_current content (now (settled_in [] d))) s × IsBaseFirm (settled_in [] d) s) ⊎ (Stands (with_current content (now (settled_in [] d))) u × IsBaseFirm (settled_in [] d) u)
-settled_side s u d content is (inl one) = inl (stands_settled d s content is one.0, λ p base. firm_settled [] d p (one.1 p base))
-settled_side s u d content is (inr other) = inr (stands_settled d u content is other.0, λ p base. firm_settled [] d p (other.1 p base))
+synced_side : (s u : State) (d : Places) (content : Option Node) → content ≡ (d current_path).node
+    → (Stands (with_current (d current_path).node (now d)) s × IsBaseDurable d s) ⊎ (Stands (with_current (d current_path).node (now d)) u × IsBaseDurable d u)
+    → (Stands (with_current content (now (synced_in [] d))) s × IsBaseDurable (synced_in [] d) s) ⊎ (Stands (with_current content (now (synced_in [] d))) u × IsBaseDurable (synced_in [] d) u)
+synced_side s u d content is (inl one) = inl (stands_synced d s content is one.0, λ p base. durable_synced [] d p (one.1 p base))
+synced_side s u d content is (inr other) = inr (stands_synced d u content is other.0, λ p base. durable_synced [] d p (other.1 p base))
 
-either_settled : (s u : State) (d : Places) → IsEither s u d → IsEither s u (settled_in [] d)
-either_settled s u d either = record {
-  settled = refl;
+either_synced : (s u : State) (d : Places) → IsEither s u d → IsEither s u (synced_in [] d)
+either_synced s u d either = record {
+  synced = refl;
   hard = either.hard;
-  each = λ content may. settled_side s u d content (held_settled d content may) (either.each _ as_now);
+  each = λ content may. synced_side s u d content (held_synced d content may) (either.each _ as_now);
 }
 
-either_settling : (s u : State) (d x : Places) → IsEither s u d → (x ≡ d) ⊎ IsWithin (sync_dir []) d x → IsEither s u x
-either_settling s u d x either (inl same) = subst (IsEither s u) (sym same) either
-either_settling s u d x either (inr (inl is)) = subst (IsEither s u) (sym is) (either_settled s u d either)
-either_settling s u d x either (inr (inr (inl same))) = subst (IsEither s u) (sym same) either
-either_settling s u d x either (inr (inr (inr half))) = absurd half
+either_syncing : (s u : State) (d x : Places) → IsEither s u d → (x ≡ d) ⊎ IsWithin (sync_dir []) d x → IsEither s u x
+either_syncing s u d x either (inl same) = subst (IsEither s u) (sym same) either
+either_syncing s u d x either (inr (inl is)) = subst (IsEither s u) (sym is) (either_synced s u d either)
+either_syncing s u d x either (inr (inr (inl same))) = subst (IsEither s u) (sym same) either
+either_syncing s u d x either (inr (inr (inr half))) = absurd half
 
-root_settling : (d x : Places) → (x ≡ d) ⊎ IsWithin (sync_dir []) d x → x [] ≡ d []
-root_settling d x (inl same) = ap (λ (f : Places). f []) same
-root_settling d x (inr (inl is)) = ap (λ (f : Places). f []) is
-root_settling d x (inr (inr (inl same))) = ap (λ (f : Places). f []) same
-root_settling d x (inr (inr (inr half))) = absurd half
+root_syncing : (d x : Places) → (x ≡ d) ⊎ IsWithin (sync_dir []) d x → x [] ≡ d []
+root_syncing d x (inl same) = ap (λ (f : Places). f []) same
+root_syncing d x (inr (inl is)) = ap (λ (f : Places). f []) is
+root_syncing d x (inr (inr (inl same))) = ap (λ (f : Places). f []) same
+root_syncing d x (inr (inr (inr half))) = absurd half
 
-settling_since : (s u : State) (done : Bool) (d e : Told) → IsDisk d → IsEither s u d.places → DoesTold (sync_dir []) done d e → StandsSince (IsOneOf s u) e d.clock
-settling_since s u done d e disk either does =
+syncing_since : (s u : State) (done : Bool) (d e : Told) → IsDisk d → IsEither s u d.places → DoesTold (sync_dir []) done d e → StandsSince (IsOneOf s u) e d.clock
+syncing_since s u done d e disk either does =
     within_since (IsOneOf s u) (sync_dir []) done d e disk does
-    (λ x t is left. either_left s u x t (root_settling d.places x is ∙ disk.tree.root) (either_settling s u d.places x either is) left)
-
--- ---- the whole switch, told
+    (λ x t is left. either_left s u x t (root_syncing d.places x is ∙ disk.tree.root) (either_syncing s u d.places x either is) left)
 
 renamed_is : (d e : Told) → DoesTold (rename next_path current_path) true d e → e.places ≡ renamed next_path current_path true d.places
 renamed_is d e does = does.ends.0
@@ -189,43 +177,41 @@ err_of T e = Err e
 pub rename_failed : (T : Type 0) (f : Failed) (d e : Told) → IsDisk d → DoesTold (rename next_path current_path) false d e → CommitsTold (err_of T f) d e
 rename_failed T f d e disk does = λ s u ready. (failed_either s u d e ready does, renaming_since s u false d e disk ready does)
 
--- it was done, and settling the store folder failed
-pub settling_failed : (T : Type 0) (f : Failed) (c d e : Told) → IsDisk c → IsDisk d → DoesTold (rename next_path current_path) true c d → DoesTold (sync_dir []) false d e → CommitsTold (err_of T f) c e
-settling_failed T f c d e before after renames settles = λ s u ready.
+-- it was done, and syncing the store folder failed
+pub syncing_failed : (T : Type 0) (f : Failed) (c d e : Told) → IsDisk c → IsDisk d → DoesTold (rename next_path current_path) true c d → DoesTold (sync_dir []) false d e → CommitsTold (err_of T f) c e
+syncing_failed T f c d e before after renames syncs = λ s u ready.
     let either = either_renaming s u c.places d.places ready (inr (inl (renamed_is c d renames))) in (
-      subst (λ (x : Told). IsEither s u x.places) (sym settles.ends) either,
-      stands_since_then (IsOneOf s u) d e c.clock settles.later (renaming_since s u true c d before ready renames) (settling_since s u false d e after either settles),
+      subst (λ (x : Told). IsEither s u x.places) (sym syncs.ends) either,
+      stands_since_then (IsOneOf s u) d e c.clock syncs.later (renaming_since s u true c d before ready renames) (syncing_since s u false d e after either syncs),
     )
 
-renamed_firmly : (s u : State) (d : Places) → d [] ≡ root_place → IsReady s u d → IsFirmly u (settled_in [] (renamed next_path current_path true d))
-renamed_firmly s u d root ready =
-    let is = current_switched true d ready.next ready.firmly.current in
-    firmly_settled u (renamed next_path current_path true d) root (ap (λ (x : Place). x.soft) is ∙ (firmly_marks s d ready.firmly).1)
+renamed_durably : (s u : State) (d : Places) → d [] ≡ root_place → IsReady s u d → IsDurably u (synced_in [] (renamed next_path current_path true d))
+renamed_durably s u d root ready =
+    let is = current_switched true d ready.next ready.durably.current in
+    durably_synced u (renamed next_path current_path true d) root (ap (λ (x : Place). x.unsynced_bytes) is ∙ (durably_marks s d ready.durably).1)
     (stands_without (now (renamed next_path current_path true d)) u
     (subst (λ (x : Place). Stands (with_current x.node (now (renamed next_path current_path true d))) u) (sym is) (stands_switched true d u (d next_path).node ready.coming)))
-    (base_firm_switched true d u ready.base)
+    (base_durable_switched true d u ready.base)
 
 -- both were done
 pub switch_done : {T : Type 0} (x : T) (c d e : Told) → IsDisk c → IsDisk d → DoesTold (rename next_path current_path) true c d → DoesTold (sync_dir []) true d e → CommitsTold (ok_of Failed x) c e
-switch_done x c d e before after renames settles = λ s u ready.
+switch_done x c d e before after renames syncs = λ s u ready.
     let either = either_renaming s u c.places d.places ready (inr (inl (renamed_is c d renames))) in (
-      subst (IsFirmly u) (sym (settles.ends.0 ∙ ap (settled_in []) (renamed_is c d renames))) (renamed_firmly s u c.places before.tree.root ready),
-      stands_since_then (IsOneOf s u) d e c.clock settles.later (renaming_since s u true c d before ready renames) (settling_since s u true d e after either settles),
+      subst (IsDurably u) (sym (syncs.ends.0 ∙ ap (synced_in []) (renamed_is c d renames))) (renamed_durably s u c.places before.tree.root ready),
+      stands_since_then (IsOneOf s u) d e c.clock syncs.later (renaming_since s u true c d before ready renames) (syncing_since s u true d e after either syncs),
     )
-
--- ---- what stands
 
 reached_moved : (b : Bool) (from to : Place) → (reached_place true b from to).node ≡ from.node
 reached_moved true from to = refl
 reached_moved false from to = refl
 
-points_switched : (g : Generation) (d : Places) → IsPrepared g d → Points (now (settled_in [] (renamed next_path current_path true d))) (Some g)
+points_switched : (g : Generation) (d : Places) → IsPrepared g d → Points (now (synced_in [] (renamed next_path current_path true d))) (Some g)
 points_switched g d prepared =
     let coming = prepared.coming in
-    let there = now_settled [] (renamed next_path current_path true d) in
+    let there = now_synced [] (renamed next_path current_path true d) in
     record {
       number = coming.number;
-      current = there current_path ∙ reached_moved (is_firm d next_path && is_firm d current_path) (d next_path) (d current_path) ∙ coming.current;
+      current = there current_path ∙ reached_moved (is_durable d next_path && is_durable d current_path) (d next_path) (d current_path) ∙ coming.current;
       bytes = coming.bytes;
       index = there (index_path g.number) ∙ coming.index;
       reads = coming.reads;
@@ -253,8 +239,6 @@ switches_then c d e one two =
     let first = one.appended in
     let second = two.appended in
     record { now = λ p out. two.now p out ∙ one.now p out; appended = omega arith }
-
--- ---- the calls, told or not
 
 two_names : next_path ≡ current_path → ⊥
 two_names same = false≢true (ap (λ (p : List (List ℕ)). eq_by_cmp path_cmp next_path p) (sym same) ∙ refl)
@@ -286,9 +270,7 @@ points_at g None (Some d) z may one two = absurd one
 points_at g (Some c) None z may one two = absurd one
 points_at g (Some c) (Some d) None may one two = tt
 points_at g (Some c) (Some d) (Some e) may one two =
-    subst (λ (x : Places). Points (now x) (Some g)) (sym (two.ends.0 ∙ ap (settled_in []) one.ends.0)) (points_switched g c.places may)
-
--- ---- the whole switch, told or not
+    subst (λ (x : Places). Points (now x) (Some g)) (sym (two.ends.0 ∙ ap (synced_in []) one.ends.0)) (points_switched g c.places may)
 
 stops_of_two : {T : Type 0} (result : Result T Failed) (done : Bool) (x y z : Option Told) → IfSome x IsDisk → IfSome y IsDisk
     → ((c d e : Told) → IsDisk c → IsDisk d → DoesTold (rename next_path current_path) true c d → DoesTold (sync_dir []) done d e → CommitsTold result c e)
@@ -319,20 +301,20 @@ stops_after_rename f old mid before renames = stops_of_one (err_of (Unit {0}) f)
 
 pub stops_after_both : (result : Result (Unit {0}) Failed) (old mid new : DiskState) → IfSome old.told IsDisk → IfSome mid.told IsDisk → Does (rename next_path current_path) old mid true
     → Does (sync_dir []) mid new (is_ok result) → BothTold (CommitsTold result) old.told new.told
-stops_after_both (Ok x) old mid new before after renames settles = stops_of_two (ok_of Failed x) true old.told mid.told new.told before after (switch_done x) renames.told settles.told
-stops_after_both (Err f) old mid new before after renames settles =
-    stops_of_two (err_of (Unit {0}) f) false old.told mid.told new.told before after (settling_failed (Unit {0}) f) renames.told settles.told
+stops_after_both (Ok x) old mid new before after renames syncs = stops_of_two (ok_of Failed x) true old.told mid.told new.told before after (switch_done x) renames.told syncs.told
+stops_after_both (Err f) old mid new before after renames syncs =
+    stops_of_two (err_of (Unit {0}) f) false old.told mid.told new.told before after (syncing_failed (Unit {0}) f) renames.told syncs.told
 
 pub points_after_both : (result : Result (Unit {0}) Failed) (old mid new : DiskState) (g : Generation) → MayCommit g old → Does (rename next_path current_path) old mid true
     → Does (sync_dir []) mid new (is_ok result) → PointsAfter result g new
-points_after_both (Ok x) old mid new g may renames settles = points_at g old.told mid.told new.told may renames.told settles.told
-points_after_both (Err f) old mid new g may renames settles = tt
+points_after_both (Ok x) old mid new g may renames syncs = points_at g old.told mid.told new.told may renames.told syncs.told
+points_after_both (Err f) old mid new g may renames syncs = tt
 
 pub now_after_rename : (done : Bool) (old mid : DiskState) → Does (rename next_path current_path) old mid done → BothTold SwitchesNow old.told mid.told
 now_after_rename done old mid renames = told_map (DoesTold (rename next_path current_path) done) SwitchesNow (rename_now done) old.told mid.told renames.told
 
 pub now_after_both : (done : Bool) (old mid new : DiskState) → Does (rename next_path current_path) old mid true → Does (sync_dir []) mid new done → BothTold SwitchesNow old.told new.told
-now_after_both done old mid new renames settles =
+now_after_both done old mid new renames syncs =
     told_then SwitchesNow SwitchesNow SwitchesNow switches_then old.told mid.told new.told
     (now_after_rename true old mid renames)
-    (told_map (DoesTold (sync_dir []) done) SwitchesNow (settle_works is_switched done) mid.told new.told settles.told)
+    (told_map (DoesTold (sync_dir []) done) SwitchesNow (sync_works is_switched done) mid.told new.told syncs.told)

@@ -1,5 +1,5 @@
 pub mod StatesLemmas
-pub mod FirmLemmas
+pub mod DurableLemmas
 pub mod PreparingListLemmas
 pub mod PreparingNeededLemmas
 pub mod PreparingIndexLemmas
@@ -16,7 +16,7 @@ pub mod PreparingLeftLemmas
 pub mod PreparingChangeLemmas
 pub mod PreparingAnswersLemmas
 pub mod PreparingReadyLemmas
-pub mod SettlingLemmas
+pub mod SyncingLemmas
 pub mod CommittingLemmas
 pub mod PointsLemmas
 pub mod OpeningLemmas

@@ -8,7 +8,7 @@ use Rattle.ext_host.specs.Valid.{IsValidHost}
 use Rattle.ext_host.specs.declared.body.Body.{Body}
 use Rattle.ext_host.specs.declared.body.Body.TheVariants.{Here, Kept, Depot}
 use Rattle.ext_index.specs.ValidIndex.{IsKeptUpTo, IsValidFor, IsWellFormed}
-use Rattle.ext_store.specs.HeldFiles.{is_served}
+use Rattle.ext_store_files.specs.HeldFiles.{is_served}
 use Rattle.ext_gen.specs.Opened.{Generation, IsOpened}
 use Rattle.ext_gen.specs.Store.{IsCurrent}
 use Rattle.ext_gen.specs.Checking.{AreServed}
@@ -17,9 +17,11 @@ use Rattle.ext_gen.specs.Checking.{AreServed}
 pub opened_is_valid_for : (g : Generation) → IsOpened g → IsValidFor g.number g.host
 opened_is_valid_for g opened = opened.index.2.valid
 
+-- the host of what was opened is valid
 pub opened_is_valid : (g : Generation) → IsOpened g → IsValidHost g.host
 opened_is_valid g opened = (opened_is_valid_for g opened).valid
 
+-- and its names and paths are names and paths
 pub opened_is_well_formed : (g : Generation) → IsOpened g → IsWellFormed g.host
 opened_is_well_formed g opened = opened.index.2.formed
 

@@ -1,28 +1,27 @@
--- Opening a store: what was read says what it points to, and the barrier before it makes it firm.
+-- Opening a store: what was read says what it points to, and the barrier before it makes it durable.
 use Rattle.std.proofs.Common.{◌≡◌, ◌≢◌, ◌⊎◌, ℕ, ◌<◌, ◌≤◌, Bool, true, false, cond, List, [], ◌∷◌, length, Option, Some, None, IfSome, Result, Ok, Err, refl, sym, ap, ◌∙◌, subst, inl, inr, arith, length-append}
 use Rattle.std.specs.Prelude.{nat_le}
 use Rattle.std.proofs.lemmas.Bool.{leb-false}
 use Rattle.std.proofs.lemmas.Fmt.{length-decimal-le}
 use Rattle.std.specs.Fmt.{decimal}
 use Rattle.ext_disk.specs.Disk.{Node, Tree, Places, Told, DiskState, BothTold, IsDisk, MayLeave, folder, file, now, root_place}
-use Rattle.ext_disk.specs.Calls.{Does, DoesTold, IsWithin, settled_in, sync_dir}
+use Rattle.ext_disk.specs.Calls.{Does, DoesTold, IsWithin, synced_in, sync_dir}
 use Rattle.ext_disk.specs.Since.{Rests}
-use Rattle.ext_store.specs.Names.{IsGeneration, current_path, current_text, index_path}
-use Rattle.ext_store.specs.Reading.{IsFoundAt, found_of}
-use Rattle.ext_store.specs.declared.reading.Found.{Found}
-use Rattle.ext_store.specs.declared.reading.Found.TheVariants.{TooLong, File}
+use Rattle.ext_store_files.specs.Names.{IsGeneration, current_path, current_text, index_path}
+use Rattle.ext_store_files.specs.Reading.{IsFoundAt, found_of}
+use Rattle.ext_store_files.specs.declared.reading.Found.{Found}
+use Rattle.ext_store_files.specs.declared.reading.Found.TheVariants.{TooLong, File}
+use Rattle.ext_store_files.specs.declared.fault.StoreFault.TheVariants.{OutOfMemory, DiskFault, DepotFault, Damaged}
 use Rattle.ext_gen.specs.Opened.{Generation}
 use Rattle.ext_gen.specs.Store.{State, generation_in, Points, Stands}
-use Rattle.ext_gen.specs.Sound.{IsFirmly, IsMember, IsSound, StandsSince}
+use Rattle.ext_gen.specs.Sound.{IsDurably, IsMember, IsSound, StandsSince}
 use Rattle.ext_gen.specs.Broken.{IsFaultyIndex, NamesNone}
 use Rattle.ext_gen.specs.Opening.{IndexOf, IndexSays, KeepsNow, NamedBy, NamesOf, NumberSays, OpenEnds, OpenSays, OpensTold, TextSays}
 use Rattle.ext_gen.specs.declared.errors.StoreErr.{StoreErr}
-use Rattle.ext_gen.specs.declared.errors.StoreErr.TheVariants.{OutOfMemory, DiskFault, DepotFault, Broken, Damaged, Mismatch, NotInDepot, Unfinished, Limit}
-use Rattle.ext_gen.proofs.StatesLemmas.{firmly_left, sound_left, sound_now, stands_points}
-use Rattle.ext_gen.proofs.SettlingLemmas.{firmly_settled, now_settled, within_since}
+use Rattle.ext_gen.specs.declared.errors.StoreErr.TheVariants.{Fault, Broken, Mismatch, NotInDepot, Unfinished, Limit}
+use Rattle.ext_gen.proofs.StatesLemmas.{durably_left, sound_left, sound_now, stands_points}
+use Rattle.ext_gen.proofs.SyncingLemmas.{durably_synced, now_synced, within_since}
 use Rattle.ext_gen.proofs.PointsLemmas.{one_generation}
-
--- ---- the number that `current` names
 
 -- no text of `current` has more than 13 bytes
 length-current_text : (n : ℕ) → IsGeneration n → length (current_text n) ≤ 13
@@ -67,18 +66,16 @@ pub number_says : (disk : DiskState) (path : List (List ℕ)) (found : Found) (r
     → NamesOf found r → IfSome disk.told (λ d. NumberSays (d.places current_path).node r)
 number_says disk path found r is at names = number_told disk.told found r (subst (λ p. IsFoundAt disk p 13 found) is at) names
 
--- ---- the index of a generation
-
 index_broken : (n : ℕ) (o : Option Node) → IsFaultyIndex n o 1 → (r : Result Generation StoreErr) → r ≡ Err (Broken 1) → IndexSays n o r
 index_broken n o faulty r is = subst (IndexSays n o) (sym is) faulty
 
 index_of_text : (n : ℕ) (text : List ℕ) (r : Result Generation StoreErr) → TextSays n text r → IndexSays n (Some (file text)) r
 index_of_text n text (Ok g) says = (says.0, (text, refl, says.1))
-index_of_text n text (Err OutOfMemory) says = tt
-index_of_text n text (Err DiskFault) says = tt
-index_of_text n text (Err DepotFault) says = absurd says
+index_of_text n text (Err (Fault OutOfMemory)) says = tt
+index_of_text n text (Err (Fault DiskFault)) says = tt
+index_of_text n text (Err (Fault DepotFault)) says = absurd says
 index_of_text n text (Err (Broken line)) says = says
-index_of_text n text (Err (Damaged home listed found)) says = absurd says
+index_of_text n text (Err (Fault (Damaged damage))) says = absurd says
 index_of_text n text (Err (Mismatch path listed found)) says = absurd says
 index_of_text n text (Err (NotInDepot path)) says = absurd says
 index_of_text n text (Err Unfinished) says = absurd says
@@ -103,48 +100,44 @@ pub index_says : (disk : DiskState) (path : List (List ℕ)) (n : ℕ) (found : 
     → IndexOf n found r → IfSome disk.told (λ d. IndexSays n (d.places (index_path n)).node r)
 index_says disk path n found r is at index = index_told disk.told n found r (subst (λ p. IsFoundAt disk p 134217728 found) is at) index
 
--- ---- the barrier
+same_now : (d : Places) → now (synced_in [] d) ≡ now d
+same_now d = λ i p. now_synced [] d p i
 
-same_now : (d : Places) → now (settled_in [] d) ≡ now d
-same_now d = λ i p. now_settled [] d p i
-
--- a tree that a stop within the settling leaves stands for a state for which the store might stand
-member_left : (s : State) (d x : Places) (t : Tree) → d [] ≡ root_place → IsSound d → IsMember d s → IsFirmly s (settled_in [] d) → (x ≡ d) ⊎ IsWithin (sync_dir []) d x → MayLeave x t
+-- a tree that a stop within the syncing leaves stands for a state for which the store might stand
+member_left : (s : State) (d x : Places) (t : Tree) → d [] ≡ root_place → IsSound d → IsMember d s → IsDurably s (synced_in [] d) → (x ≡ d) ⊎ IsWithin (sync_dir []) d x → MayLeave x t
     → (u : State) × IsMember d u × Stands t u
-member_left s d x t root sound member firmly (inl same) left = sound_left d t root sound (subst (λ f. MayLeave f t) same left)
-member_left s d x t root sound member firmly (inr (inl is)) left = (s, member, firmly_left s (settled_in [] d) t firmly (subst (λ f. MayLeave f t) is left))
-member_left s d x t root sound member firmly (inr (inr (inl same))) left = sound_left d t root sound (subst (λ f. MayLeave f t) same left)
-member_left s d x t root sound member firmly (inr (inr (inr half))) left = absurd half
+member_left s d x t root sound member durably (inl same) left = sound_left d t root sound (subst (λ f. MayLeave f t) same left)
+member_left s d x t root sound member durably (inr (inl is)) left = (s, member, durably_left s (synced_in [] d) t durably (subst (λ f. MayLeave f t) is left))
+member_left s d x t root sound member durably (inr (inr (inl same))) left = sound_left d t root sound (subst (λ f. MayLeave f t) same left)
+member_left s d x t root sound member durably (inr (inr (inr half))) left = absurd half
 
-pub settles_firmly : (d : Places) → d [] ≡ root_place → (sound : IsSound d) → IsFirmly (sound_now d sound).0 (settled_in [] d)
-settles_firmly d root sound =
+pub syncs_durably : (d : Places) → d [] ≡ root_place → (sound : IsSound d) → IsDurably (sound_now d sound).0 (synced_in [] d)
+syncs_durably d root sound =
     let one = sound_now d sound in
-    firmly_settled one.0 d root sound.hard one.1 one.2.firm
+    durably_synced one.0 d root sound.hard one.1 one.2.durable
 
-settles_since : (done : Bool) (d e : Told) → IsDisk d → DoesTold (sync_dir []) done d e → IsSound d.places → StandsSince (IsMember d.places) e d.clock
-settles_since done d e disk does sound =
+syncs_since : (done : Bool) (d e : Told) → IsDisk d → DoesTold (sync_dir []) done d e → IsSound d.places → StandsSince (IsMember d.places) e d.clock
+syncs_since done d e disk does sound =
     let one = sound_now d.places sound in
     within_since (IsMember d.places) (sync_dir []) done d e disk does
-    (λ x t is left. member_left one.0 d.places x t disk.tree.root sound one.2 (settles_firmly d.places disk.tree.root sound) is left)
+    (λ x t is left. member_left one.0 d.places x t disk.tree.root sound one.2 (syncs_durably d.places disk.tree.root sound) is left)
 
-ends_firmly : (result : Result (Option Generation) StoreErr) (d e : Told) (s : State) → Stands (now d.places) s → IsFirmly s e.places → OpenSays result (now d.places) → OpenEnds result d e
-ends_firmly (Ok answer) d e s stands firmly says = (s, one_generation (now d.places) (generation_in s) answer (stands_points (now d.places) s stands) says, stands, firmly)
-ends_firmly (Err x) d e s stands firmly says = inr (s, stands, firmly)
+ends_durably : (result : Result (Option Generation) StoreErr) (d e : Told) (s : State) → Stands (now d.places) s → IsDurably s e.places → OpenSays result (now d.places) → OpenEnds result d e
+ends_durably (Ok answer) d e s stands durably says = (s, one_generation (now d.places) (generation_in s) answer (stands_points (now d.places) s stands) says, stands, durably)
+ends_durably (Err x) d e s stands durably says = inr (s, stands, durably)
 
 -- the barrier was passed, and what is answered is what the store points to
 opens_told : (result : Result (Option Generation) StoreErr) (d e : Told) → IsDisk d → DoesTold (sync_dir []) true d e → OpenSays result (now d.places) → OpensTold result d e
 opens_told result d e disk does says = λ sound.
     let one = sound_now d.places sound in
     record {
-      ends = ends_firmly result d e one.0 one.1 (subst (IsFirmly one.0) (sym does.ends.0) (settles_firmly d.places disk.tree.root sound)) says;
-      since = settles_since true d e disk does sound;
+      ends = ends_durably result d e one.0 one.1 (subst (IsDurably one.0) (sym does.ends.0) (syncs_durably d.places disk.tree.root sound)) says;
+      since = syncs_since true d e disk does sound;
     }
 
 -- it failed
 stopped_told : (e : StoreErr) (c d : Told) → IsDisk c → DoesTold (sync_dir []) false c d → OpensTold (Err e) c d
-stopped_told e c d disk does = λ sound. record { ends = inl does.ends; since = settles_since false c d disk does sound }
-
--- ---- the same, told or not
+stopped_told e c d disk does = λ sound. record { ends = inl does.ends; since = syncs_since false c d disk does sound }
 
 said_before : (result : Result (Option Generation) StoreErr) (x y : Option Told) → BothTold (DoesTold (sync_dir []) true) x y → IfSome y (λ d. OpenSays result (now d.places)) → IfSome x (λ d. OpenSays result (now d.places))
 said_before result None None does says = tt
@@ -178,8 +171,6 @@ stopped_both e (Some c) (Some d) disk does = stopped_told e c d disk does
 -- one of which the barrier failed
 pub barrier_stops : (e : StoreErr) (old mid : DiskState) → IfSome old.told IsDisk → Does (sync_dir []) old mid false → BothTold (OpensTold (Err e)) old.told mid.told
 barrier_stops e old mid disk does = stopped_both e old.told mid.told disk does.told
-
--- ---- afterwards
 
 points_still : (answer : Option Generation) (x y : Option Told) → IfSome x (λ d. Points (now d.places) answer) → BothTold KeepsNow x y → IfSome y (λ e. Points (now e.places) answer)
 points_still answer None None points keeps = tt

@@ -7,15 +7,13 @@ use Rattle.ext_host.specs.declared.host.Host.{Host}
 use Rattle.ext_index.specs.Faulty.{IsFaulty}
 use Rattle.ext_index.specs.ValidIndex.{GivesIndex}
 use Rattle.ext_index.proofs.ForCallers.{faulty_is_none, one_faulty_line, one_host}
-use Rattle.ext_store.specs.Names.{IsGeneration, current_path, current_text, generation_name, generation_of, index_path}
-use Rattle.ext_store.proofs.ForCallers.{named_generation}
+use Rattle.ext_store_files.specs.Names.{IsGeneration, current_path, current_text, generation_name, generation_of, index_path}
+use Rattle.ext_store_files.proofs.ForCallers.{named_generation}
 use Rattle.ext_gen.specs.Opened.{Generation}
 use Rattle.ext_gen.specs.Store.{State, generation_in, IsCurrent, Points, Stands}
 use Rattle.ext_gen.specs.Sound.{IsSound}
 use Rattle.ext_gen.specs.Broken.{NamesNone, IsFaultyIndex, IsBroken}
 use Rattle.ext_gen.proofs.StatesLemmas.{sound_now, stands_points}
-
--- ---- numbers, files and what names them
 
 last_number : (n : ℕ) → IsGeneration n → n ≤ 4294967295
 last_number n is = let below : n < 4294967296 = is.1 in omega arith
@@ -33,8 +31,6 @@ one_text : (m n : ℕ) → IsGeneration m → IsGeneration n → current_text m 
 one_text m n first second same =
     let names : generation_name m ≡ generation_name n = append_cancel_right (generation_name m) (generation_name n) (10 ∷ []) same in
     ap (λ (o : Option ℕ). unwrap_or o 0) (sym (named_generation m first) ∙ ap generation_of names ∙ named_generation n second)
-
--- ---- one generation
 
 abbrev given_of : Generation → Host × ℕ
 given_of g = (g.host, g.text)
@@ -68,8 +64,6 @@ one_generation t (Some g) (Some h) one two = ap Some (same_current t g h one two
 -- two states for which a tree stands have one generation
 pub one_state : (t : Tree) (s u : State) → Stands t s → Stands t u → generation_in s ≡ generation_in u
 one_state t s u one two = one_generation t (generation_in s) (generation_in u) (stands_points t s one) (stands_points t u two)
-
--- ---- broken stores
 
 none_named : (o : Option Node) (n : ℕ) → IsGeneration n → o ≡ Some (file (current_text n)) → NamesNone o → ⊥
 none_named o n is same names_none = (subst NamesNone same names_none) n is refl

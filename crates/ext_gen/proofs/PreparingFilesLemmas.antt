@@ -27,8 +27,6 @@ use Rattle.ext_gen.specs.Preparing.{coming_number, has_file_in, host_before, is_
 use Rattle.ext_gen.proofs.OpenedLemmas.{opened_is_valid_for, opened_is_well_formed}
 use Rattle.ext_gen.proofs.PreparingPathsLemmas.{not_true}
 
--- ---- lists
-
 -- what holds of each holds of one that is among them
 pub one_of : {X : Type 0} (P : X → Type 0) (xs : List X) (x : X) → AllByRecursion P xs → Contains xs x → P x
 one_of P xs x all among = All-contains P xs x (All-from_recursion P xs all) among
@@ -57,8 +55,6 @@ some_is x y same = cc
 none_is : {X : Type 0} (x : X) → None ≡ Some x → ⊥
 none_is x same = false≢true (ap is_some same)
 
--- ---- trees
-
 -- an entry that is found is in the list
 pub lookup_any : {C : Type 0} (f : Entry C → Bool) (es : Entries C) (p : List (List ℕ)) (e : Entry C) → lookup es p ≡ Some e → f e ≡ true → list_any (λ x. f x.1) es ≡ true
 lookup_any f [] p e is passes = absurd (none_is e is)
@@ -79,8 +75,6 @@ pasts_are_trees (past ∷ pasts) all = (all.0.root, (all.0.lower, pasts_are_tree
 -- each of a host's trees is one
 pub tree_among : (host : Host) → IsWellFormed host → (es : Entries HeldFile) → Contains (trees_of host) es → IsTree es
 tree_among host formed es among = one_of IsTree (trees_of host) es (formed.now.root, (formed.now.lower, pasts_are_trees host.past formed.past)) among
-
--- ---- generations of files
 
 -- a generation in which a file is kept is needed
 pub file_needed : (g : Generation) (held : HeldFile) (home : Home) → IsFileOf (trees_of g.host) held → held.body ≡ Kept home → is_needed (Some g) home.generation ≡ true
@@ -115,8 +109,6 @@ needed_file n host formed any =
     let kept = file_there n entry.0.1 entry.2 in
     let found : lookup tree.0 entry.0.0 ≡ Some (File kept.0 kept.1) = listed_found tree.0 entry.0 (tree_among host formed tree.0 tree.1) entry.1 ∙ ap Some kept.3 in
     (kept.1, kept.2, record { tree = tree.0; among = tree.1; file = record { path = entry.0.0; mode = kept.0; stands = found } }, kept.4, kept.5)
-
--- ---- of an opened store
 
 -- each file is kept in its generation, or in one before that
 pub opened_home : (g : Generation) → IsOpened g → (held : HeldFile) (home : Home) → IsFileOf (trees_of g.host) held → held.body ≡ Kept home → IsHomeUpTo g.number home

@@ -21,17 +21,15 @@ use Rattle.ext_host.specs.declared.body.Body.{Body}
 use Rattle.ext_host.specs.declared.body.Body.TheVariants.{Here, Kept, Depot}
 use Rattle.ext_host.specs.declared.host.Host.{Host}
 use Rattle.ext_host.specs.declared.past.Past.{Past}
-use Rattle.ext_record.specs.Homed.{file_digits}
-use Rattle.ext_record.specs.Homes.{home_of, line_of_entry}
-use Rattle.ext_record.specs.Lines.{number_line}
-use Rattle.ext_index.specs.Index.{machine_lines, merged_lines, past_lines, record_lines, section_lines, tree_lines}
+use Rattle.ext_index_lines.specs.Homed.{file_digits}
+use Rattle.ext_index_lines.specs.Homes.{home_of, line_of_entry}
+use Rattle.ext_index_lines.specs.Lines.{number_line}
+use Rattle.ext_index.specs.Index.{machine_lines, merged_lines, past_lines, record_lines, section_lines, listed_tree_lines}
 use Rattle.ext_index.specs.ValidIndex.{most_index_bytes}
 use Rattle.ext_gen.specs.Opened.{Generation}
 use Rattle.ext_gen.specs.Preparing.{coming_number, limit_of}
 use Rattle.ext_gen.specs.PreparingIndex.{coming_index}
 use Rattle.ext_gen.proofs.PreparingPathsLemmas.{not_true}
-
--- ---- digits
 
 digits_within : (b : ℕ) (ds : List ℕ) → ((a : ℕ) → a ≤ b → length (decimal a) ≤ length ds) → (a : ℕ) → a ≤ b → length (decimal a) ≤ length ds
 digits_within b ds gives a within = gives a within
@@ -55,8 +53,6 @@ fewer_digits a b within small = decimal_by_steps (λ n ds. n < 2 ^ 64 → (m : �
         → length (decimal m) ≤ length (ds ++ ((48 + n % 10) ∷ []))
     more n ds many before low m within = either n ds m low before within (cases_lt m 10)
 
--- ---- lines
-
 text_append : (xs ys : List (List ℕ)) → length (lines_text (xs ++ ys)) ≡ length (lines_text xs) + length (lines_text ys)
 text_append xs ys = ap length (lines_text-append xs ys) ∙ length-append (lines_text xs) (lines_text ys)
 
@@ -72,8 +68,6 @@ and_line line xs ys one = omega (arith, text_cons line xs, text_cons line ys)
 
 same_text : (xs : List (List ℕ)) → length (lines_text xs) ≤ length (lines_text xs)
 same_text xs = omega arith
-
--- ---- entries
 
 -- the file has a home with no more digits, and the same stamp
 pub record IsNoLonger (n m : ℕ) (a b : HeldFile) : Type 0 where
@@ -151,9 +145,7 @@ entries_count : (n m : ℕ) (es fs : Entries HeldFile) → AreNoLonger n m es fs
 entries_count n m [] fs is = sym (ap length is)
 entries_count n m (x ∷ es) fs (f, rest, same, one, more) = omega (arith, entries_count n m es rest more, ap length same)
 
--- ---- parts of an index
-
-tree_within : (word : List ℕ) (n m : ℕ) (es fs : Entries HeldFile) → AreNoLonger n m es fs → length (lines_text (tree_lines word n es)) ≤ length (lines_text (tree_lines word m fs))
+tree_within : (word : List ℕ) (n m : ℕ) (es fs : Entries HeldFile) → AreNoLonger n m es fs → length (lines_text (listed_tree_lines word n es)) ≤ length (lines_text (listed_tree_lines word m fs))
 tree_within word n m es fs is =
     subst (λ k. length (lines_text (number_line word (length es) ∷ map (line_of_entry n) es)) ≤ length (lines_text (number_line word k ∷ map (line_of_entry m) fs))) (entries_count n m es fs is)
     (and_line (number_line word (length es)) (map (line_of_entry n) es) (map (line_of_entry m) fs) (entries_within n m es fs is))
@@ -164,7 +156,7 @@ section_within n m s root lower one two =
     both_texts (merged_lines (codes "sysext") s.sysext) (merged_lines (codes "sysext") s.sysext) _ _ (same_text (merged_lines (codes "sysext") s.sysext))
     (both_texts (merged_lines (codes "confext") s.confext) (merged_lines (codes "confext") s.confext) _ _ (same_text (merged_lines (codes "confext") s.confext))
     (both_texts (record_lines s.attached s.kept) (record_lines s.attached s.kept) _ _ (same_text (record_lines s.attached s.kept))
-    (both_texts (tree_lines (codes "root") n root) (tree_lines (codes "root") m s.root) (tree_lines (codes "lower") n lower) (tree_lines (codes "lower") m s.lower)
+    (both_texts (listed_tree_lines (codes "root") n root) (listed_tree_lines (codes "root") m s.root) (listed_tree_lines (codes "lower") n lower) (listed_tree_lines (codes "lower") m s.lower)
     (tree_within (codes "root") n m root s.root one) (tree_within (codes "lower") n m lower s.lower two))))
 
 -- a generation with no more digits, for the same entries
@@ -232,8 +224,6 @@ index_shown number host within = elim (cases_lt 4294967295 number) [
       let same : min number 4294967295 ≡ number = omega arith in
       ap (λ n. length (coming_index n host)) same
 ]
-
--- ---- limits
 
 pub limit_is_index : (from : Option Generation) (next : Host) → most_index_bytes < length (coming_index (coming_number from) next) → limit_of from next ≡ Some whichs.Index
 limit_is_index from next long = cond-true _ _ _ (lt-ltb most_index_bytes (length (coming_index (coming_number from) next)) long)

@@ -1,76 +1,36 @@
 -- What a change says of left-overs: how many stood, and that never too many are gone.
-use Rattle.std.proofs.Common.{◌≡◌, ◌⊎◌, ℕ, ◌+◌, ◌≤◌, Bool, true, false, not, cond, List, [], ◌∷◌, length, Option, Some, None, Result, Ok, Err, refl, sym, ap, ◌∙◌, subst, inl, inr, arith}
+use Rattle.std.proofs.Common.{◌≡◌, ◌⊎◌, ℕ, ◌≤◌, Bool, true, false, not, List, [], ◌∷◌, length, Option, Some, None, Result, Ok, Err, sym, ap, ◌∙◌, subst, inl, inr, arith}
 use Rattle.std.specs.Prelude.{IfErr}
 use Rattle.std.specs.Ordering.{eq_by_cmp}
 use Rattle.std.specs.Option.{is_some}
-use Rattle.std.proofs.lemmas.Bool.{false≢true, and_parts, or_left, or_right, or_cases, cases_Bool, cond-false}
+use Rattle.std.proofs.lemmas.Bool.{false≢true, and_parts, or_cases, cases_Bool, cond-false}
 use Rattle.ext_text.specs.Path.{path_cmp}
-use Rattle.ext_text.proofs.ForCallers.{same_path, tied_path}
+use Rattle.ext_text.proofs.ForCallers.{same_path}
 use Rattle.ext_depot.specs.Depot.{DepotState}
 use Rattle.ext_disk.specs.Disk.{Places, Told, DiskState, BothTold}
 use Rattle.ext_tree.specs.Tree.{Entries}
 use Rattle.ext_host.specs.Held.{HeldFile}
-use Rattle.ext_store.specs.Removal.{is_in, AllStand, AreDistinct, AtMost, Loses, Removes}
-use Rattle.ext_store.specs.declared.errors.CleanErr.{CleanErr}
-use Rattle.ext_store.specs.declared.errors.CleanErr.TheVariants as clean_errors
-use Rattle.ext_store.proofs.ForCallers.{told_itself, told_map, told_then}
+use Rattle.ext_store_files.specs.Removal.{is_one_of, AllStand, AtMost, Loses, Removes}
+use Rattle.ext_store_files.specs.declared.errors.CleanErr.{CleanErr}
+use Rattle.ext_store_files.specs.declared.errors.CleanErr.TheVariants as clean_errors
+use Rattle.ext_store_files.proofs.ForCallers.{distinct_no_more, told_itself, told_map, told_then}
+use Rattle.ext_store_files.specs.declared.fault.StoreFault.TheVariants.{OutOfMemory, DiskFault, DepotFault, Damaged}
+use Rattle.ext_store_files.specs.LeftOvers.{most_left_overs}
 use Rattle.ext_homes.specs.Placed.{Stored}
-use Rattle.ext_gen.specs.PreparingCauses.{store_err_of_clean, FillCause, WriteCause}
+use Rattle.ext_gen.specs.PreparingCauses.{store_err_of_clean, FillCause, MoveCause}
 use Rattle.ext_gen.specs.PreparingPaths.{is_gone, Cleans, CleansSays, FewGone}
 use Rattle.ext_gen.specs.declared.errors.StoreErr.{StoreErr}
-use Rattle.ext_gen.specs.declared.errors.StoreErr.TheVariants.{OutOfMemory, DiskFault, DepotFault, Broken, Damaged, Mismatch, NotInDepot, Unfinished, Limit}
-use Rattle.ext_gen.proofs.PreparingPathsLemmas.{not_true}
-
--- ---- distinct paths of a list are no more than the list has
-
-without : List (List ℕ) → List (List (List ℕ)) → List (List (List ℕ))
-without p [] = []
-without p (x ∷ xs) = cond (eq_by_cmp path_cmp p x) xs (x ∷ without p xs)
-
-length_without : (p : List (List ℕ)) (xs : List (List (List ℕ))) → is_in p xs ≡ true → length xs ≡ length (without p xs) + 1
-unfolding without
-length_without p [] is = absurd (false≢true is)
-length_without p (x ∷ xs) is = one (eq_by_cmp path_cmp p x) (or_cases (eq_by_cmp path_cmp p x) (is_in p xs) is) (length_without p xs)
-  where
-    one : (b : Bool) → (b ≡ true) ⊎ (is_in p xs ≡ true) → (is_in p xs ≡ true → length xs ≡ length (without p xs) + 1)
-        → length (x ∷ xs) ≡ length (cond b xs (x ∷ without p xs)) + 1
-    one true here rest = omega arith
-    one false (inl here) rest = absurd (false≢true here)
-    one false (inr here) rest = let shorter = rest here in omega arith
-
-in_without : (p q : List (List ℕ)) (xs : List (List (List ℕ))) → eq_by_cmp path_cmp q p ≡ false → is_in q xs ≡ true → is_in q (without p xs) ≡ true
-unfolding without
-in_without p q [] apart is = is
-in_without p q (x ∷ xs) apart is = one (eq_by_cmp path_cmp p x) (same_path p x) (or_cases (eq_by_cmp path_cmp q x) (is_in q xs) is) (in_without p q xs apart)
-  where
-    one : (b : Bool) → (b ≡ true → p ≡ x) → (eq_by_cmp path_cmp q x ≡ true) ⊎ (is_in q xs ≡ true) → (is_in q xs ≡ true → is_in q (without p xs) ≡ true)
-        → is_in q (cond b xs (x ∷ without p xs)) ≡ true
-    one true same (inl tied) rest = absurd (false≢true (sym apart ∙ ap (eq_by_cmp path_cmp q) (same refl) ∙ tied))
-    one true same (inr more) rest = more
-    one false same (inl tied) rest = or_left _ _ tied
-    one false same (inr more) rest = or_right (eq_by_cmp path_cmp q x) _ (rest more)
-
-no_more : (ps xs : List (List (List ℕ))) → AreDistinct ps → ((q : List (List ℕ)) → is_in q ps ≡ true → is_in q xs ≡ true) → length ps ≤ length xs
-no_more [] xs distinct within = omega arith
-no_more (p ∷ ps) xs distinct within =
-    let shorter = length_without p xs (within p (or_left _ _ (tied_path p p refl))) in
-    let rest : length ps ≤ length (without p xs) =
-    no_more ps (without p xs) distinct.1
-    (λ q is. in_without p q xs (not_true (eq_by_cmp path_cmp q p) (λ tied. false≢true (sym distinct.0 ∙ subst (λ x. is_in x ps ≡ true) (same_path q p tied) is)))
-    (within q (or_right (eq_by_cmp path_cmp q p) _ is))) in
-    omega arith
-
--- ---- few are gone
+use Rattle.ext_gen.specs.declared.errors.StoreErr.TheVariants.{Fault, Broken, Mismatch, NotInDepot, Unfinished, Limit}
 
 not_both : (b : Bool) → not b ≡ true → b ≡ true → ⊥
 not_both true out is = false≢true out
 not_both false out is = false≢true is
 
-stands_in : (reach : List (List ℕ) → Bool) (d : Places) (p : List (List ℕ)) (ps : List (List (List ℕ))) → AllStand reach d ps → is_in p ps ≡ true → (reach p ≡ true) × (is_some (d p).node ≡ true)
+stands_in : (reach : List (List ℕ) → Bool) (d : Places) (p : List (List ℕ)) (ps : List (List (List ℕ))) → AllStand reach d ps → is_one_of p ps ≡ true → (reach p ≡ true) × (is_some (d p).node ≡ true)
 stands_in reach d p [] all is = absurd (false≢true is)
-stands_in reach d p (q ∷ ps) all is = one (or_cases (eq_by_cmp path_cmp p q) (is_in p ps) is) (stands_in reach d p ps all.2)
+stands_in reach d p (q ∷ ps) all is = one (or_cases (eq_by_cmp path_cmp p q) (is_one_of p ps) is) (stands_in reach d p ps all.2)
   where
-    one : (eq_by_cmp path_cmp p q ≡ true) ⊎ (is_in p ps ≡ true) → (is_in p ps ≡ true → (reach p ≡ true) × (is_some (d p).node ≡ true)) → (reach p ≡ true) × (is_some (d p).node ≡ true)
+    one : (eq_by_cmp path_cmp p q ≡ true) ⊎ (is_one_of p ps ≡ true) → (is_one_of p ps ≡ true → (reach p ≡ true) × (is_some (d p).node ≡ true)) → (reach p ≡ true) × (is_some (d p).node ≡ true)
     one (inl tied) rest = subst (λ x. (reach x ≡ true) × (is_some (d x).node ≡ true)) (sym (same_path p q tied)) (all.0, all.1)
     one (inr more) rest = rest more
 
@@ -84,50 +44,48 @@ few_same left d [] stand = omega arith
 few_same left d (p ∷ ps) stand = absurd (not_both (is_some (d p).node) (and_parts (left p) (not (is_some (d p).node)) stand.all.0).1 stand.all.1)
 
 -- where few stood
-few_stood : (left : List (List ℕ) → Bool) (d e : Places) → AtMost 1048576 left d → FewGone left d e
+few_stood : (left : List (List ℕ) → Bool) (d e : Places) → AtMost most_left_overs left d → FewGone left d e
 few_stood left d e few ps stand = few ps (record { distinct = stand.distinct; all = all_left left d e ps stand.all })
 
 -- where so many are gone
-few_lost : (left : List (List ℕ) → Bool) (count : ℕ → Type 0) (d e : Places) → ((n : ℕ) → count n → n ≤ 1048576) → Loses left d e count → FewGone left d e
+few_lost : (left : List (List ℕ) → Bool) (count : ℕ → Type 0) (d e : Places) → ((n : ℕ) → count n → n ≤ most_left_overs) → Loses left d e count → FewGone left d e
 few_lost left count d e bound loses ps stand =
-    omega (arith, bound (length loses.0) loses.2, no_more ps loses.0 stand.distinct (λ q is. here q (stands_in (is_gone left e) d q ps stand.all is) (cases_Bool (is_in q loses.0))))
+    omega (arith, bound (length loses.0) loses.2, distinct_no_more ps loses.0 stand.distinct (λ q is. here q (stands_in (is_gone left e) d q ps stand.all is) (cases_Bool (is_one_of q loses.0))))
   where
-    here : (q : List (List ℕ)) → (is_gone left e q ≡ true) × (is_some (d q).node ≡ true) → (is_in q loses.0 ≡ true) ⊎ (is_in q loses.0 ≡ false) → is_in q loses.0 ≡ true
+    here : (q : List (List ℕ)) → (is_gone left e q ≡ true) × (is_some (d q).node ≡ true) → (is_one_of q loses.0 ≡ true) ⊎ (is_one_of q loses.0 ≡ false) → is_one_of q loses.0 ≡ true
     here q stood (inl is) = is
     here q stood (inr out) =
-        absurd (not_both (is_some (e q).node) (and_parts (left q) (not (is_some (e q).node)) stood.0).1 (ap is_some (loses.1.now q ∙ cond-false (is_in q loses.0) None (d q).node out) ∙ stood.1))
-
--- ---- what answers say
+        absurd (not_both (is_some (e q).node) (and_parts (left q) (not (is_some (e q).node)) stood.0).1 (ap is_some (loses.1.now q ∙ cond-false (is_one_of q loses.0) None (d q).node out) ∙ stood.1))
 
 -- the answer is another than that the removal is unfinished
 abbrev pub IsFinished : StoreErr → Type 0
-IsFinished OutOfMemory = Unit {0}
-IsFinished DiskFault = Unit {0}
-IsFinished DepotFault = Unit {0}
+IsFinished (Fault OutOfMemory) = Unit {0}
+IsFinished (Fault DiskFault) = Unit {0}
+IsFinished (Fault DepotFault) = Unit {0}
 IsFinished (Broken line) = Unit {0}
-IsFinished (Damaged home listed found) = Unit {0}
+IsFinished (Fault (Damaged damage)) = Unit {0}
 IsFinished (Mismatch path listed found) = Unit {0}
 IsFinished (NotInDepot path) = Unit {0}
 IsFinished Unfinished = ⊥
 IsFinished (Limit which) = Unit {0}
 
-pub write_finished : (before after : ℕ) (e : StoreErr) → WriteCause before after e → IsFinished e
-write_finished before after OutOfMemory cause = tt
-write_finished before after DiskFault cause = tt
-write_finished before after DepotFault cause = tt
+pub write_finished : (before after : ℕ) (e : StoreErr) → MoveCause before after e → IsFinished e
+write_finished before after (Fault OutOfMemory) cause = tt
+write_finished before after (Fault DiskFault) cause = tt
+write_finished before after (Fault DepotFault) cause = tt
 write_finished before after (Broken line) cause = tt
-write_finished before after (Damaged home listed found) cause = tt
+write_finished before after (Fault (Damaged damage)) cause = tt
 write_finished before after (Mismatch path listed found) cause = tt
 write_finished before after (NotInDepot path) cause = tt
 write_finished before after Unfinished cause = absurd cause
 write_finished before after (Limit which) cause = tt
 
 pub fill_finished : (old new : DiskState) (before after : DepotState) (stored : Stored) (n : ℕ) (es : Entries HeldFile) (e : StoreErr) → FillCause old new before after stored n es e → IsFinished e
-fill_finished old new before after stored n es OutOfMemory cause = tt
-fill_finished old new before after stored n es DiskFault cause = tt
-fill_finished old new before after stored n es DepotFault cause = tt
+fill_finished old new before after stored n es (Fault OutOfMemory) cause = tt
+fill_finished old new before after stored n es (Fault DiskFault) cause = tt
+fill_finished old new before after stored n es (Fault DepotFault) cause = tt
 fill_finished old new before after stored n es (Broken line) cause = tt
-fill_finished old new before after stored n es (Damaged home listed found) cause = tt
+fill_finished old new before after stored n es (Fault (Damaged damage)) cause = tt
 fill_finished old new before after stored n es (Mismatch path listed found) cause = tt
 fill_finished old new before after stored n es (NotInDepot path) cause = tt
 fill_finished old new before after stored n es Unfinished cause = absurd cause
@@ -140,44 +98,44 @@ pub cause_finished : (T : Type 0) (C : StoreErr → Type 0) (r : Result T StoreE
 cause_finished T C (Ok t) finishes cause = tt
 cause_finished T C (Err e) finishes cause = finishes e cause
 
-pub memory_finished : (e : StoreErr) → e ≡ OutOfMemory → IsFinished e
+pub memory_finished : (e : StoreErr) → e ≡ (Fault OutOfMemory) → IsFinished e
 memory_finished e is = subst IsFinished (sym is) tt
 
 -- after the removal
-few_says : (T : Type 0) (left : List (List ℕ) → Bool) (d e : Places) (r : Result T StoreErr) → IfErr r IsFinished → AtMost 1048576 left d → CleansSays left r d e
+few_says : (T : Type 0) (left : List (List ℕ) → Bool) (d e : Places) (r : Result T StoreErr) → IfErr r IsFinished → AtMost most_left_overs left d → CleansSays left r d e
 few_says T left d e (Ok t) finished few = few
-few_says T left d e (Err OutOfMemory) finished few = few_stood left d e few
-few_says T left d e (Err DiskFault) finished few = few_stood left d e few
-few_says T left d e (Err DepotFault) finished few = few
+few_says T left d e (Err (Fault OutOfMemory)) finished few = few_stood left d e few
+few_says T left d e (Err (Fault DiskFault)) finished few = few_stood left d e few
+few_says T left d e (Err (Fault DepotFault)) finished few = few
 few_says T left d e (Err (Broken line)) finished few = tt
-few_says T left d e (Err (Damaged home listed found)) finished few = few
+few_says T left d e (Err (Fault (Damaged damage))) finished few = few
 few_says T left d e (Err (Mismatch path listed found)) finished few = few
 few_says T left d e (Err (NotInDepot path)) finished few = few
 few_says T left d e (Err Unfinished) finished few = absurd finished
 few_says T left d e (Err (Limit which)) finished few = tt
 
 -- nothing was done, since memory ran out
-pub cleans_nothing : (T : Type 0) (left : List (List ℕ) → Bool) (s : DiskState) (r : Result T StoreErr) → r ≡ Err OutOfMemory → Cleans left r s s
+pub cleans_nothing : (T : Type 0) (left : List (List ℕ) → Bool) (s : DiskState) (r : Result T StoreErr) → r ≡ Err (Fault OutOfMemory) → Cleans left r s s
 cleans_nothing T left s r is =
     told_itself (λ d e. CleansSays left r d.places e.places) (λ d. subst (λ x. CleansSays left x d.places d.places) (sym is) (few_same left d.places)) s.told
 
 -- the removal failed
 pub cleans_failed : (T U : Type 0) (left : List (List ℕ) → Bool) (e : CleanErr) (old new : DiskState) (r : Result T CleanErr) (s : Result U StoreErr) → r ≡ Err e → s ≡ Err (store_err_of_clean e)
-    → BothTold (Removes 1048576 left r) old.told new.told → Cleans left s old new
+    → BothTold (Removes most_left_overs left r) old.told new.told → Cleans left s old new
 cleans_failed T U left e old new r s one two removes =
-    told_map (Removes 1048576 left r) (λ d f. CleansSays left s d.places f.places) (λ d f is. both e d f (subst (λ x. Removes 1048576 left x d f) one is) s two) old.told new.told removes
+    told_map (Removes most_left_overs left r) (λ d f. CleansSays left s d.places f.places) (λ d f is. both e d f (subst (λ x. Removes most_left_overs left x d f) one is) s two) old.told new.told removes
   where
-    both : (x : CleanErr) (d f : Told) → (let y : Result T CleanErr = Err x in Removes 1048576 left y d f) → (z : Result U StoreErr) → z ≡ Err (store_err_of_clean x) → CleansSays left z d.places f.places
-    both clean_errors.DiskFault d f is z same = subst (λ y. CleansSays left y d.places f.places) (sym same) (few_lost left (λ n. n ≤ 1048576) d.places f.places (λ n few. few) is)
-    both clean_errors.OutOfMemory d f is z same = subst (λ y. CleansSays left y d.places f.places) (sym same) (few_lost left (λ n. n ≤ 1048576) d.places f.places (λ n few. few) is)
+    both : (x : CleanErr) (d f : Told) → (let y : Result T CleanErr = Err x in Removes most_left_overs left y d f) → (z : Result U StoreErr) → z ≡ Err (store_err_of_clean x) → CleansSays left z d.places f.places
+    both clean_errors.DiskFault d f is z same = subst (λ y. CleansSays left y d.places f.places) (sym same) (few_lost left (λ n. n ≤ most_left_overs) d.places f.places (λ n few. few) is)
+    both clean_errors.OutOfMemory d f is z same = subst (λ y. CleansSays left y d.places f.places) (sym same) (few_lost left (λ n. n ≤ most_left_overs) d.places f.places (λ n few. few) is)
     both clean_errors.Unfinished d f is z same = subst (λ y. CleansSays left y d.places f.places) (sym same) is
 
 -- the removal was done, and then something else
 pub cleans_made : (T U : Type 0) (t : T) (left : List (List ℕ) → Bool) (R : Told → Told → Type 0) (old mid new : DiskState) (r : Result T CleanErr) (s : Result U StoreErr) → r ≡ Ok t → IfErr s IsFinished
-    → BothTold (Removes 1048576 left r) old.told mid.told → BothTold R mid.told new.told → Cleans left s old new
+    → BothTold (Removes most_left_overs left r) old.told mid.told → BothTold R mid.told new.told → Cleans left s old new
 cleans_made T U t left R old mid new r s done finished removes then =
-    told_then (Removes 1048576 left r) R (λ d f. CleansSays left s d.places f.places)
-    (λ c d f is next. few_says U left c.places f.places s finished (subst (λ x. Removes 1048576 left x c d) done is).0) old.told mid.told new.told removes then
+    told_then (Removes most_left_overs left r) R (λ d f. CleansSays left s d.places f.places)
+    (λ c d f is next. few_says U left c.places f.places s finished (subst (λ x. Removes most_left_overs left x c d) done is).0) old.told mid.told new.told removes then
 
 -- it was done in a part
 pub cleans_later : (T U : Type 0) (t : T) (left : List (List ℕ) → Bool) (R : Told → Told → Type 0) (x y z : Option Told) (r : Result T StoreErr) (s : Result U StoreErr) → r ≡ Ok t → IfErr s IsFinished
@@ -196,11 +154,11 @@ cleans_again : (T U : Type 0) (left : List (List ℕ) → Bool) (e : StoreErr) (
 cleans_again T U left e d f r s one two cleans = both e (subst (λ x. CleansSays left x d f) one cleans) s two
   where
     both : (x : StoreErr) → (let y : Result T StoreErr = Err x in CleansSays left y d f) → (z : Result U StoreErr) → z ≡ Err x → CleansSays left z d f
-    both OutOfMemory says z is = subst (λ x. CleansSays left x d f) (sym is) says
-    both DiskFault says z is = subst (λ x. CleansSays left x d f) (sym is) says
-    both DepotFault says z is = subst (λ x. CleansSays left x d f) (sym is) says
+    both (Fault OutOfMemory) says z is = subst (λ x. CleansSays left x d f) (sym is) says
+    both (Fault DiskFault) says z is = subst (λ x. CleansSays left x d f) (sym is) says
+    both (Fault DepotFault) says z is = subst (λ x. CleansSays left x d f) (sym is) says
     both (Broken line) says z is = subst (λ x. CleansSays left x d f) (sym is) says
-    both (Damaged home listed found) says z is = subst (λ x. CleansSays left x d f) (sym is) says
+    both (Fault (Damaged damage)) says z is = subst (λ x. CleansSays left x d f) (sym is) says
     both (Mismatch path listed found) says z is = subst (λ x. CleansSays left x d f) (sym is) says
     both (NotInDepot path) says z is = subst (λ x. CleansSays left x d f) (sym is) says
     both Unfinished says z is = subst (λ x. CleansSays left x d f) (sym is) says

@@ -19,12 +19,12 @@ use Rattle.ext_host.specs.declared.host.Host.{Host}
 use Rattle.ext_host.proofs.ForCallers.{one_stamp}
 use Rattle.ext_index.specs.Index.{index_text}
 use Rattle.ext_index.specs.ValidIndex.{IsHomeUpTo, IsKeptUpTo, IsWellFormed, most_index_bytes}
-use Rattle.ext_store.specs.Names.{IsGeneration}
+use Rattle.ext_store_files.specs.Names.{IsGeneration}
 use Rattle.ext_homes.specs.Brought.{is_brought}
 use Rattle.ext_homes.specs.Giving.{lists_kept, stored_by, trees_before}
 use Rattle.ext_homes.specs.Placed.{Stored, IsHostPlaced}
 use Rattle.ext_gen.specs.Opened.{Generation, IsOpened}
-use Rattle.ext_gen.specs.Preparing.{AreBefore, BringNone, coming_number, host_before, trees_of_pasts}
+use Rattle.ext_gen.specs.Preparing.{ArePastBefore, BringNone, coming_number, host_before, trees_of_pasts}
 use Rattle.ext_gen.specs.PreparingIndex.{coming_index}
 use Rattle.ext_gen.proofs.OpenedLemmas.{opened_is_valid_for}
 use Rattle.ext_gen.proofs.PreparingFilesLemmas.{no_file_of_none, opened_home}
@@ -36,8 +36,6 @@ use Rattle.ext_gen.proofs.PreparingValidLemmas.{placed_is_valid}
 pub coming_is : (n : ℕ) (host : Host) → coming_index n host ≡ index_text true n host
 unfolding coming_index
 coming_is n host = refl
-
--- ---- where the files of the coming host are kept
 
 -- at a home that the host before lists with the file's stamp; or under a number in the coming generation, where bytes of its stamp
 -- were written
@@ -105,8 +103,6 @@ module _ (trees : List (Entries HeldFile)) (next : Host) (drawn : AreDrawnFrom t
           (tree_origin old depot n next.root 0 root first is.path is.mode held one is.stands))
       of_root (inr is) = of_lower (file_side lower (trees_of_pasts next.past) held is)
 
--- ---- the homes are those of a generation
-
 pub before_home : (from : Option Generation) → IfSome from IsOpened → (stamp : Stamp) (home : Home) → lists_kept (trees_before (host_before from)) stamp home
     → IsHomeUpTo (coming_number from) home × (home.generation < coming_number from)
 before_home None opened stamp home is = absurd (no_file_of_none _ is)
@@ -161,8 +157,6 @@ agree_from from n written a b home opened number at_a at_b (coming k bytes body_
     some_is : (x y : List ℕ) → Some x ≡ Some y → x ≡ y
     some_is x y same = cc
 
--- ---- the generation
-
 -- the index of the coming host is no longer than it was counted
 pub coming_is_shorter : (from : Option Generation) (n : ℕ) (next host : Host) (disk : DiskState) (depot : DepotState) (written : List (List ℕ)) → IfSome from IsOpened → n ≡ coming_number from → IsGeneration n
     → IsHostPlaced (stored_by (host_before from) disk) depot n next host written → length (coming_index n host) ≤ length (coming_index n next)
@@ -174,7 +168,7 @@ coming_is_shorter from n next host disk depot written opened number is (root, lo
     (index_within n n next root lower (omega arith) (placed_digits old depot n next.root 0 root first earlier small one) (placed_digits old depot n next.lower (0 + length first) lower rest earlier small two))
 
 pub coming_is_opened : (from : Option Generation) (n : ℕ) (next host : Host) (disk : DiskState) (depot : DepotState) (written : List (List ℕ)) → IfSome from IsOpened → n ≡ coming_number from → IsGeneration n
-    → IsValidHost next → AreDrawnFrom (trees_before (host_before from)) (trees_of next) → BringNone (trees_of_pasts next.past) → AreBefore n next.past → length (coming_index n next) ≤ most_index_bytes
+    → IsValidHost next → AreDrawnFrom (trees_before (host_before from)) (trees_of next) → BringNone (trees_of_pasts next.past) → ArePastBefore n next.past → length (coming_index n next) ≤ most_index_bytes
     → IsHostPlaced (stored_by (host_before from) disk) depot n next host written → IsWellFormed host → IsOpened (record { number = n; text = 2; host = host })
 coming_is_opened from n next host disk depot written opened number is valid drawn none past fits placed formed =
     let old = stored_by (host_before from) disk in
@@ -200,7 +194,7 @@ coming_is_opened from n next host disk depot written opened number is valid draw
             valid = subst IsValidHost (sym same) (placed_is_valid n n next placed.0 placed.1 root lower valid);
             kept = λ held file. kept_up_to from n written held opened number is.0 (omega (arith, few, valid.present.limits.entries)) (files held file);
             agree = λ a b home file_a file_b at_a at_b. agree_from from n written a b home opened number at_a at_b (files a file_a) (files b file_b);
-            past = subst (λ h. AreBefore n h.past) (sym same) past;
+            past = subst (λ h. ArePastBefore n h.past) (sym same) past;
           };
           text = coming_is n host;
           text_1 = λ one. absurd (false≢true (sym one));

@@ -15,11 +15,9 @@ use Rattle.ext_host.specs.Shelf as shelf
 use Rattle.ext_host.specs.declared.body.Body.{Body}
 use Rattle.ext_host.specs.declared.body.Body.TheVariants.{Here, Kept, Depot}
 use Rattle.ext_host.specs.declared.home.Home.{Home}
-use Rattle.ext_record.specs.Homes.{home_of}
+use Rattle.ext_index_lines.specs.Homes.{home_of}
 use Rattle.ext_homes.specs.Placed.{Stored, TakesHome, IsBodyPlaced, IsEntryPlaced, ArePlaced}
 use Rattle.ext_gen.proofs.PreparingIndexLemmas.{IsNoLonger, EntryNoLonger, AreNoLonger, fewer_digits}
-
--- ---- one file
 
 -- a file as the host has it now: it is one that was kept, at its path; or it has a home that was listed; or it was written under a
 -- number, and its bytes have its stamp
@@ -45,8 +43,6 @@ body_origin old depot n kept before (Here bytes) next held written same was is =
 body_origin old depot n kept before (Kept home) next held written same was is =
     stayed home (ap (λ (h : HeldFile). h.body) is.0 ∙ same) (subst kept (sym is.0) was)
 body_origin old depot n kept before (Depot path) next held written same was is = taken_origin old n kept before.stamp _ next is.0 written held is.2 is.1
-
--- ---- trees
 
 none_is : {X : Type 0} (x : X) → None ≡ Some x → ⊥
 none_is x same = false≢true (ap is_some same)
@@ -112,8 +108,6 @@ tree_origin old depot n (x ∷ es) next fs written p mode held (e, more, first, 
           (entry_origin old depot n (λ f. (m : ℕ) × (x.1 ≡ File m f)) x.1 next e first mode held (λ m f is. (m, is)) one (some_is e (File mode held) h))
       | false ↦ λ h. origin_rest old n (λ f. (m : ℕ) × (lookup es p ≡ Some (File m f))) (λ f. (m : ℕ) × (lookup es p ≡ Some (File m f))) next first rest written held parts (λ f was. was) (after h)
     ] (sym (ap (λ l. lookup l p) same) ∙ found)
-
--- ---- digits of homes
 
 taken_digits : (old : Stored) (n : ℕ) (stamp : Stamp) (brought : shelf.Told) (next : ℕ) (home : Home) (written : List (List ℕ)) → ((s : Stamp) (h : Home) → old.lists s h → h.generation < n) → n < 2 ^ 64
     → TakesHome old n stamp brought next home written → length (decimal home.generation) ≤ length (decimal n)

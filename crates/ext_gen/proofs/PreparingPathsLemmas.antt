@@ -9,16 +9,14 @@ use Rattle.ext_text.proofs.ForCallers.{same_name, same_path, prefix_trans}
 use Rattle.ext_disk.specs.Disk.{Places, Told, DiskState, BothTold}
 use Rattle.ext_disk.specs.Fixed.{Spares}
 use Rattle.ext_disk.proofs.ForCallers.{spares_itself, spares_then, spares_wider}
-use Rattle.ext_store.specs.LeftOvers.{is_left_path}
-use Rattle.ext_store.specs.Names.{IsGeneration, generation_name, generation_path, index_name, index_path, next_name, next_path}
-use Rattle.ext_store.specs.Removal.{AppendsNothing, AllStand, AreGone, Loses, Removes, is_in}
-use Rattle.ext_store.specs.Writing.{is_at, nowhere, Works, WorksTold}
-use Rattle.ext_store.specs.declared.errors.CleanErr.{CleanErr}
-use Rattle.ext_store.specs.declared.errors.CleanErr.TheVariants.{DiskFault, OutOfMemory, Unfinished}
-use Rattle.ext_store.proofs.ForCallers.{is_left, told_map, told_then, told_itself}
+use Rattle.ext_store_files.specs.LeftOvers.{is_left_path}
+use Rattle.ext_store_files.specs.Names.{IsGeneration, generation_name, generation_path, index_name, index_path, next_name, next_path}
+use Rattle.ext_store_files.specs.Removal.{AppendsNothing, AllStand, AreGone, Loses, Removes, is_one_of}
+use Rattle.ext_store_files.specs.Writing.{is_at, nowhere, Works, WorksTold}
+use Rattle.ext_store_files.specs.declared.errors.CleanErr.{CleanErr}
+use Rattle.ext_store_files.specs.declared.errors.CleanErr.TheVariants.{DiskFault, OutOfMemory, Unfinished}
+use Rattle.ext_store_files.proofs.ForCallers.{is_left, told_map, told_then, told_itself}
 use Rattle.ext_gen.specs.PreparingPaths.{is_coming, IsComing, next, generation, index, folder, file, MakesTold, Makes, ChangesAt, stays, gone, made, ChangesTold, Changes}
-
--- ---- tests
 
 pub contraposed : (a b : Bool) → (a ≡ true → b ≡ true) → b ≡ false → a ≡ false
 contraposed true b gives out = absurd (false≢true (sym out ∙ gives refl))
@@ -27,8 +25,6 @@ contraposed false b gives out = refl
 pub not_true : (b : Bool) → (b ≡ true → ⊥) → b ≡ false
 not_true true never = absurd (never refl)
 not_true false never = refl
-
--- ---- paths of a coming generation
 
 -- each of them is at or below a left-over, where the generation is not needed
 pub coming_left : (needed : ℕ → Bool) (n : ℕ) (p : List (List ℕ)) → IsGeneration n → needed n ≡ false → is_coming n p ≡ true → is_left_path needed p ≡ true
@@ -50,7 +46,7 @@ pub index_below : (n : ℕ) (p : List (List ℕ)) → is_prefix (index_path n) p
 index_below n p below = prefix_trans (generation_path n) (index_path n) p (generation_prefix n) below
   where
     generation_prefix : (n : ℕ) → is_prefix (generation_path n) (index_path n) ≡ true
-    generation_prefix n = Rattle.ext_store.proofs.ForCallers.prefix_append (generation_path n) (index_name ∷ [])
+    generation_prefix n = Rattle.ext_store_files.proofs.ForCallers.prefix_append (generation_path n) (index_name ∷ [])
 
 pub at_index : (n files : ℕ) (p : List (List ℕ)) → is_at (index_path n) p ≡ true → IsComing n files p
 at_index n files p at = subst (IsComing n files) (same_path (index_path n) p at) index
@@ -81,8 +77,6 @@ top_of n files p name same (file k below) = absurd (longer_than_one (generation_
 
 pub top_coming : (n files : ℕ) (name : List ℕ) → IsComing n files (name ∷ []) → (name ≡ next_name) ⊎ (name ≡ generation_name n)
 top_coming n files name coming = top_of n files (name ∷ []) name refl coming
-
--- ---- parts
 
 pub makes_nothing : (n files most : ℕ) (s : DiskState) → Makes n files most s s
 makes_nothing n files most s = record {
@@ -120,31 +114,29 @@ makes_then n less more files a b most r s t few many fits one two = record {
 pub makes_wider : (n less files a most : ℕ) (old new : DiskState) → less ≤ files → a ≤ most → Makes n less a old new → Makes n files most old new
 makes_wider n less files a most old new few fits makes = makes_then n less files files a 0 most old new new few (omega arith) (omega (arith, fits)) makes (makes_nothing n files 0 new)
 
--- settling makes nothing
-pub settling_makes : (n files most : ℕ) (old new : DiskState) → Works nowhere nowhere 0 old new → Makes n files most old new
-settling_makes n files most old new works =
+-- syncing makes nothing
+pub syncing_makes : (n files most : ℕ) (old new : DiskState) → Works nowhere nowhere 0 old new → Makes n files most old new
+syncing_makes n files most old new works =
     makes_wider n files files 0 most old new (omega arith) (omega arith)
     (works_make nowhere nowhere n files 0 old new (λ p at. absurd (false≢true at)) (λ p at. absurd (false≢true at)) works)
 
--- ---- the removal of left-overs
-
 -- what is gone was at or below a left-over
-gone_left : (reach : List (List ℕ) → Bool) (d : Places) (p : List (List ℕ)) (ps : List (List (List ℕ))) → AllStand reach d ps → is_in p ps ≡ true → reach p ≡ true
+gone_left : (reach : List (List ℕ) → Bool) (d : Places) (p : List (List ℕ)) (ps : List (List (List ℕ))) → AllStand reach d ps → is_one_of p ps ≡ true → reach p ≡ true
 gone_left reach d p [] all is = absurd (false≢true is)
-gone_left reach d p (q ∷ ps) all is = one (or_cases (eq_by_cmp path_cmp p q) (is_in p ps) is) (gone_left reach d p ps all.2)
+gone_left reach d p (q ∷ ps) all is = one (or_cases (eq_by_cmp path_cmp p q) (is_one_of p ps) is) (gone_left reach d p ps all.2)
   where
-    one : (eq_by_cmp path_cmp p q ≡ true) ⊎ (is_in p ps ≡ true) → (is_in p ps ≡ true → reach p ≡ true) → reach p ≡ true
+    one : (eq_by_cmp path_cmp p q ≡ true) ⊎ (is_one_of p ps ≡ true) → (is_one_of p ps ≡ true → reach p ≡ true) → reach p ≡ true
     one (inl tied) rest = subst (λ x. reach x ≡ true) (sym (same_path p q tied)) all.0
     one (inr more) rest = rest more
 
-lost_at : (reach : List (List ℕ) → Bool) (n files : ℕ) (d e : Places) (lost : List (List (List ℕ))) → AreGone reach d e lost → (p : List (List ℕ)) → (is_in p lost ≡ true) ⊎ (is_in p lost ≡ false)
+lost_at : (reach : List (List ℕ) → Bool) (n files : ℕ) (d e : Places) (lost : List (List (List ℕ))) → AreGone reach d e lost → (p : List (List ℕ)) → (is_one_of p lost ≡ true) ⊎ (is_one_of p lost ≡ false)
     → ChangesAt reach n files d e p
 lost_at reach n files d e lost are p (inl is) = gone (gone_left reach d p lost are.stood.all is) (are.now p ∙ cond-true _ None (d p).node is)
 lost_at reach n files d e lost are p (inr out) = stays (are.now p ∙ cond-false _ None (d p).node out)
 
 loses_changes : (reach : List (List ℕ) → Bool) (n files most : ℕ) (count : ℕ → Type 0) (d e : Told) → Loses reach d.places e.places count → AppendsNothing d e → ChangesTold reach n files most d e
 loses_changes reach n files most count d e loses sum = record {
-  now = λ p. lost_at reach n files d.places e.places loses.0 loses.1 p (cases_Bool (is_in p loses.0));
+  now = λ p. lost_at reach n files d.places e.places loses.0 loses.1 p (cases_Bool (is_one_of p loses.0));
   appended = omega (arith, sum);
 }
 

@@ -12,16 +12,15 @@ use Rattle.ext_host.specs.declared.body.Body.{Body}
 use Rattle.ext_host.specs.declared.body.Body.TheVariants.{Here, Kept, Depot}
 use Rattle.ext_host.specs.declared.home.Home.{Home}
 use Rattle.ext_host.specs.declared.host.Host.{Host}
-use Rattle.ext_store.specs.Comparing.{IsCompared}
-use Rattle.ext_store.specs.Copying.{contents_told, IsMissing, IsReadStamp}
-use Rattle.ext_store.specs.HeldFiles.{IsListed}
-use Rattle.ext_store.proofs.ForCallers.{rose_since}
+use Rattle.ext_store_files.specs.Comparing.{IsCompared}
+use Rattle.ext_store_files.specs.Copying.{contents_told, IsMissing, IsReadStamp}
+use Rattle.ext_store_files.specs.HeldFiles.{IsListed}
+use Rattle.ext_store_files.proofs.ForCallers.{rose_since}
 use Rattle.ext_homes.specs.Refused.{HomesCause, IsFirstIntact, StopsAt}
 use Rattle.ext_homes.specs.declared.errors.HomesErr.{HomesErr}
+use Rattle.ext_store_files.specs.declared.fault.StoreFault.TheVariants as store_faults
 use Rattle.ext_homes.specs.declared.errors.HomesErr.TheVariants as homes_errors
 use Rattle.ext_homes.specs.Placed.{Stored, DifferBefore, TakesHome, IsBroughtTo, IsBodyPlaced, IsEntryPlaced, ArePlaced, IsHostPlaced, brought_told}
-
--- ---- how many files are written
 
 taken_count : (old : Stored) (n : ℕ) (stamp : Stamp) (brought : shelf.Told) (next : ℕ) (home : Home) (written : List (List ℕ)) → TakesHome old n stamp brought next home written → length written ≤ 1
 taken_count old n stamp brought next home written (inl is) = omega (arith, ap length is.1)
@@ -54,8 +53,6 @@ host_count old depot n host new written (root, lower, (first, rest, one, two, pa
     let here = placed_count old depot n host.root 0 root first one in
     let there = placed_count old depot n host.lower (0 + length first) lower rest two in
     omega (arith, ap length parts, length-append first rest)
-
--- ---- of what is told before, the homes that are listed decide alone
 
 -- two stores list the same, and at each home that they list the same is told of both
 pub record AreSameListed (lists : Stamp → Home → Type 0) (one two : Home → shelf.Told) : Type 0 where
@@ -117,8 +114,6 @@ module _ (lists : Stamp → Home → Type 0) (one two : Home → shelf.Told) (al
     same_host n host new written (root, lower, (head, rest, here, more, parts), same') =
         (root, lower, (head, rest, same_placed n host.root 0 root head here, same_placed n host.lower (0 + length head) lower rest more, parts), same')
 
-    -- ---- and of the causes
-
     same_stop : (n : ℕ) (es : Entries HeldFile) (next : ℕ) (Why Whyever : HeldFile → Type 0) → ((held : HeldFile) → Why held → Whyever held) → StopsAt first after n es next Why
         → StopsAt second before n es next Whyever
     same_stop n es next Why Whyever gives stops = record {
@@ -140,18 +135,18 @@ module _ (lists : Stamp → Home → Type 0) (one two : Home → shelf.Told) (al
     -- why a file got no home, seen from an earlier disk and depot
     pub same_cause : (n : ℕ) (es : Entries HeldFile) (disk mid new : DiskState) (ended : DepotState) (e : HomesErr) → disk.faults ≤ mid.faults → before.faults ≤ after.faults
         → HomesCause mid new after ended first n es 0 e → HomesCause disk new before ended second n es 0 e
-    same_cause n es disk mid new ended homes_errors.OutOfMemory earlier kept cause = tt
-    same_cause n es disk mid new ended homes_errors.DiskFault earlier kept cause = rose_since disk.faults mid.faults new.faults earlier cause
-    same_cause n es disk mid new ended homes_errors.DepotFault earlier kept cause = rose_since before.faults after.faults ended.faults kept cause
-    same_cause n es disk mid new ended (homes_errors.Damaged home listed found) earlier kept cause =
+    same_cause n es disk mid new ended (homes_errors.Fault store_faults.OutOfMemory) earlier kept cause = tt
+    same_cause n es disk mid new ended (homes_errors.Fault store_faults.DiskFault) earlier kept cause = rose_since disk.faults mid.faults new.faults earlier cause
+    same_cause n es disk mid new ended (homes_errors.Fault store_faults.DepotFault) earlier kept cause = rose_since before.faults after.faults ended.faults kept cause
+    same_cause n es disk mid new ended (homes_errors.Fault (store_faults.Damaged damage)) earlier kept cause =
         same_stop n es 0 _ _
         (λ held why. (
           why.0,
           why.1,
           record {
             listed = why.2.listed;
-            least = same_before listed (brought_told before held.body) home (subst (λ t. DifferBefore first listed t home) (sym (told_brought held.body)) why.2.least);
-            differs = subst (λ t. shelf.IsFound listed t found) (alike.same listed home why.2.listed) why.2.differs;
+            least = same_before damage.listed (brought_told before held.body) damage.home (subst (λ t. DifferBefore first damage.listed t damage.home) (sym (told_brought held.body)) why.2.least);
+            differs = subst (λ t. shelf.IsFound damage.listed t damage.found) (alike.same damage.listed damage.home why.2.listed) why.2.differs;
           },
         )) cause
     same_cause n es disk mid new ended (homes_errors.Mismatch path listed found) earlier kept cause =

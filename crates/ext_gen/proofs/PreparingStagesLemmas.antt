@@ -1,4 +1,4 @@
--- What each part of a change leaves for the next one, and that at the end all is firm.
+-- What each part of a change leaves for the next one, and that at the end all is durable.
 use Rattle.std.proofs.Common.{◌≡◌, ◌⊎◌, ℕ, ◌+◌, ◌≤◌, ◌<◌, Bool, true, false, cond, not, ◌&&◌, ◌||◌, List, [], ◌∷◌, ◌++◌, take, drop, length, Option, Some, None, IfSome, Result, Ok, Err, refl, sym, ap, ◌∙◌, subst, inl, inr, arith}
 use Rattle.std.specs.List.{sum_by}
 use Rattle.std.specs.Option.{is_some}
@@ -7,25 +7,23 @@ use Rattle.std.proofs.lemmas.Bool.{false≢true, and_parts, and_from, cases_Bool
 use Rattle.ext_lines.specs.Hexadecimal.{five_digits}
 use Rattle.ext_text.specs.Path.{is_prefix}
 use Rattle.ext_text.proofs.ForCallers.{prefix_self, same_name}
-use Rattle.ext_disk.specs.Disk.{Node, Places, Told, DiskState, BothTold, IsDisk, IsTree, is_firm, is_folder, is_settled}
-use Rattle.ext_disk.specs.Fixed.{IsSpared, Stays}
-use Rattle.ext_store.specs.LeftOvers.{is_left_path}
-use Rattle.ext_store.specs.Names.{IsGeneration, current_text, generation_name, generation_path, home_folder, home_path, index_name, index_path, next_name, next_path}
-use Rattle.ext_store.specs.Removal.{IsClear, Removes}
-use Rattle.ext_store.specs.Writing.{is_at, nowhere, Holds, IsMade, Works, WorksTold}
-use Rattle.ext_store.proofs.ForCallers.{holds_map, holds_both, holds_then, told_map, told_then, is_left}
-use Rattle.ext_store.specs.declared.errors.CleanErr.{CleanErr}
+use Rattle.ext_disk.specs.Disk.{Node, Places, Told, DiskState, BothTold, IsDisk, IsTree, is_durable, is_folder, is_synced}
+use Rattle.ext_disk.specs.Fixed.{IsUnchangedAt, Stays}
+use Rattle.ext_store_files.specs.LeftOvers.{is_left_path}
+use Rattle.ext_store_files.specs.Names.{IsGeneration, current_text, generation_name, generation_path, home_folder, home_path, index_name, index_path, next_name, next_path}
+use Rattle.ext_store_files.specs.Removal.{IsClear, Removes}
+use Rattle.ext_store_files.specs.Writing.{is_at, nowhere, Holds, IsMade, Works, WorksTold}
+use Rattle.ext_store_files.proofs.ForCallers.{holds_map, holds_both, holds_then, told_map, told_then, is_left}
+use Rattle.ext_store_files.specs.declared.errors.CleanErr.{CleanErr}
 use Rattle.ext_depot.specs.Depot.{DepotState}
 use Rattle.ext_host.specs.declared.host.Host.{Host}
 use Rattle.ext_homes.specs.Giving.{Gives}
 use Rattle.ext_homes.specs.declared.giving.Placed.{Placed}
 use Rattle.ext_homes.specs.Written.{AreWritten, HasOnlyHomes, Writes, is_below}
 use Rattle.ext_gen.specs.PreparingPaths.{is_coming, IsComing, MakesTold, Makes}
-use Rattle.ext_gen.specs.PreparingStages.{AreSettled, Completes, Fills, FillsTold, HasFolder, HasHomeFolders, IsAbsent, IsComplete, IsFilled, IsFolderAt, IsIndexed, IsOpen, IsPut}
+use Rattle.ext_gen.specs.PreparingStages.{AreSynced, CompletesGeneration, Fills, FillsTold, HasFolder, HasHomeFolders, IsAbsent, IsComplete, IsFilled, IsFolderAt, IsIndexed, IsGenerationOpen, IsPutSynced}
 use Rattle.ext_gen.proofs.PreparingMovesLemmas.{stays_holds, still_written, told_fact}
 use Rattle.ext_gen.proofs.PreparingPathsLemmas.{not_true, contraposed, top_coming}
-
--- ---- the left-overs are gone
 
 clear_at : (needed : ℕ → Bool) (n : ℕ) → IsGeneration n → needed n ≡ false → (d : Places) → IsClear (is_left_path needed) d → IsAbsent (generation_path n) d
 clear_at needed n is free d clear = clear (generation_path n) (is_left needed (generation_name n) (inr (n, is, refl, free)))
@@ -45,7 +43,7 @@ none_or : (A : Type 0) (o : Option A) → o ≡ None → is_some o ≡ true → 
 none_or A o none some = false≢true (sym (ap is_some none) ∙ some)
 
 open_at : (needed : ℕ → Bool) (n : ℕ) (d e : Places) → IsClear (is_left_path needed) d → ((p : List (List ℕ)) → is_at (generation_path n) p ≡ false → (e p).node ≡ (d p).node)
-    → IsMade (generation_path n) e → IsOpen needed n e
+    → IsMade (generation_path n) e → IsGenerationOpen needed n e
 open_at needed n d e clear same is = record {
   made = is;
   no_next = same next_path refl ∙ clear next_path (is_left needed next_name (inl refl));
@@ -59,14 +57,12 @@ open_at needed n d e clear same is = record {
 -- the folder was made where the left-overs were
 pub opened_after : {T : Type 0} (many : ℕ) (needed : ℕ → Bool) (n : ℕ) (r : Result T CleanErr) (t : T) → r ≡ Ok t → (old mid new : DiskState)
     → BothTold (Removes many (is_left_path needed) r) old.told mid.told → Works (is_prefix (generation_path n)) (is_at (generation_path n)) 0 mid new → Holds (IsMade (generation_path n)) new
-    → Holds (IsOpen needed n) new
+    → Holds (IsGenerationOpen needed n) new
 opened_after many needed n r t done old mid new removes works is =
-    holds_both (IsMade (generation_path n)) (λ e. IsMade (generation_path n) e → IsOpen needed n e) (IsOpen needed n) (λ e one gives. gives one) new.told is
-    (holds_then (IsClear (is_left_path needed)) (λ e. IsMade (generation_path n) e → IsOpen needed n e) (WorksTold (is_at (generation_path n)) 0)
+    holds_both (IsMade (generation_path n)) (λ e. IsMade (generation_path n) e → IsGenerationOpen needed n e) (IsGenerationOpen needed n) (λ e one gives. gives one) new.told is
+    (holds_then (IsClear (is_left_path needed)) (λ e. IsMade (generation_path n) e → IsGenerationOpen needed n e) (WorksTold (is_at (generation_path n)) 0)
     (λ d e clear told. open_at needed n d.places e.places clear told.now) mid.told new.told
     (clear_told many (is_left_path needed) r t done old.told mid.told removes) works.told)
-
--- ---- the files are written
 
 -- five bytes against three
 index_is_no_folder : (k : ℕ) → index_name ≡ take 3 (five_digits k) → ⊥
@@ -79,7 +75,7 @@ next_not_below : (n : ℕ) → is_below n next_path ≡ false
 next_not_below n = refl
 
 index_is_below : (n : ℕ) → is_below n (index_path n) ≡ true
-index_is_below n = Rattle.ext_store.proofs.ForCallers.proper_append (generation_path n) index_name []
+index_is_below n = Rattle.ext_store_files.proofs.ForCallers.proper_append (generation_path n) index_name []
 
 second_name : (n k : ℕ) → (index_path n ≡ home_folder n k) ⊎ (index_path n ≡ home_path n k) → index_name ≡ take 3 (five_digits k)
 second_name n k (inl same) = ap (λ (p : List (List ℕ)). Rattle.std.proofs.Common.get_or p 1 []) same
@@ -103,7 +99,7 @@ still_folder n d e stays is = record { stands = stays.node ∙ is.stands; hard =
 made_folder : (n : ℕ) (d : Places) → IsMade (generation_path n) d → HasFolder n d
 made_folder n d is = record { stands = is.node; hard = is.hard }
 
--- all but that names are settled
+-- all but that names are synced
 abbrev IsWrittenAll : ℕ → List (List ℕ) → Places → Type 0
 IsWrittenAll n written e = HasFolder n e × AreWritten n 0 written e × IsAbsent (index_path n) e × IsAbsent next_path e
 
@@ -124,14 +120,14 @@ written_all n written r s most is none works writes =
     (stays_holds (is_below n) (IsAbsent next_path) (IsAbsent next_path) r s (λ d e stays absent. (stays next_path (next_not_below n)).node ∙ absent) works.spares none))
     (told_fact (λ e. AreWritten n 0 written e × IsAbsent (index_path n) e) (Writes n 0 written) (λ d e told. (told.files, no_index_of n (0 + length written) e.places told.homes.only)) r.told s.told writes)
 
--- the files were written, and then their names settled
+-- the files were written, and then their names synced
 pub filled_after : (n : ℕ) (written : List (List ℕ)) (r s t : DiskState) (most : ℕ) → Holds (IsMade (generation_path n)) r → Holds (IsAbsent next_path) r
-    → Works (is_below n) (is_below n) most r s → BothTold (Writes n 0 written) r.told s.told → Works nowhere nowhere 0 s t → Holds (AreSettled n (length written)) t
+    → Works (is_below n) (is_below n) most r s → BothTold (Writes n 0 written) r.told s.told → Works nowhere nowhere 0 s t → Holds (AreSynced n (length written)) t
     → Holds (IsFilled n written) t
-filled_after n written r s t most is none works writes settling settled =
-    holds_both (IsWrittenAll n written) (AreSettled n (length written)) (IsFilled n written)
-    (λ e all names. record { generation = all.0; files = all.1; settled = names; no_index = all.2; no_next = all.3 }) t.told
-    (stays_holds nowhere (IsWrittenAll n written) (IsWrittenAll n written) s t (written_stays n written) settling.spares (written_all n written r s most is none works writes)) settled
+filled_after n written r s t most is none works writes syncing synced =
+    holds_both (IsWrittenAll n written) (AreSynced n (length written)) (IsFilled n written)
+    (λ e all names. record { generation = all.0; files = all.1; synced = names; no_index = all.2; no_next = all.3 }) t.told
+    (stays_holds nowhere (IsWrittenAll n written) (IsWrittenAll n written) s t (written_stays n written) syncing.spares (written_all n written r s most is none works writes)) synced
 
 pub both_with : (R S : Told → Told → Type 0) (P : Places → Type 0) → ((d e : Told) → R d e → P e.places → S d e) → (x y : Option Told) → BothTold R x y → IfSome y (λ e. P e.places) → BothTold S x y
 both_with R S P gives None None both is = tt
@@ -142,9 +138,9 @@ both_with R S P gives (Some d) (Some e) both is = gives d e both is
 -- with as many bytes as they have
 pub fills_told : (n : ℕ) (written : List (List ℕ)) (r s t : DiskState) → BothTold (Writes n 0 written) r.told s.told → Works nowhere nowhere 0 s t → Holds (IsFilled n written) t
     → BothTold (FillsTold n written) r.told t.told
-fills_told n written r s t writes settling filled =
+fills_told n written r s t writes syncing filled =
     both_with (λ d e. e.appended ≤ d.appended + sum_by length written) (FillsTold n written) (IsFilled n written) (λ d e sum is. record { filled = is; appended = sum }) r.told t.told
-    (told_then (Writes n 0 written) (WorksTold nowhere 0) (λ d e. e.appended ≤ d.appended + sum_by length written) (λ c d e x y. omega (arith, x.appended, y.appended)) r.told s.told t.told writes settling.told)
+    (told_then (Writes n 0 written) (WorksTold nowhere 0) (λ d e. e.appended ≤ d.appended + sum_by length written) (λ c d e x y. omega (arith, x.appended, y.appended)) r.told s.told t.told writes syncing.told)
     filled
 
 -- the folders of the files stand
@@ -152,20 +148,18 @@ pub home_folders : (n files : ℕ) (written : List (List ℕ)) (x y : Option Tol
 home_folders n files written x y count writes =
     told_fact (HasHomeFolders n files) (Writes n 0 written) (λ d e told k below. ap is_folder (told.homes.folders k (omega (arith, below, count)))) x y writes
 
--- homes were given, and then the names settled
+-- homes were given, and then the names synced
 pub fills_after : (from : Option Host) (n : ℕ) (host : Host) (most : ℕ) (r s t : DiskState) (depot : DepotState) (placed : Placed) → Holds (IsMade (generation_path n)) r → Holds (IsAbsent next_path) r
-    → Works (is_below n) (is_below n) most r s → Gives from n host r s depot placed → Works nowhere nowhere 0 s t → Holds (AreSettled n placed.files) t → Fills from n host r t depot placed
-fills_after from n host most r s t depot placed is none works gives settling settled =
+    → Works (is_below n) (is_below n) most r s → Gives from n host r s depot placed → Works nowhere nowhere 0 s t → Holds (AreSynced n placed.files) t → Fills from n host r t depot placed
+fills_after from n host most r s t depot placed is none works gives syncing synced =
     let filled : Holds (IsFilled n gives.written) t =
-    filled_after n gives.written r s t most is none works gives.told settling (subst (λ k. Holds (AreSettled n k) t) gives.count settled) in
+    filled_after n gives.written r s t most is none works gives.told syncing (subst (λ k. Holds (AreSynced n k) t) gives.count synced) in
     record {
       written = gives.written;
       homes = gives.homes;
       count = gives.count;
-      told = fills_told n gives.written r s t gives.told settling filled;
+      told = fills_told n gives.written r s t gives.told syncing filled;
     }
-
--- ---- what giving homes makes
 
 made_at : (n count : ℕ) (d e : Places) → IsMade (generation_path n) d → ((p : List (List ℕ)) → is_below n p ≡ false → (e p).node ≡ (d p).node) → HasOnlyHomes n count e → (p : List (List ℕ))
     → ((e p).node ≡ (d p).node) ⊎ IsComing n count p
@@ -200,8 +194,6 @@ homes_make n count most old new is works only = record {
   told = homes_told n count most old.told new.told is works.told only;
 }
 
--- ---- the index
-
 index_not_above : (n : ℕ) → is_prefix (index_path n) (generation_path n) ≡ false
 index_not_above n = not_true (is_prefix (index_path n) (generation_path n)) (λ is. false≢true (and_parts (eq_by_cmp Rattle.ext_text.specs.Name.bytes_cmp (generation_name n) (generation_name n)) false is).1)
 
@@ -211,63 +203,61 @@ index_no_home n k = not_true (is_prefix (index_path n) (home_path n k))
     (and_parts (eq_by_cmp Rattle.ext_text.specs.Name.bytes_cmp index_name (take 3 (five_digits k))) true
     (and_parts (eq_by_cmp Rattle.ext_text.specs.Name.bytes_cmp (generation_name n) (generation_name n)) (eq_by_cmp Rattle.ext_text.specs.Name.bytes_cmp index_name (take 3 (five_digits k)) && true) is).1).0))
 
-index_put : (n : ℕ) (text : List ℕ) (d e : Places) → ((p : List (List ℕ)) → is_prefix (index_path n) p ≡ false → Stays d e p) → IsPut (generation_path n) (index_path n) text e
+index_put : (n : ℕ) (text : List ℕ) (d e : Places) → ((p : List (List ℕ)) → is_prefix (index_path n) p ≡ false → Stays d e p) → IsPutSynced (generation_path n) (index_path n) text e
     → (written : List (List ℕ)) → IsFilled n written d → IsIndexed n written text e
 index_put n text d e stays put written filled = record {
   generation = still_folder n d e (stays (generation_path n) (index_not_above n)) filled.generation;
   files = still_all_written n 0 written d e (λ k. stays (home_path n k) (index_no_home n k)) filled.files;
-  settled = λ k below. (stays (home_path n k) (index_no_home n k)).settled (filled.settled k below);
+  synced = λ k below. (stays (home_path n k) (index_no_home n k)).synced (filled.synced k below);
   index = put;
   no_next = (stays next_path refl).node ∙ filled.no_next;
 }
 
--- ---- next
+root_synced : (e : Places) → IsTree e → is_synced (e []) ≡ true
+root_synced e tree = ap is_synced tree.root
 
-root_settled : (e : Places) → IsTree e → is_settled (e []) ≡ true
-root_settled e tree = ap is_settled tree.root
+durable_at_one : (e : Places) (a : List ℕ) → is_synced (e []) ≡ true → is_synced (e (a ∷ [])) ≡ true → (e (a ∷ [])).unsynced_bytes ≡ false → is_durable e (a ∷ []) ≡ true
+durable_at_one e a root one hard = and_from _ _ (and_from _ _ root one) (not_from_false _ hard)
 
-firm_at_one : (e : Places) (a : List ℕ) → is_settled (e []) ≡ true → is_settled (e (a ∷ [])) ≡ true → (e (a ∷ [])).soft ≡ false → is_firm e (a ∷ []) ≡ true
-firm_at_one e a root one hard = and_from _ _ (and_from _ _ root one) (not_from_false _ hard)
+durable_at_two : (e : Places) (a b : List ℕ) → is_synced (e []) ≡ true → is_synced (e (a ∷ [])) ≡ true → is_synced (e (a ∷ b ∷ [])) ≡ true → (e (a ∷ b ∷ [])).unsynced_bytes ≡ false
+    → is_durable e (a ∷ b ∷ []) ≡ true
+durable_at_two e a b root one two hard = and_from _ _ (and_from _ _ root (and_from _ _ one two)) (not_from_false _ hard)
 
-firm_at_two : (e : Places) (a b : List ℕ) → is_settled (e []) ≡ true → is_settled (e (a ∷ [])) ≡ true → is_settled (e (a ∷ b ∷ [])) ≡ true → (e (a ∷ b ∷ [])).soft ≡ false
-    → is_firm e (a ∷ b ∷ []) ≡ true
-firm_at_two e a b root one two hard = and_from _ _ (and_from _ _ root (and_from _ _ one two)) (not_from_false _ hard)
+durable_at_three : (e : Places) (a b c : List ℕ) → is_synced (e []) ≡ true → is_synced (e (a ∷ [])) ≡ true → is_synced (e (a ∷ b ∷ [])) ≡ true → is_synced (e (a ∷ b ∷ c ∷ [])) ≡ true
+    → (e (a ∷ b ∷ c ∷ [])).unsynced_bytes ≡ false → is_durable e (a ∷ b ∷ c ∷ []) ≡ true
+durable_at_three e a b c root one two three hard = and_from _ _ (and_from _ _ root (and_from _ _ one (and_from _ _ two three))) (not_from_false _ hard)
 
-firm_at_three : (e : Places) (a b c : List ℕ) → is_settled (e []) ≡ true → is_settled (e (a ∷ [])) ≡ true → is_settled (e (a ∷ b ∷ [])) ≡ true → is_settled (e (a ∷ b ∷ c ∷ [])) ≡ true
-    → (e (a ∷ b ∷ c ∷ [])).soft ≡ false → is_firm e (a ∷ b ∷ c ∷ []) ≡ true
-firm_at_three e a b c root one two three hard = and_from _ _ (and_from _ _ root (and_from _ _ one (and_from _ _ two three))) (not_from_false _ hard)
-
-hard_at : (n j : ℕ) (written : List (List ℕ)) (e : Places) (k : ℕ) → k < length written → AreWritten n j written e → (e (home_path n (j + k))).soft ≡ false
+hard_at : (n j : ℕ) (written : List (List ℕ)) (e : Places) (k : ℕ) → k < length written → AreWritten n j written e → (e (home_path n (j + k))).unsynced_bytes ≡ false
 hard_at n j [] e k below are = absurd (omega (arith, below))
-hard_at n j (bytes ∷ more) e Prim.Native.Nat.zero below are = ap (λ i. (e (home_path n i)).soft) (Rattle.std.proofs.Common.add-zero j) ∙ are.0.hard
+hard_at n j (bytes ∷ more) e Prim.Native.Nat.zero below are = ap (λ i. (e (home_path n i)).unsynced_bytes) (Rattle.std.proofs.Common.add-zero j) ∙ are.0.hard
 hard_at n j (bytes ∷ more) e (Prim.Native.Nat.suc k) below are =
     let one : j + Prim.Native.Nat.suc k ≡ (j + 1) + k = omega arith in
-    ap (λ i. (e (home_path n i)).soft) one ∙ hard_at n (j + 1) more e k (omega (arith, below)) are.1
+    ap (λ i. (e (home_path n i)).unsynced_bytes) one ∙ hard_at n (j + 1) more e k (omega (arith, below)) are.1
 
-next_put : (n : ℕ) (text : List ℕ) (d e : Places) → IsTree e → ((p : List (List ℕ)) → is_prefix next_path p ≡ false → Stays d e p) → IsPut [] next_path (current_text n) e
+next_put : (n : ℕ) (text : List ℕ) (d e : Places) → IsTree e → ((p : List (List ℕ)) → is_prefix next_path p ≡ false → Stays d e p) → IsPutSynced [] next_path (current_text n) e
     → (written : List (List ℕ)) → IsIndexed n written text d → IsComplete n written text e
 next_put n text d e tree stays put written is =
-    let root = root_settled e tree in
-    let top : is_settled (e (generation_path n)) ≡ true = put.names (generation_name n) in
+    let root = root_synced e tree in
+    let top : is_synced (e (generation_path n)) ≡ true = put.names (generation_name n) in
     let indexed = stays (index_path n) refl in
     let files : AreWritten n 0 written e = still_all_written n 0 written d e (λ k. stays (home_path n k) refl) is.files in
     record {
-      generation = firm_at_one e (generation_name n) root top ((stays (generation_path n) refl).hard is.generation.hard);
-      index = firm_at_two e (generation_name n) index_name root top (indexed.settled (is.index.names index_name)) (indexed.hard is.index.written.hard);
+      generation = durable_at_one e (generation_name n) root top ((stays (generation_path n) refl).hard is.generation.hard);
+      index = durable_at_two e (generation_name n) index_name root top (indexed.synced (is.index.names index_name)) (indexed.hard is.index.written.hard);
       index_is = indexed.node ∙ is.index.written.node;
-      next = firm_at_one e next_name root (put.names next_name) put.written.hard;
+      next = durable_at_one e next_name root (put.names next_name) put.written.hard;
       next_is = put.written.node;
-      firm = λ k below.
-          firm_at_three e (generation_name n) (take 3 (five_digits k)) (drop 3 (five_digits k)) root top
-          ((stays (home_folder n k) refl).settled (is.index.names (take 3 (five_digits k))))
-          ((stays (home_path n k) refl).settled (is.settled k below))
-          (ap (λ i. (e (home_path n i)).soft) (sym (Rattle.std.proofs.Common.zero-add k)) ∙ hard_at n 0 written e k below files);
+      durable = λ k below.
+          durable_at_three e (generation_name n) (take 3 (five_digits k)) (drop 3 (five_digits k)) root top
+          ((stays (home_folder n k) refl).synced (is.index.names (take 3 (five_digits k))))
+          ((stays (home_path n k) refl).synced (is.synced k below))
+          (ap (λ i. (e (home_path n i)).unsynced_bytes) (sym (Rattle.std.proofs.Common.zero-add k)) ∙ hard_at n 0 written e k below files);
       files = files;
     }
 
-completes_told : (n : ℕ) (text : List ℕ) (x y z : Option Told) → IfSome z IsDisk → BothTold (λ d e. (p : List (List ℕ)) → is_prefix (index_path n) p ≡ false → IsSpared d e p) x y
-    → IfSome y (λ e. IsPut (generation_path n) (index_path n) text e.places) → BothTold (λ d e. (p : List (List ℕ)) → is_prefix next_path p ≡ false → IsSpared d e p) y z
-    → IfSome z (λ e. IsPut [] next_path (current_text n) e.places) → BothTold (Completes n text) x z
+completes_told : (n : ℕ) (text : List ℕ) (x y z : Option Told) → IfSome z IsDisk → BothTold (λ d e. (p : List (List ℕ)) → is_prefix (index_path n) p ≡ false → IsUnchangedAt d e p) x y
+    → IfSome y (λ e. IsPutSynced (generation_path n) (index_path n) text e.places) → BothTold (λ d e. (p : List (List ℕ)) → is_prefix next_path p ≡ false → IsUnchangedAt d e p) y z
+    → IfSome z (λ e. IsPutSynced [] next_path (current_text n) e.places) → BothTold (CompletesGeneration n text) x z
 completes_told n text None None None disk one put two last = tt
 completes_told n text None None (Some f) disk one put two last = absurd two
 completes_told n text None (Some e) z disk one put two last = absurd one
@@ -280,11 +270,9 @@ completes_told n text (Some d) (Some e) (Some f) disk one put two last =
 
 -- the index was put, and then `next`
 pub completed : (n : ℕ) (text : List ℕ) (a b : ℕ) (r s t : DiskState) → IfSome t.told IsDisk → Works (is_prefix (index_path n)) (is_at (index_path n)) a r s
-    → Holds (IsPut (generation_path n) (index_path n) text) s → Works (is_prefix next_path) (is_at next_path) b s t → Holds (IsPut [] next_path (current_text n)) t
-    → BothTold (Completes n text) r.told t.told
+    → Holds (IsPutSynced (generation_path n) (index_path n) text) s → Works (is_prefix next_path) (is_at next_path) b s t → Holds (IsPutSynced [] next_path (current_text n)) t
+    → BothTold (CompletesGeneration n text) r.told t.told
 completed n text a b r s t disk one put two last = completes_told n text r.told s.told t.told disk one.spares.told put two.spares.told last
-
--- ---- what the last moves ask
 
 pub filled_folder : (n : ℕ) (written : List (List ℕ)) (old new : DiskState) → BothTold (FillsTold n written) old.told new.told → Holds (IsFolderAt (generation_path n)) new
 filled_folder n written old new told = told_fact (IsFolderAt (generation_path n)) (FillsTold n written) (λ d e fills. ap is_folder fills.filled.generation.stands) old.told new.told told

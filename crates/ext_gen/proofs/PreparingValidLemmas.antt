@@ -18,8 +18,6 @@ use Rattle.ext_host.specs.declared.host.Host.{Host}
 use Rattle.ext_host.specs.declared.manifest.Manifest.{Manifest}
 use Rattle.ext_gen.proofs.PreparingIndexLemmas.{EntryNoLonger, AreNoLonger}
 
--- ---- look-ups
-
 -- nothing stands in either, or entries of one kind, and files with one stamp
 abbrev pub OptionAlike : ℕ → ℕ → Option (Entry HeldFile) → Option (Entry HeldFile) → Type 0
 OptionAlike n m None o = o ≡ None
@@ -86,8 +84,6 @@ file_back n m mode b (Some e) y alike is = of_kind e alike.0 alike.2 (some_is al
     of_kind (Link t) f same is = cc
     of_kind Hide f same is = cc
 
--- ---- limits
-
 entry_in_range : (n m : ℕ) (e f : Entry HeldFile) → EntryNoLonger n m e f → IsWritable held_form f → IsWritable held_form e
 entry_in_range n m (Dir k) f same range = subst (IsWritable held_form) same range
 entry_in_range n m (Opaque k) f same range = subst (IsWritable held_form) same range
@@ -123,8 +119,6 @@ tree_count : (n m : ℕ) (fs es : Entries HeldFile) → AreNoLonger n m fs es �
 tree_count n m [] es alike = sym (ap length alike)
 tree_count n m (x ∷ fs) es (f, rest, same, one, more) = omega (arith, tree_count n m fs rest more, ap length same)
 
--- ---- manifests
-
 each_items : (n m : ℕ) (base other : List (List ℕ) → Option (Entry HeldFile)) (manifest : Manifest) → ((p : List (List ℕ)) → OptionAlike n m (base p) (other p)) → HasItems other manifest
     → HasItems base manifest
 each_items n m base other manifest alike items = record {
@@ -148,8 +142,6 @@ all_items : (n m : ℕ) (base other : List (List ℕ) → Option (Entry HeldFile
     → AllByRecursion (HasItems base) kept
 all_items n m base other [] alike all = tt
 all_items n m base other (manifest ∷ kept) alike all = (each_items n m base other manifest alike all.0, all_items n m base other kept alike all.1)
-
--- ---- the host
 
 -- a valid host with other homes, and the same stamps, is valid
 pub placed_is_valid : (n m : ℕ) (host : Host) (root lower : Entries HeldFile) → AreNoLonger n m root host.root → AreNoLonger n m lower host.lower → IsValidHost host

@@ -2,7 +2,7 @@
 use Rattle.std.specs.Prelude.{◌≡◌, ◌≢◌, ℕ, ◌⊎◌, Option, Some, None}
 use Rattle.ext_disk.specs.Disk.{Node, Tree, folder, file}
 use Rattle.ext_index.specs.Faulty.{IsFaulty}
-use Rattle.ext_store.specs.Names.{IsGeneration, current_path, current_text, index_path}
+use Rattle.ext_store_files.specs.Names.{IsGeneration, current_path, current_text, index_path}
 use Rattle.ext_gen.specs.Opened.{Generation}
 use Rattle.ext_gen.specs.Store.{Points}
 
@@ -28,8 +28,6 @@ pub record HasFaultyIndex (t : Tree) (line : ℕ) : Type 0 where
 -- The store is broken in this line: 0 where `current` names no generation, else the first line of the index that breaks a rule.
 abbrev pub IsBroken : Tree → ℕ → Type 0
 IsBroken t line = (NamesNone (t current_path) × (line ≡ 0)) ⊎ HasFaultyIndex t line
-
--- ---- laws
 
 -- a store points to one generation, or to none
 abbrev pub OneGeneration : Type 0

@@ -13,10 +13,9 @@ use Rattle.ext_host.specs.Valid.{all_bytes, most_bytes}
 use Rattle.ext_host.specs.declared.host.Host.{Host}
 use Rattle.ext_host.specs.declared.past.Past.{Past}
 use Rattle.ext_host.specs.declared.shelf.ShelfErr.{ShelfErr}
-use Rattle.ext_store.specs.HeldFiles.{is_served, body_told, IsListed}
+use Rattle.ext_store_files.specs.HeldFiles.{is_served, body_told, IsListed}
 
--- ---- the files of a host
-
+-- the file of an entry, if it is one
 abbrev pub files_in : Entry HeldFile → List HeldFile
 files_in (Dir mode) = []
 files_in (Opaque mode) = []
@@ -32,12 +31,15 @@ files_of es = flat_map (λ e. files_in e.1) es
 abbrev pub files_of_both : Entries HeldFile → Entries HeldFile → List HeldFile
 files_of_both root lower = files_of root ++ files_of lower
 
+-- the files of a past tree, those that are seen first
 abbrev pub files_of_past : Past → List HeldFile
 files_of_past past = files_of_both past.root past.lower
 
+-- the files of a host, and then those of its past trees
 abbrev pub files_of_host : Host → List HeldFile
 files_of_host host = files_of_both host.root host.lower ++ flat_map files_of_past host.past
 
+-- the bytes of files together
 abbrev pub sizes_of : List HeldFile → ℕ
 sizes_of files = sum_by (λ held. held.stamp.size) files
 
@@ -48,8 +50,6 @@ IsServed held = IsTrue (is_served held.body)
 -- so is each file of the trees
 abbrev pub AreServed : List (Entries HeldFile) → Type 0
 AreServed trees = (held : HeldFile) → IsFileOf trees held → IsServed held
-
--- ---- what a check says
 
 -- the file has its stamp, where its bytes are told
 abbrev pub IsAsListed : DiskState → HeldFile → Type 0
@@ -62,15 +62,13 @@ pub record AreChecked (disk : DiskState) (files : List HeldFile) (counts : ℕ �
   pub bytes : counts.1 ≡ sizes_of files
 
 -- at the first file that was not verified: those before it have their stamps, and it was not for this reason
-pub record StopsAt (old new : DiskState) (files : List HeldFile) (e : ShelfErr) : Type 0 where
+pub record StopsAtFile (old new : DiskState) (files : List HeldFile) (e : ShelfErr) : Type 0 where
   pub before : List HeldFile
   pub held : HeldFile
   pub after : List HeldFile
   pub is : files ≡ before ++ held ∷ after
   pub listed : AllByRecursion (IsAsListed old) before
   pub cause : ShelfCause old.faults new.faults (body_told old held.body) held e
-
--- ---- the parts
 
 -- two trees are within the limits of a host
 pub record AreCounted (root lower : Entries HeldFile) : Type 0 where

@@ -1,7 +1,7 @@
 -- A generation of a store: its host, its number, and the number of the text that its index is. This project's own.
 use Rattle.std.specs.Prelude.{ℕ, List}
 use Rattle.ext_host.specs.declared.host.Host.{Host}
-use Rattle.ext_store.specs.Names.{IsGeneration}
+use Rattle.ext_store_files.specs.Names.{IsGeneration}
 use Rattle.ext_index.specs.ValidIndex.{GivesIndex}
 
 -- what contracts see of an opened store

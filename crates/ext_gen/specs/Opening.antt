@@ -4,25 +4,26 @@ use Rattle.ext_text.specs.Causes.{Rose}
 use Rattle.ext_disk.specs.Disk.{Node, Tree, Told, file, now}
 use Rattle.ext_index.specs.Faulty.{IsFaulty}
 use Rattle.ext_index.specs.ValidIndex.{GivesIndex}
-use Rattle.ext_store.specs.Names.{IsGeneration, current_text}
-use Rattle.ext_store.specs.declared.reading.Found.{Found}
-use Rattle.ext_store.specs.declared.reading.Found.TheVariants.{Absent, Folder, TooLong, File}
-use Rattle.ext_store.specs.Writing.{nowhere, WorksTold}
+use Rattle.ext_store_files.specs.Names.{IsGeneration, current_text}
+use Rattle.ext_store_files.specs.declared.reading.Found.{Found}
+use Rattle.ext_store_files.specs.declared.reading.Found.TheVariants.{Absent, Folder, TooLong, File}
+use Rattle.ext_store_files.specs.Writing.{nowhere, WorksTold}
+use Rattle.ext_store_files.specs.declared.fault.StoreFault.TheVariants.{OutOfMemory, DiskFault, DepotFault, Damaged}
 use Rattle.ext_gen.specs.Opened.{Generation}
 use Rattle.ext_gen.specs.Store.{State, generation_in, Points, Stands}
-use Rattle.ext_gen.specs.Sound.{IsFirmly, IsMember, IsSound, StandsSince}
+use Rattle.ext_gen.specs.Sound.{IsDurably, IsMember, IsSound, StandsSince}
 use Rattle.ext_gen.specs.Broken.{IsBroken, IsFaultyIndex, NamesNone}
 use Rattle.ext_gen.specs.declared.errors.StoreErr.{StoreErr}
-use Rattle.ext_gen.specs.declared.errors.StoreErr.TheVariants.{OutOfMemory, DiskFault, DepotFault, Broken, Damaged, Mismatch, NotInDepot, Unfinished, Limit}
+use Rattle.ext_gen.specs.declared.errors.StoreErr.TheVariants.{Fault, Broken, Mismatch, NotInDepot, Unfinished, Limit}
 
 -- the answer is what the store points to; broken where it points to nothing, in its first faulty line
 abbrev pub OpenSays : Result (Option Generation) StoreErr → Tree → Type 0
 OpenSays (Ok answer) t = Points t answer
-OpenSays (Err OutOfMemory) t = Unit {0}
-OpenSays (Err DiskFault) t = Unit {0}
-OpenSays (Err DepotFault) t = ⊥
+OpenSays (Err (Fault OutOfMemory)) t = Unit {0}
+OpenSays (Err (Fault DiskFault)) t = Unit {0}
+OpenSays (Err (Fault DepotFault)) t = ⊥
 OpenSays (Err (Broken line)) t = IsBroken t line
-OpenSays (Err (Damaged home listed found)) t = ⊥
+OpenSays (Err (Fault (Damaged damage))) t = ⊥
 OpenSays (Err (Mismatch path listed found)) t = ⊥
 OpenSays (Err (NotInDepot path)) t = ⊥
 OpenSays (Err Unfinished) t = ⊥
@@ -30,11 +31,11 @@ OpenSays (Err (Limit which)) t = ⊥
 
 -- why a store was not opened
 abbrev pub OpenCause : ℕ → ℕ → StoreErr → Type 0
-OpenCause before after OutOfMemory = Unit {0}
-OpenCause before after DiskFault = Rose before after
-OpenCause before after DepotFault = ⊥
+OpenCause before after (Fault OutOfMemory) = Unit {0}
+OpenCause before after (Fault DiskFault) = Rose before after
+OpenCause before after (Fault DepotFault) = ⊥
 OpenCause before after (Broken line) = Unit {0}
-OpenCause before after (Damaged home listed found) = ⊥
+OpenCause before after (Fault (Damaged damage)) = ⊥
 OpenCause before after (Mismatch path listed found) = ⊥
 OpenCause before after (NotInDepot path) = ⊥
 OpenCause before after Unfinished = ⊥
@@ -44,30 +45,29 @@ OpenCause before after (Limit which) = ⊥
 abbrev pub KeepsNow : Told → Told → Type 0
 KeepsNow d e = WorksTold nowhere 0 d e
 
--- from a sound store: firmly the state that the answer is, for which the store stood before. An error before the store folder
--- was settled leaves the disk as it was; a later one leaves it firmly standing for what it stood for
+-- from a sound store: durably the state that the answer is, for which the store stood before. An error before the store folder
+-- was synced leaves the disk as it was; a later one leaves it durably standing for what it stood for
 abbrev pub OpenEnds : Result (Option Generation) StoreErr → Told → Told → Type 0
-OpenEnds (Ok answer) d e = (s : State) × (generation_in s ≡ answer) × Stands (now d.places) s × IsFirmly s e.places
-OpenEnds (Err error) d e = (e ≡ d) ⊎ ((s : State) × Stands (now d.places) s × IsFirmly s e.places)
+OpenEnds (Ok answer) d e = (s : State) × (generation_in s ≡ answer) × Stands (now d.places) s × IsDurably s e.places
+OpenEnds (Err error) d e = (e ≡ d) ⊎ ((s : State) × Stands (now d.places) s × IsDurably s e.places)
 
 -- and each tree that a stop since may have left stands for a state for which it might have stood before
 pub record OpensSound (result : Result (Option Generation) StoreErr) (d e : Told) : Type 0 where
   pub ends : OpenEnds result d e
   pub since : StandsSince (IsMember d.places) e d.clock
 
+-- what opening leaves of a sound store
 abbrev pub OpensTold : Result (Option Generation) StoreErr → Told → Told → Type 0
 OpensTold result d e = IsSound d.places → OpensSound result d e
-
--- ---- the parts
 
 -- what is said of a text, as the index of the generation
 abbrev pub TextSays : ℕ → List ℕ → Result Generation StoreErr → Type 0
 TextSays n text (Ok g) = (g.number ≡ n) × GivesIndex n text (g.host, g.text)
-TextSays n text (Err OutOfMemory) = Unit {0}
-TextSays n text (Err DiskFault) = ⊥
-TextSays n text (Err DepotFault) = ⊥
+TextSays n text (Err (Fault OutOfMemory)) = Unit {0}
+TextSays n text (Err (Fault DiskFault)) = ⊥
+TextSays n text (Err (Fault DepotFault)) = ⊥
 TextSays n text (Err (Broken line)) = IsFaulty n text line
-TextSays n text (Err (Damaged home listed found)) = ⊥
+TextSays n text (Err (Fault (Damaged damage))) = ⊥
 TextSays n text (Err (Mismatch path listed found)) = ⊥
 TextSays n text (Err (NotInDepot path)) = ⊥
 TextSays n text (Err Unfinished) = ⊥
@@ -76,11 +76,11 @@ TextSays n text (Err (Limit which)) = ⊥
 -- and of what stands where the index of the generation should
 abbrev pub IndexSays : ℕ → Option Node → Result Generation StoreErr → Type 0
 IndexSays n found (Ok g) = (g.number ≡ n) × ((text : List ℕ) × (found ≡ Some (file text)) × GivesIndex n text (g.host, g.text))
-IndexSays n found (Err OutOfMemory) = Unit {0}
-IndexSays n found (Err DiskFault) = Unit {0}
-IndexSays n found (Err DepotFault) = ⊥
+IndexSays n found (Err (Fault OutOfMemory)) = Unit {0}
+IndexSays n found (Err (Fault DiskFault)) = Unit {0}
+IndexSays n found (Err (Fault DepotFault)) = ⊥
 IndexSays n found (Err (Broken line)) = IsFaultyIndex n found line
-IndexSays n found (Err (Damaged home listed found_stamp)) = ⊥
+IndexSays n found (Err (Fault (Damaged damage))) = ⊥
 IndexSays n found (Err (Mismatch path listed found_stamp)) = ⊥
 IndexSays n found (Err (NotInDepot path)) = ⊥
 IndexSays n found (Err Unfinished) = ⊥
@@ -110,11 +110,11 @@ NamesOf (File text) result = NamedBy text result
 abbrev pub NumberSays : Option Node → Result (Option ℕ) StoreErr → Type 0
 NumberSays found (Ok None) = found ≡ None
 NumberSays found (Ok (Some n)) = IsGeneration n × (found ≡ Some (file (current_text n)))
-NumberSays found (Err OutOfMemory) = Unit {0}
-NumberSays found (Err DiskFault) = Unit {0}
-NumberSays found (Err DepotFault) = ⊥
+NumberSays found (Err (Fault OutOfMemory)) = Unit {0}
+NumberSays found (Err (Fault DiskFault)) = Unit {0}
+NumberSays found (Err (Fault DepotFault)) = ⊥
 NumberSays found (Err (Broken line)) = NamesNone found × (line ≡ 0)
-NumberSays found (Err (Damaged home listed found_stamp)) = ⊥
+NumberSays found (Err (Fault (Damaged damage))) = ⊥
 NumberSays found (Err (Mismatch path listed found_stamp)) = ⊥
 NumberSays found (Err (NotInDepot path)) = ⊥
 NumberSays found (Err Unfinished) = ⊥

@@ -4,11 +4,12 @@ use Rattle.std.specs.Option.{is_some}
 use Rattle.ext_text.specs.Path.{is_prefix}
 use Rattle.ext_disk.specs.Disk.{Places, Told, DiskState, BothTold}
 use Rattle.ext_disk.specs.Fixed.{Spares}
-use Rattle.ext_store.specs.LeftOvers.{is_left_path}
-use Rattle.ext_store.specs.Names.{generation_path, home_folder, home_path, index_path, next_path}
-use Rattle.ext_store.specs.Removal.{AtMost, Loses, MoreThan}
+use Rattle.ext_store_files.specs.LeftOvers.{is_left_path, most_left_overs}
+use Rattle.ext_store_files.specs.Names.{generation_path, home_folder, home_path, index_path, next_path}
+use Rattle.ext_store_files.specs.Removal.{AtMost, Loses, MoreThan}
+use Rattle.ext_store_files.specs.declared.fault.StoreFault.TheVariants.{OutOfMemory, DiskFault, DepotFault, Damaged}
 use Rattle.ext_gen.specs.declared.errors.StoreErr.{StoreErr}
-use Rattle.ext_gen.specs.declared.errors.StoreErr.TheVariants.{OutOfMemory, DiskFault, DepotFault, Broken, Damaged, Mismatch, NotInDepot, Unfinished, Limit}
+use Rattle.ext_gen.specs.declared.errors.StoreErr.TheVariants.{Fault, Broken, Mismatch, NotInDepot, Unfinished, Limit}
 
 -- a path at or below the folder of the coming generation, or at or below `next`
 abbrev pub is_coming : ℕ → List (List ℕ) → Bool
@@ -23,19 +24,15 @@ pub data IsComing (n files : ℕ) : List (List ℕ) → Type 0 where
   folder : (k : ℕ) → k < files → IsComing n files (home_folder n k)
   file : (k : ℕ) → k < files → IsComing n files (home_path n k)
 
--- ---- a part of a change
-
 -- what stands changes at those paths alone, and no more than so many bytes were appended
 pub record MakesTold (n files most : ℕ) (d e : Told) : Type 0 where
   pub now : (p : List (List ℕ)) → ((e.places p).node ≡ (d.places p).node) ⊎ IsComing n files p
   pub appended : e.appended ≤ d.appended + most
 
--- what is out of the coming generation's reach is spared
+-- what is out of the coming generation's reach stays as it was
 pub record Makes (n files most : ℕ) (old new : DiskState) : Type 0 where
   pub spares : Spares (is_coming n) old new
   pub told : BothTold (MakesTold n files most) old.told new.told
-
--- ---- a change, the removal of left-overs counted
 
 -- at a path stands what stood there; or nothing, where it is a left-over's; or it is one at which the change makes something
 pub data ChangesAt (left : List (List ℕ) → Bool) (n files : ℕ) (d e : Places) (p : List (List ℕ)) : Type 0 where
@@ -48,12 +45,10 @@ pub record ChangesTold (left : List (List ℕ) → Bool) (n files most : ℕ) (d
   pub now : (p : List (List ℕ)) → ChangesAt left n files d.places e.places p
   pub appended : e.appended ≤ d.appended + most
 
--- what is out of reach is spared: each path that is no left-over's nor below one
+-- what is out of reach stays as it was: each path that is no left-over's nor below one
 pub record Changes (needed : ℕ → Bool) (n files most : ℕ) (old new : DiskState) : Type 0 where
   pub spares : Spares (is_left_path needed) old new
   pub told : BothTold (ChangesTold (is_left_path needed) n files most) old.told new.told
-
--- ---- left-overs
 
 -- something stood at the left-over's path, or below that, and is gone
 abbrev pub is_gone : (List (List ℕ) → Bool) → Places → List (List ℕ) → Bool
@@ -61,21 +56,22 @@ is_gone left e p = left p && not (is_some (e p).node)
 
 -- of what stood at and below left-overs at most so many are gone
 abbrev pub FewGone : (List (List ℕ) → Bool) → Places → Places → Type 0
-FewGone left d e = AtMost 1048576 (is_gone left e) d
+FewGone left d e = AtMost most_left_overs (is_gone left e) d
 
 -- They were few enough for each answer that comes after their removal. They were too many where that is unfinished, and so many
 -- are gone then. Never are more.
 abbrev pub CleansSays : {T : Type 0} → (List (List ℕ) → Bool) → Result T StoreErr → Places → Places → Type 0
-CleansSays left (Ok done) d e = AtMost 1048576 left d
-CleansSays left (Err OutOfMemory) d e = FewGone left d e
-CleansSays left (Err DiskFault) d e = FewGone left d e
-CleansSays left (Err DepotFault) d e = AtMost 1048576 left d
+CleansSays left (Ok done) d e = AtMost most_left_overs left d
+CleansSays left (Err (Fault OutOfMemory)) d e = FewGone left d e
+CleansSays left (Err (Fault DiskFault)) d e = FewGone left d e
+CleansSays left (Err (Fault DepotFault)) d e = AtMost most_left_overs left d
 CleansSays left (Err (Broken line)) d e = Unit {0}
-CleansSays left (Err (Damaged home listed found)) d e = AtMost 1048576 left d
-CleansSays left (Err (Mismatch path listed found)) d e = AtMost 1048576 left d
-CleansSays left (Err (NotInDepot path)) d e = AtMost 1048576 left d
-CleansSays left (Err Unfinished) d e = MoreThan 1048576 left d × Loses left d e (λ n. n ≡ 1048576)
+CleansSays left (Err (Fault (Damaged damage))) d e = AtMost most_left_overs left d
+CleansSays left (Err (Mismatch path listed found)) d e = AtMost most_left_overs left d
+CleansSays left (Err (NotInDepot path)) d e = AtMost most_left_overs left d
+CleansSays left (Err Unfinished) d e = MoreThan most_left_overs left d × Loses left d e (λ n. n ≡ most_left_overs)
 CleansSays left (Err (Limit which)) d e = Unit {0}
 
+-- what a preparation does to left-overs, on disks that tell
 abbrev pub Cleans : {T : Type 0} → (List (List ℕ) → Bool) → Result T StoreErr → DiskState → DiskState → Type 0
 Cleans left r old new = BothTold (λ d e. CleansSays left r d.places e.places) old.told new.told

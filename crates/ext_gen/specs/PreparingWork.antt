@@ -5,8 +5,8 @@ use Rattle.std.specs.Option.{is_some}
 use Rattle.ext_depot.specs.Depot.{DepotState}
 use Rattle.ext_disk.specs.Disk.{Told, DiskState, BothTold}
 use Rattle.ext_host.specs.declared.host.Host.{Host}
-use Rattle.ext_store.specs.LeftOvers.{is_left_over}
-use Rattle.ext_store.specs.Names.{current_text, generation_name, next_name}
+use Rattle.ext_store_files.specs.LeftOvers.{is_left_over}
+use Rattle.ext_store_files.specs.Names.{current_text, generation_name, next_name}
 use Rattle.ext_homes.specs.Giving.{stored_by}
 use Rattle.ext_homes.specs.Placed.{IsHostPlaced}
 use Rattle.ext_gen.specs.Opened.{Generation, IsOpened}

@@ -6,7 +6,7 @@ use Rattle.ext_host.specs.Held.{HeldFile, IsStampOf}
 use Rattle.ext_host.specs.declared.body.Body.TheVariants.{Kept}
 use Rattle.ext_host.specs.declared.home.Home.{Home}
 use Rattle.ext_host.specs.declared.host.Host.{Host}
-use Rattle.ext_store.specs.Names.{IsGeneration, current_path, current_text, home_path, index_path}
+use Rattle.ext_store_files.specs.Names.{IsGeneration, current_path, current_text, home_path, index_path}
 use Rattle.ext_index.specs.ValidIndex.{GivesIndex}
 use Rattle.ext_gen.specs.Opened.{Generation}
 
@@ -20,8 +20,6 @@ abbrev pub generation_in : State → Option Generation
 generation_in none = None
 generation_in (at g contents) = Some g
 
--- ---- what a store folder points to
-
 -- `current` names the generation, whose index is that of the host
 pub record IsCurrent (t : Tree) (g : Generation) : Type 0 where
   pub number : IsGeneration g.number
@@ -30,11 +28,10 @@ pub record IsCurrent (t : Tree) (g : Generation) : Type 0 where
   pub index : t (index_path g.number) ≡ Some (file bytes)
   pub reads : GivesIndex g.number bytes (g.host, g.text)
 
+-- the tree is a store that points to the generation, or to none
 abbrev pub Points : Tree → Option Generation → Type 0
 Points t None = t current_path ≡ None
 Points t (Some g) = IsCurrent t g
-
--- ---- what it stands for
 
 -- the file is kept at the home, by its listed stamp
 pub record IsKeptFile (host : Host) (held : HeldFile) (home : Home) : Type 0 where
@@ -46,6 +43,7 @@ pub record HasFiles (t : Tree) (host : Host) (contents : Home → List ℕ) : Ty
   pub stands : (held : HeldFile) (home : Home) → IsKeptFile host held home → t (home_path home.generation home.file) ≡ Some (file (contents home))
   pub stamped : (held : HeldFile) (home : Home) → IsKeptFile host held home → IsStampOf (contents home) held.stamp
 
+-- the tree is a store that stands for the state
 abbrev pub Stands : Tree → State → Type 0
 Stands t none = t current_path ≡ None
 Stands t (at g contents) = IsCurrent t g × HasFiles t g.host contents

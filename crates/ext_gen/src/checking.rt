@@ -4,28 +4,33 @@ ghost use Rattle.std.specs.List.{AllByRecursion, flat_map};
 ghost use Rattle.ext_disk.specs.Since.{Rests};
 ghost use Rattle.ext_host.specs.Drawn.{trees_of};
 ghost use Rattle.ext_host.specs.Valid.{IsValidHost};
-ghost use Rattle.ext_gen.specs.Checking.{AreChecked, AreCounted, AreServed, IsServed, MayCheckPast, StopsAt, files_in, files_of, files_of_both, files_of_host, files_of_past, sizes_of};
+ghost use Rattle.ext_gen.specs.Checking.{AreChecked, AreCounted, AreServed, IsServed, MayCheckPast, StopsAtFile, files_in, files_of, files_of_both, files_of_host, files_of_past, sizes_of};
 
 use ext_disk::Disk;
 use ext_host::{Held, Host, Past, ShelfErr};
-use ext_store::verify;
+use ext_store_files::verify;
 use ext_text::Path;
 use ext_tree::{Entry, Tree};
 use std::alloc::Global;
 
-/// Reads every file of a host, those that are seen, those that lie under the view, and those of each past tree in the same way,
-/// and compares each with its stamp. Gives how many files there are, and the sum of their sizes; a file that is kept once and
-/// listed twice counts twice. The host is valid, and its files are here or kept under numbers up to 262,143.
+/// Reads every file of a host, those that are seen, those that lie under the view, and those of each past tree in the same
+/// way, and compares each with its stamp. Gives how many files there are, and the sum of their sizes. A file that is kept
+/// once and listed twice counts twice. The host is valid, and its files are here or kept under numbers up to 262,143.
 ///
 /// # Errors
-/// At the first file that is not verified: `Damaged` exactly where it is kept and has another stamp, `Fault` only where the
-/// disk counted one, out of memory. The disk is as before.
+/// At the first file that is not verified:
+///
+/// - `Damaged` exactly where it is kept and has another stamp.
+/// - `Fault` only where the disk counted one.
+/// - Out of memory.
+///
+/// The disk is as before.
 pub fn check<D: Disk>(alloc: Global, disk: &mut D, host: &Host) -> Result<(u64, u64), ShelfErr>
     requires valid { IsValidHost host.now }
     requires served { AreServed (trees_of host.now) }
     ensures checked { IfOk result (AreChecked (D.state disk.old) (files_of_host host.now)) }
     ensures rests { Rests (D.state disk.old) (D.state disk.new) }
-    ensures cause { IfErr result (StopsAt (D.state disk.old) (D.state disk.new) (files_of_host host.now)) }
+    ensures cause { IfErr result (StopsAtFile (D.state disk.old) (D.state disk.new) (files_of_host host.now)) }
 {
     let present = check_both(alloc, disk, &host.root, &host.lower)?;
     let past = check_pasts(alloc, disk, host.past.as_slice())?;
@@ -38,7 +43,7 @@ fn check_pasts<D: Disk>(alloc: Global, disk: &mut D, pasts: &[Past]) -> Result<(
     requires few { length pasts.now ≤ 16 }
     ensures checked { IfOk result (AreChecked (D.state disk.old) (flat_map files_of_past pasts.now)) }
     ensures rests { Rests (D.state disk.old) (D.state disk.new) }
-    ensures cause { IfErr result (StopsAt (D.state disk.old) (D.state disk.new) (flat_map files_of_past pasts.now)) }
+    ensures cause { IfErr result (StopsAtFile (D.state disk.old) (D.state disk.new) (flat_map files_of_past pasts.now)) }
 {
     let mut counts = (0, 0);
     'pasts: for past in pasts {
@@ -59,7 +64,7 @@ fn check_both<D: Disk>(
     requires served { AreServed (root.now ∷ lower.now ∷ []) }
     ensures checked { IfOk result (AreChecked (D.state disk.old) (files_of_both root.now lower.now)) }
     ensures rests { Rests (D.state disk.old) (D.state disk.new) }
-    ensures cause { IfErr result (StopsAt (D.state disk.old) (D.state disk.new) (files_of_both root.now lower.now)) }
+    ensures cause { IfErr result (StopsAtFile (D.state disk.old) (D.state disk.new) (files_of_both root.now lower.now)) }
 {
     let seen = check_entries(alloc, disk, root.pairs())?;
     let under = check_entries(alloc, disk, lower.pairs())?;
@@ -77,7 +82,7 @@ fn check_entries<D: Disk>(
     requires small { sizes_of (files_of entries.now) < 2 ^ 64 }
     ensures checked { IfOk result (AreChecked (D.state disk.old) (files_of entries.now)) }
     ensures rests { Rests (D.state disk.old) (D.state disk.new) }
-    ensures cause { IfErr result (StopsAt (D.state disk.old) (D.state disk.new) (files_of entries.now)) }
+    ensures cause { IfErr result (StopsAtFile (D.state disk.old) (D.state disk.new) (files_of entries.now)) }
 {
     let mut counts = (0, 0);
     'entries: for entry in entries {
@@ -96,7 +101,7 @@ fn check_entry<D: Disk>(
     requires { AllByRecursion IsServed (files_in entry.now) }
     ensures checked { IfOk result (AreChecked (D.state disk.old) (files_in entry.now)) }
     ensures rests { Rests (D.state disk.old) (D.state disk.new) }
-    ensures cause { IfErr result (StopsAt (D.state disk.old) (D.state disk.new) (files_in entry.now)) }
+    ensures cause { IfErr result (StopsAtFile (D.state disk.old) (D.state disk.new) (files_in entry.now)) }
 {
     match entry {
         Entry::File(_, held) => check_file(alloc, disk, held),
@@ -109,7 +114,7 @@ fn check_file<D: Disk>(alloc: Global, disk: &mut D, held: &Held) -> Result<(u64,
     requires { IsServed held.now }
     ensures checked { IfOk result (AreChecked (D.state disk.old) (held.now ∷ [])) }
     ensures rests { Rests (D.state disk.old) (D.state disk.new) }
-    ensures cause { IfErr result (StopsAt (D.state disk.old) (D.state disk.new) (held.now ∷ [])) }
+    ensures cause { IfErr result (StopsAtFile (D.state disk.old) (D.state disk.new) (held.now ∷ [])) }
 {
     verify(alloc, disk, held)?;
     Ok((1, held.stamp().size))

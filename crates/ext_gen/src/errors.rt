@@ -1,8 +1,7 @@
 // Why a store was not opened, or a change of it not prepared.
-use ext_host::Home;
 use ext_index::IndexErr;
 use ext_io::Failed;
-use ext_store::ReadErr;
+use ext_store_files::{ReadErr, StoreFault};
 use ext_text::{OutOfMemory, Path, Which};
 use ext_tree::Stamp;
 use thiserror::Error;
@@ -10,30 +9,14 @@ use thiserror::Error;
 /// Why a store was not opened, or a change of it not prepared.
 #[derive(Debug, Drop, Error)]
 pub enum StoreErr {
-    /// Out of memory.
-    #[error("out of memory")]
-    OutOfMemory,
-    /// The disk had a fault.
-    #[error("disk fault")]
-    DiskFault,
-    /// The depot had a fault.
-    #[error("depot fault")]
-    DepotFault,
+    /// A device failed, there was no memory, or a kept file is damaged.
+    #[error(transparent)]
+    Fault(StoreFault),
     /// `current`, or the index that it names, is none.
     #[error("the store is broken at line {line}")]
     Broken {
         /// 0 where `current` names no generation, else the first line of the index that breaks a rule.
         line: u64,
-    },
-    /// A kept file is another than the one that is listed.
-    #[error("a kept file is damaged")]
-    Damaged {
-        /// Where the file is kept.
-        home: Home,
-        /// The stamp that it is listed with.
-        listed: Stamp,
-        /// The stamp of the file that stands there; `None` exactly where no file of the listed size does.
-        found: Option<Stamp>,
     },
     /// The file of the depot is another than the one that is listed.
     #[error("a file of the depot is not the listed one")]
@@ -64,23 +47,25 @@ pub enum StoreErr {
 
 impl From<OutOfMemory> for StoreErr {
     ghost use Rattle.std.specs.Prelude.{◌≡◌};
+    ghost use Rattle.ext_store_files.specs.declared.fault.StoreFault.TheVariants as store_faults;
     ghost use Rattle.ext_gen.specs.declared.errors.StoreErr.TheVariants as store_errors;
 
-    ghost from_gives = { λ _ e. e ≡ store_errors.OutOfMemory };
+    ghost from_gives = { λ _ e. e ≡ store_errors.Fault store_faults.OutOfMemory };
 
     fn from(_refused: OutOfMemory) -> StoreErr {
-        StoreErr::OutOfMemory
+        StoreErr::Fault(StoreFault::OutOfMemory)
     }
 }
 
 impl From<Failed> for StoreErr {
     ghost use Rattle.std.specs.Prelude.{◌≡◌};
+    ghost use Rattle.ext_store_files.specs.declared.fault.StoreFault.TheVariants as store_faults;
     ghost use Rattle.ext_gen.specs.declared.errors.StoreErr.TheVariants as store_errors;
 
-    ghost from_gives = { λ _ e. e ≡ store_errors.DiskFault };
+    ghost from_gives = { λ _ e. e ≡ store_errors.Fault store_faults.DiskFault };
 
     fn from(_failed: Failed) -> StoreErr {
-        StoreErr::DiskFault
+        StoreErr::Fault(StoreFault::DiskFault)
     }
 }
 
@@ -92,8 +77,8 @@ impl From<ReadErr> for StoreErr {
 
     fn from(refused: ReadErr) -> StoreErr {
         match refused {
-            ReadErr::DiskFault => StoreErr::DiskFault,
-            ReadErr::OutOfMemory => StoreErr::OutOfMemory,
+            ReadErr::DiskFault => StoreErr::Fault(StoreFault::DiskFault),
+            ReadErr::OutOfMemory => StoreErr::Fault(StoreFault::OutOfMemory),
         }
     }
 }
@@ -106,7 +91,7 @@ impl From<IndexErr> for StoreErr {
 
     fn from(refused: IndexErr) -> StoreErr {
         match refused {
-            IndexErr::OutOfMemory => StoreErr::OutOfMemory,
+            IndexErr::OutOfMemory => StoreErr::Fault(StoreFault::OutOfMemory),
             IndexErr::Broken { line } => StoreErr::Broken { line },
         }
     }

@@ -1,6 +1,6 @@
 //! Laws of stores, each the contract of a function that does nothing.
 ghost use Rattle.ext_gen.specs.Broken.{BrokenPointsToNothing, OneBrokenLine, OneGeneration};
-ghost use Rattle.ext_gen.specs.Laws.{EitherIsSound, EmptyStandsForNone, FirmlyIsSound, FixedIsFirmly, OneState, SettledIsFirmly, StopsLeaveStates, StopsLeaveTheState};
+ghost use Rattle.ext_gen.specs.Laws.{EitherIsSound, EmptyStandsForNone, DurablyIsSound, FixedIsDurably, OneState, SyncedIsDurably, StopsLeaveStates, StopsLeaveTheState};
 
 /// A store points to one generation, or to none.
 pub fn a_store_points_to_one_generation()
@@ -27,24 +27,24 @@ pub fn an_empty_disk_stands_for_none()
     ensures { EmptyStandsForNone }
 {}
 
-/// Stores that firmly stand for a state, or for one of two, are sound.
-pub fn firm_stores_are_sound()
-    ensures firmly { FirmlyIsSound }
+/// Stores that durably stand for a state, or for one of two, are sound.
+pub fn durable_stores_are_sound()
+    ensures durably { DurablyIsSound }
     ensures either { EitherIsSound }
 {}
 
-/// What a stop leaves of a sound store stands for a state, and of a firm one for its own.
+/// What a stop leaves of a sound store stands for a state, and of a durable one for its own.
 pub fn a_stop_leaves_a_state()
     ensures sound { StopsLeaveStates }
-    ensures firm { StopsLeaveTheState }
+    ensures durable { StopsLeaveTheState }
 {}
 
-/// A sound store is firm where its folder is settled.
-pub fn a_settled_store_is_firm()
-    ensures { SettledIsFirmly }
+/// A sound store is durable where its folder is synced.
+pub fn a_synced_store_is_durable()
+    ensures { SyncedIsDurably }
 {}
 
-/// A store is firm where what it rests on is fixed.
-pub fn a_fixed_store_is_firm()
-    ensures { FixedIsFirmly }
+/// A store is durable where what it rests on is fixed.
+pub fn a_fixed_store_is_durable()
+    ensures { FixedIsDurably }
 {}

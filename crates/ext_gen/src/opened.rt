@@ -5,7 +5,7 @@ use std::marker::Model;
 
 /// A generation of a store: its host, its number, and the number of the text that its index is. Each file of the host is kept,
 /// in this generation or in one before it, and there is an index of the host in it. Contracts see it as a record of the three.
-#[derive(Debug, Drop)]
+#[derive(Debug)]
 pub struct Opened {
     host: Host,
     generation: u32,
@@ -20,6 +20,16 @@ impl Model for Opened {
     ghost view = { λ o. record { number = o.generation; text = o.text; host = o.host } };
 
     ghost invariant = { λ o. IsOpened (record { number = o.generation; text = o.text; host = o.host }) };
+}
+
+impl Drop for Opened {
+    fn drop(self) {
+        let Opened {
+            host: _,
+            generation: _,
+            text: _,
+        } = self;
+    }
 }
 
 impl Opened {
@@ -66,6 +76,11 @@ impl Opened {
         ensures same { result ≡ self.host }
         ensures opened { IsOpened self }
     {
-        self.host
+        let Opened {
+            host,
+            generation: _,
+            text: _,
+        } = self;
+        host
     }
 }

@@ -2,33 +2,33 @@
 ghost use Rattle.std.specs.Prelude.{IfOk, IfErr, IfSome};
 ghost use Rattle.ext_disk.specs.Disk.{BothTold, now};
 ghost use Rattle.ext_disk.specs.Since.{Follows, Rests};
-ghost use Rattle.ext_store.specs.Names.{IsGeneration, current_path, index_path};
+ghost use Rattle.ext_store_files.specs.Names.{IsGeneration, current_path, index_path};
 ghost use Rattle.ext_gen.specs.Opening.{IndexOf, IndexSays, KeepsNow, NamesOf, NumberSays, OpenCause, OpenSays, OpensTold, TextSays};
 
 use crate::errors::StoreErr;
 use crate::opened::Opened;
-use crate::settling::settle_store;
+use crate::syncing::sync_store;
 use ext_disk::Disk;
-use ext_index::read_index;
-use ext_store::{Found, current_path, index_path, read_current, read_file, store_folder};
+use ext_index::{MOST_INDEX_BYTES, read_index};
+use ext_store_files::{Found, current_path, index_path, read_current, read_file, store_folder};
 use std::alloc::Global;
 
 /// The most bytes of `current`: the name of a generation and a newline.
 const MOST_CURRENT: usize = 13;
 
-/// The most bytes of an index.
-pub const MOST_INDEX: usize = 134_217_728;
-
 /// The current generation of the store on a disk, none exactly where there is no `current`. Its index is read, no further than
 /// one byte past the most bytes of one, and no other file but `current`.
 ///
-/// First the store folder is settled: where a switch was cut off, what the disk stands for now is settled so before anything
+/// It syncs the store folder first: where a switch was cut off, what the disk stands for now is synced so before anything
 /// rests on it.
 ///
 /// # Errors
-/// `Broken` exactly where `current` is there and names no generation (line 0), or where its index is none (its first faulty
-/// line, 1 where it is no file or too long). A fault of the disk, only where it counted one, and out of memory. What stands on
-/// the disk is as before, whatever comes.
+/// - `Broken` exactly where `current` is there and names no generation (line 0), or where its index is none (its first
+///   faulty line, 1 where it is no file or too long).
+/// - A fault of the disk, only where it counted one.
+/// - Out of memory.
+///
+/// What stands on the disk is as before, whatever comes.
 pub fn open<D: Disk>(alloc: Global, disk: &mut D) -> Result<Option<Opened>, StoreErr>
     ensures follows { Follows (D.state disk.old) (D.state disk.new) }
     ensures now { BothTold KeepsNow (D.state disk.old).told (D.state disk.new).told }
@@ -37,7 +37,7 @@ pub fn open<D: Disk>(alloc: Global, disk: &mut D) -> Result<Option<Opened>, Stor
     ensures cause { IfErr result (OpenCause (D.state disk.old).faults (D.state disk.new).faults) }
 {
     let folder = store_folder(alloc);
-    settle_store(disk, &folder)?;
+    sync_store(disk, &folder)?;
     read_store(alloc, disk)
 }
 
@@ -92,7 +92,7 @@ fn read_generation<D: Disk>(
     ensures cause { IfErr result (OpenCause (D.state disk.old).faults (D.state disk.new).faults) }
 {
     let path = index_path(alloc, generation)?;
-    let found = read_file(alloc, disk, &path, MOST_INDEX)?;
+    let found = read_file(alloc, disk, &path, MOST_INDEX_BYTES)?;
     generation_found(alloc, found, generation)
 }
 

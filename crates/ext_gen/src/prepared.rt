@@ -1,5 +1,5 @@
 ghost use Rattle.std.specs.Prelude.{◌≡◌, []};
-ghost use Rattle.ext_store.specs.Names.{current_path, next_path};
+ghost use Rattle.ext_store_files.specs.Names.{current_path, next_path};
 
 use crate::opened::Opened;
 use ext_text::Path;
@@ -7,7 +7,7 @@ use std::marker::Model;
 
 /// A change that is ready in a store: all of the coming generation stands there, and `next` names it. Contracts see it as that
 /// generation. It holds what a switch needs, so that a switch takes no memory.
-#[derive(Debug, Drop)]
+#[derive(Debug)]
 pub struct Prepared {
     pub(crate) opened: Opened,
     pub(crate) folder: Path,
@@ -26,6 +26,17 @@ impl Model for Prepared {
     ghost invariant = { λ p. HasPaths p.folder p.next p.current };
 }
 
+impl Drop for Prepared {
+    fn drop(self) {
+        let Prepared {
+            opened: _,
+            folder: _,
+            next: _,
+            current: _,
+        } = self;
+    }
+}
+
 impl Prepared {
     /// What is prepared, with the paths of the store folder, of `next` and of `current`.
     pub(crate) fn new(opened: Opened, folder: Path, next: Path, current: Path) -> Prepared
@@ -40,5 +51,18 @@ impl Prepared {
             next,
             current,
         }
+    }
+
+    /// The generation, taken out.
+    pub(crate) fn into_opened(self) -> Opened
+        ensures { result ≡ self }
+    {
+        let Prepared {
+            opened,
+            folder: _,
+            next: _,
+            current: _,
+        } = self;
+        opened
     }
 }

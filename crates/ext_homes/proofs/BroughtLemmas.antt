@@ -16,6 +16,7 @@ small (File mode held) is = let size = is.1.size in omega arith
 small (Link target) is = omega arith
 small Hide is = omega arith
 
+-- the files of a tree within the limits are small enough to be brought
 pub limits_small : (tree : HostTree) → IsWithinLimits tree → AreSmall (tree.root ++ tree.lower)
 limits_small tree limits =
     all_append (λ e. bytes_of e.1 < 2 ^ 63) tree.root tree.lower

@@ -13,11 +13,9 @@ use Rattle.ext_host.specs.Shelf as shelf
 use Rattle.ext_host.specs.Shelf.{untold, missing, stored}
 use Rattle.ext_host.specs.declared.body.Body.{Body}
 use Rattle.ext_host.specs.declared.body.Body.TheVariants.{Here, Kept, Depot}
-use Rattle.ext_store.specs.Comparing.{IsSame}
-use Rattle.ext_store.specs.HeldFiles.{IsListed, IsNext, body_told, told_at}
-use Rattle.ext_store.specs.Names.{home_path}
-
--- ---- a kept file and a text, piece by piece
+use Rattle.ext_store_files.specs.Comparing.{IsSame}
+use Rattle.ext_store_files.specs.HeldFiles.{IsListed, IsNextPiece, body_told, told_at}
+use Rattle.ext_store_files.specs.Names.{home_path}
 
 -- what is told of a held file stays told where a disk rests
 pub body_stays : (a b : DiskState) (body : Body) → Rests a b → body_told b body ≡ body_told a body
@@ -44,7 +42,7 @@ next_bytes bytes piece at n long is =
 between_text : (text : List ℕ) (at n : ℕ) → between at (at + n) text ≡ take n (drop at text)
 between_text text at n = between_is text at (at + n) ∙ drop-take at n text
 
-agree_more : (told : shelf.Told) (text piece : List ℕ) (at n : ℕ) → length piece ≡ n → piece ≡ between at (at + n) text → Agree told text at → IsNext told at piece → Agree told text (at + n)
+agree_more : (told : shelf.Told) (text piece : List ℕ) (at n : ℕ) → length piece ≡ n → piece ≡ between at (at + n) text → Agree told text at → IsNextPiece told at piece → Agree told text (at + n)
 agree_more untold text piece at n long same agree next = tt
 agree_more missing text piece at n long same agree next = tt
 agree_more (stored bytes) text piece at n long same agree next =
@@ -52,7 +50,7 @@ agree_more (stored bytes) text piece at n long same agree next =
     ∙ (λ i. agree i ++ (next_bytes bytes piece at n long next ∙ same ∙ between_text text at n) i)
     ∙ sym (take-add at n text)
 
-pub piece_differs : (told : shelf.Told) (text piece : List ℕ) (at n : ℕ) → length piece ≡ n → piece ≢ between at (at + n) text → IsNext told at piece → IsSame told (stored text) false
+pub piece_differs : (told : shelf.Told) (text piece : List ℕ) (at n : ℕ) → length piece ≡ n → piece ≢ between at (at + n) text → IsNextPiece told at piece → IsSame told (stored text) false
 piece_differs untold text piece at n long other next = tt
 piece_differs missing text piece at n long other next = tt
 piece_differs (stored bytes) text piece at n long other next = λ same.
@@ -75,14 +73,14 @@ pub compares_nothing : (body : Body) (text : List ℕ) (s : DiskState) → Compa
 compares_nothing body text s = record { rests = rests_itself s; agree = agree_nothing (body_told s body) text; within = omega arith }
 
 pub compares_more : (body : Body) (text piece : List ℕ) (old mid new : DiskState) (at n : ℕ) → Comparing body text old mid at → Rests mid new → length piece ≡ n → piece ≡ between at (at + n) text
-    → at + n ≤ length text → IsNext (body_told mid body) at piece → Comparing body text old new (at + n)
+    → at + n ≤ length text → IsNextPiece (body_told mid body) at piece → Comparing body text old new (at + n)
 compares_more body text piece old mid new at n has rests long same fits next = record {
   rests = rests_then old mid new has.rests rests;
-  agree = agree_more (body_told old body) text piece at n long same has.agree (subst (λ t. IsNext t at piece) (body_stays old mid body has.rests) next);
+  agree = agree_more (body_told old body) text piece at n long same has.agree (subst (λ t. IsNextPiece t at piece) (body_stays old mid body has.rests) next);
   within = fits;
 }
 
 pub compares_less : (body : Body) (text piece : List ℕ) (old mid : DiskState) (at n : ℕ) → Comparing body text old mid at → length piece ≡ n → piece ≢ between at (at + n) text
-    → IsNext (body_told mid body) at piece → IsSame (body_told old body) (stored text) false
+    → IsNextPiece (body_told mid body) at piece → IsSame (body_told old body) (stored text) false
 compares_less body text piece old mid at n has long other next =
-    piece_differs (body_told old body) text piece at n long other (subst (λ t. IsNext t at piece) (body_stays old mid body has.rests) next)
+    piece_differs (body_told old body) text piece at n long other (subst (λ t. IsNextPiece t at piece) (body_stays old mid body has.rests) next)

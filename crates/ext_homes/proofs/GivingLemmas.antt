@@ -8,9 +8,9 @@ use Rattle.ext_depot.specs.Depot.{DepotState}
 use Rattle.ext_tree.specs.Tree.{Entries}
 use Rattle.ext_host.specs.Held.{HeldFile}
 use Rattle.ext_host.specs.declared.host.Host.{Host}
-use Rattle.ext_store.specs.Names.{generation_path}
-use Rattle.ext_store.specs.Writing.{Holds, IsMade}
-use Rattle.ext_store.proofs.ForCallers.{holds_map}
+use Rattle.ext_store_files.specs.Names.{generation_path}
+use Rattle.ext_store_files.specs.Writing.{Holds, IsMade}
+use Rattle.ext_store_files.proofs.ForCallers.{holds_map}
 use Rattle.ext_homes.specs.Brought.{brought}
 use Rattle.ext_homes.specs.Comparing.{stored_in}
 use Rattle.ext_homes.specs.Giving.{AreBefore, AreHomesBefore, Gives, stored_by, trees_before}

@@ -7,12 +7,10 @@ use Rattle.ext_lines.specs.Hexadecimal.{five_digits, hex_digit}
 use Rattle.ext_lines.proofs.ForCallers.{five_injective}
 use Rattle.ext_text.specs.Path.{is_prefix}
 use Rattle.ext_text.proofs.ForCallers.{prefix_first, prefix_self, prefix_whole, same_path}
-use Rattle.ext_store.specs.Names.{generation_name, generation_path, home_folder, home_path}
-use Rattle.ext_store.specs.Writing.{is_at}
-use Rattle.ext_store.proofs.ForCallers.{proper_append, rest_of}
+use Rattle.ext_store_files.specs.Names.{generation_name, generation_path, home_folder, home_path}
+use Rattle.ext_store_files.specs.Writing.{is_at}
+use Rattle.ext_store_files.proofs.ForCallers.{proper_append, rest_of}
 use Rattle.ext_homes.specs.Written.{is_below}
-
--- ---- below the folder of a generation
 
 pub outside : (a b : Bool) → (a ≡ true → b ≡ true) → b ≡ false → a ≡ false
 outside true b gives out = absurd (false≢true (sym out ∙ gives refl))
@@ -37,8 +35,6 @@ out_of_folder n k p out = outside (is_prefix (home_folder n k) p) (is_below n p)
 
 pub not_at : (q p : List (List ℕ)) → is_prefix q p ≡ false → is_at q p ≡ false
 not_at q p out = outside (is_at q p) (is_prefix q p) (λ tied. subst (λ r. is_prefix q r ≡ true) (same_path q p tied) (prefix_self q)) out
-
--- ---- which are the same
 
 pub one_home_path : (n j k : ℕ) → j < 262144 → k < 262144 → home_path n j ≡ home_path n k → j ≡ k
 one_home_path n j k low high same = five_injective j k (omega arith) (omega arith) (ap (λ (p : List (List ℕ)). get_or p 1 [] ++ get_or p 2 []) same)
@@ -70,15 +66,11 @@ same_folder n k high inside =
 pub home_no_folder : (n j k : ℕ) → home_path n j ≢ home_folder n k
 home_no_folder n j k same = let long = ap length same in absurd (omega arith)
 
--- ---- other generations
-
 name_value : (n : ℕ) → n < 2 ^ 32 → digits_value 10 (drop 2 (generation_name n)) ≡ n
 name_value n small = (decimal_is_IsNumeral n (omega arith)).1
 
 pub one_generation_name : (m n : ℕ) → m < 2 ^ 32 → n < 2 ^ 32 → generation_name m ≡ generation_name n → m ≡ n
 one_generation_name m n low high same = sym (name_value m low) ∙ ap (λ (l : List ℕ). digits_value 10 (drop 2 l)) same ∙ name_value n high
-
--- ---- a new file and those before it
 
 -- a new home does not touch those of other files
 pub apart_from_home : (n j k : ℕ) → j < 262144 → k < 262144 → j ≢ k → is_prefix (home_path n k) (home_path n j) ≡ false

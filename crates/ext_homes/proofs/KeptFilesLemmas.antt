@@ -30,8 +30,6 @@ use Rattle.ext_homes.specs.declared.kept_files.HomeKey.{HomeKey}
 use Rattle.ext_homes.specs.declared.kept_files.KeptFile.{KeptFile}
 use Rattle.ext_homes.specs.declared.kept_files.StampKey.{StampKey}
 
--- ---- lists of lists
-
 pub contains_here : {X : Type 0} (x : X) (xs : List X) → Contains (x ∷ xs) x
 contains_here x xs = (zero, omega arith, refl)
 
@@ -52,8 +50,6 @@ flat_in f [] x a (k, lt, is) inside = absurd (omega arith)
 flat_in f (y ∷ xs) x a (zero, lt, is) inside = Contains-append_left (f y) (flat_map f xs) a (subst (λ z. Contains (f z) a) (sym is) inside)
 flat_in f (y ∷ xs) x a (suc k, lt, is) inside = Contains-append_right (f y) (flat_map f xs) a (flat_in f xs x a (k, omega arith, is) inside)
 
--- ---- the entries of a tree
-
 -- an entry is looked up by its path
 looked_up : (es : Entries HeldFile) (e : List (List ℕ) × Entry HeldFile) → IsTree es → Contains es e → lookup es e.0 ≡ Some e.1
 looked_up es e tree (k, lt, is) = find_there path_cmp paths_total es k e tree.sorted (slice_get_read es (length es) k e refl lt (sym is))
@@ -66,8 +62,6 @@ some_entry (x ∷ es) p e found =
       | true ↦ λ here. let same : x.1 ≡ e = cc in (x.0, subst (λ y. Contains (x ∷ es) (x.0, y)) same (contains_here x es))
       | false ↦ λ later. let rest = some_entry es p e later in (rest.0, contains_later x (rest.0, e) es rest.1)
     ] found
-
--- ---- the files of a host
 
 abbrev as_held : Stamp → Body → HeldFile
 as_held stamp body = record { stamp = stamp; body = body }
@@ -118,8 +112,6 @@ kept_by_trees sought trees files sorted are is moved = record {
       Contains-permutation files sorted (kept_file stamp home) moved
       (subst (λ l. Contains l (kept_file stamp home)) (sym is) (flat_in (tree_kept sought) trees file.tree (kept_file stamp home) file.among (in_tree sought file.tree stamp home wanted file.file)));
 }
-
--- ---- orders
 
 stamps_total : IsTotalOrder stamp_key_cmp
 stamps_total = then_total (on_total (λ (k : StampKey). k.size) nat_cmp_total) (on_total (λ (k : StampKey). k.digest) (lists_total nat_cmp_total))
@@ -197,8 +189,6 @@ before_partitions key files order = rising (is_before key) (λ f. Unit {0}) (bef
 pub has_partitions : (key : StampKey) (files : List KeptFile) → AllByRecursion (λ f. is_before key f ≡ false) files → AreSorted files → IsPartitionedBy (has_stamp key) files
 has_partitions key files later order = rising (has_stamp key) (λ f. is_before key f ≡ false) (has_down key) files later order
 
--- ---- filters
-
 -- what holds of each holds of each that passes, and may use that it does
 pub all_passing : (p : KeptFile → Bool) (P Q : KeptFile → Type 0) → ((f : KeptFile) → P f → p f ≡ true → Q f) → (files : List KeptFile) → AllByRecursion P files → AllByRecursion Q (filter p files)
 all_passing p P Q gives [] all = tt
@@ -235,8 +225,6 @@ homes_in_order key (f ∷ files) order =
       | true ↦ λ pass. (all_passing (has_stamp key) (λ g. is_lt (kept_cmp g f) ≡ false) (λ g. home_cmp (home_of g) (home_of f) ≢ Less) (by_homes key f pass) files order.0, rest)
       | false ↦ λ fail. rest
     ] refl
-
--- ---- what a search by halves finds
 
 filter_none : (p : KeptFile → Bool) (xs : List KeptFile) → AllWithin (λ x. p x ≡ false) xs 0 (length xs) → (filter p xs ≡ []) × (filter (λ x. not (p x)) xs ≡ xs)
 filter_none p [] none = (refl, refl)

@@ -14,13 +14,11 @@ use Rattle.ext_host.specs.declared.body.Body.TheVariants.{Here, Kept, Depot}
 use Rattle.ext_host.specs.declared.home.Home.{Home}
 use Rattle.ext_host.specs.declared.host.Host.{Host}
 use Rattle.ext_host.proofs.ForCallers.{one_stamp}
-use Rattle.ext_store.specs.Comparing.{IsCompared}
-use Rattle.ext_store.specs.Copying.{bytes_told, contents_told}
+use Rattle.ext_store_files.specs.Comparing.{IsCompared}
+use Rattle.ext_store_files.specs.Copying.{bytes_told, contents_told}
 use Rattle.ext_homes.specs.Laws.{HasBytes, HasNowhere, IsLeastOf}
 use Rattle.ext_homes.specs.Placed.{Stored, ArePlaced, IsBodyPlaced, IsBroughtTo, IsEntryPlaced, IsHostPlaced, IsLeastHome, HasNone, TakesHome, brought_told, home_cmp}
 use Rattle.ext_homes.proofs.LeastLemmas.{one_home}
-
--- ---- one file
 
 -- what is compared are the bytes
 bytes_same : (told : shelf.Told) (xs bytes : List ℕ) (stamp : Stamp) → told ≡ stored xs → IsCompared told (stored bytes) stamp true → xs ≡ bytes
@@ -35,6 +33,7 @@ lists_stamp : (old : Stored) (contents : Home → List ℕ) (bytes : List ℕ) (
 lists_stamp old contents bytes stamp other home has stamped lists same =
     subst (λ s. old.lists s home) (one_stamp bytes other stamp (subst (λ b. IsStampOf b other) same (has.stamped other home lists)) stamped) lists
 
+-- bytes that are told have one home
 pub takes_of_bytes : (old : Stored) (contents : Home → List ℕ) → HasBytes old contents → (n next : ℕ) (stamp : Stamp) (bytes : List ℕ) (home : Home) (written : List (List ℕ))
     → TakesHome old n stamp (stored bytes) next home written
     → (IsLeastOf old contents bytes home × (written ≡ [])) ⊎ (HasNowhere old contents bytes × (home ≡ record { generation = n; file = next }) × (written ≡ bytes ∷ []))
@@ -58,8 +57,6 @@ takes_of_bytes old contents has n next stamp bytes home written (inr is) =
       is.1,
       is.2.3 ∙ ap (λ b. b ∷ []) is.2.1,
     )
-
--- ---- in one way
 
 no_other : (old : Stored) (contents : Home → List ℕ) (stamp : Stamp) (bytes : List ℕ) (home other : Home) → HasBytes old contents → IsLeastHome old stamp (stored bytes) home → IsLeastHome old stamp (stored bytes) other
     → home_cmp home other ≢ Less
@@ -130,6 +127,7 @@ entries_way old contents depot files n (e ∷ es) next a b w v has is one two =
       one.7 ∙ (λ i. here.1 i ++ rest.1 i) ∙ sym two.7,
     )
 
+-- a host whose files are told is placed in one way
 pub host_way : (old : Stored) (contents : Home → List ℕ) (depot : DepotState) (files : Files) (n : ℕ) (host a b : Host) (w v : List (List ℕ)) → HasBytes old contents
     → depot.contents ≡ Some files → IsHostPlaced old depot n host a w → IsHostPlaced old depot n host b v → (a ≡ b) × (w ≡ v)
 host_way old contents depot files n host a b w v has is one two =

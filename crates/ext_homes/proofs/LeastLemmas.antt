@@ -20,11 +20,11 @@ use Rattle.ext_host.specs.Shelf.{IsFound}
 use Rattle.ext_host.specs.declared.body.Body.{Body}
 use Rattle.ext_host.specs.declared.body.Body.TheVariants.{Here, Kept, Depot}
 use Rattle.ext_host.specs.declared.home.Home.{Home}
-use Rattle.ext_store.specs.Comparing.{IsCompared}
-use Rattle.ext_store.specs.Copying.{IsMissing, IsReadStamp}
-use Rattle.ext_store.specs.HeldFiles.{IsListed, told_at}
-use Rattle.ext_store.specs.Names.{home_path}
-use Rattle.ext_store.proofs.ForCallers.{kept_itself, kept_then, kept_told, rose_since}
+use Rattle.ext_store_files.specs.Comparing.{IsCompared}
+use Rattle.ext_store_files.specs.Copying.{IsMissing, IsReadStamp}
+use Rattle.ext_store_files.specs.HeldFiles.{IsListed, told_at}
+use Rattle.ext_store_files.specs.Names.{home_path}
+use Rattle.ext_store_files.proofs.ForCallers.{kept_itself, kept_then, kept_told, rose_since}
 use Rattle.ext_homes.specs.Brought.{is_brought}
 use Rattle.ext_homes.specs.Comparing.{SameCause, stored_in}
 use Rattle.ext_homes.specs.Giving.{home_told}
@@ -32,12 +32,11 @@ use Rattle.ext_homes.specs.KeptFiles.{AreInOrder, has_stamp, home_of, kept_file,
 use Rattle.ext_homes.specs.Placed.{HasNone, IsLeastHome, DifferBefore, brought_told, home_cmp}
 use Rattle.ext_homes.specs.Refused.{HomeCause, IsDamaged, IsFirstIntact}
 use Rattle.ext_homes.specs.declared.errors.HomesErr.{HomesErr}
-use Rattle.ext_homes.specs.declared.errors.HomesErr.TheVariants.{OutOfMemory, DiskFault, DepotFault, Damaged, Mismatch, NotInDepot}
+use Rattle.ext_store_files.specs.declared.fault.StoreFault.TheVariants.{OutOfMemory, DiskFault, DepotFault, Damaged}
+use Rattle.ext_homes.specs.declared.errors.HomesErr.TheVariants.{Fault, Mismatch, NotInDepot}
 use Rattle.ext_homes.specs.declared.kept_files.KeptFile.{KeptFile}
 use Rattle.ext_homes.specs.declared.kept_files.StampKey.{StampKey}
 use Rattle.ext_homes.proofs.KeptFilesLemmas.{contains_here, contains_later, all_passing}
-
--- ---- orders that tell equals
 
 then_equal : (o p : Ordering) → ordering_then o p ≡ Equal → (o ≡ Equal) × (p ≡ Equal)
 then_equal Less p is = cc
@@ -80,8 +79,6 @@ one_home a b first second = by_order (home_cmp a b) refl
 
 never_less : (a : Home) → home_cmp a a ≢ Less
 never_less a less = false≢true (sym (ap is_eq less) ∙ ap is_eq (tied_itself homes_total a))
-
--- ---- the files of a stamp
 
 passes_filter : (p : KeptFile → Bool) (files : List KeptFile) (f : KeptFile) → Contains files f → p f ≡ true → Contains (filter p files) f
 passes_filter p [] f (k, lt, is) pass = absurd (omega arith)
@@ -131,8 +128,6 @@ seen_or_later (x ∷ items) (suc i) f g lt at order (suc k, low, is) = elim (see
   | inr later ↦ inr later
 ]
 
--- ---- what is told stays
-
 pub home_stays : (a b : DiskState) (home : Home) → Rests a b → home_told b home ≡ home_told a home
 home_stays a b home rests = ap (λ o. told_at o (home_path home.generation home.file)) rests.told
 
@@ -140,8 +135,6 @@ pub brought_stays : (a b : DepotState) (body : Body) → IsKept a b → brought_
 brought_stays a b (Here bytes) kept = refl
 brought_stays a b (Kept home) kept = refl
 brought_stays a b (Depot path) kept = kept_told a b path kept
-
--- ---- the search
 
 -- these files were compared and differ, and nothing changed
 pub record Looked (items : List KeptFile) (held : HeldFile) (old new : DiskState) (before after : DepotState) (i : ℕ) : Type 0 where
@@ -230,17 +223,17 @@ first_intact files items held old mid before amid i d home all order looked lt i
 pub look_stops : (files items : List KeptFile) (held : HeldFile) (old mid new : DiskState) (before amid after : DepotState) (i : ℕ) (d : KeptFile) (home : Home) (e : HomesErr)
     → items ≡ filter (has_stamp (stamp_key held.stamp)) files → AreInOrder items → Looked items held old mid before amid i → i < length items → home ≡ home_of (get_or items i d) → is_brought held.body ≡ true
     → SameCause mid new amid after (home_told mid home) home held e → HomeCause old new before after (stored_in files old) held e
-look_stops files items held old mid new before amid after i d home OutOfMemory all order looked lt is brought cause = tt
-look_stops files items held old mid new before amid after i d home DiskFault all order looked lt is brought cause = rose_since old.faults mid.faults new.faults looked.rests.count cause
-look_stops files items held old mid new before amid after i d home DepotFault all order looked lt is brought cause = rose_since before.faults amid.faults after.faults looked.kept.count cause
-look_stops files items held old mid new before amid after i d home (Damaged at listed found) all order looked lt is brought cause = (
+look_stops files items held old mid new before amid after i d home (Fault OutOfMemory) all order looked lt is brought cause = tt
+look_stops files items held old mid new before amid after i d home (Fault DiskFault) all order looked lt is brought cause = rose_since old.faults mid.faults new.faults looked.rests.count cause
+look_stops files items held old mid new before amid after i d home (Fault DepotFault) all order looked lt is brought cause = rose_since before.faults amid.faults after.faults looked.kept.count cause
+look_stops files items held old mid new before amid after i d home (Fault (Damaged damage)) all order looked lt is brought cause = (
   brought,
   cause.1,
-  subst (λ s. IsDamaged (stored_in files old) s (brought_told before held.body) at found) (sym cause.1)
-      (subst (λ h. IsDamaged (stored_in files old) held.stamp (brought_told before held.body) h found) (sym cause.0) (record {
+  subst (λ s. IsDamaged (stored_in files old) s (brought_told before held.body) damage.home damage.found) (sym cause.1)
+      (subst (λ h. IsDamaged (stored_in files old) held.stamp (brought_told before held.body) h damage.found) (sym cause.0) (record {
         listed = item_listed held.stamp files items i d home all lt is;
         least = differ_before files items held old mid before amid i d home all order looked lt is;
-        differs = subst (λ s. IsFound s (home_told old home) found) cause.1 (subst (λ t. IsFound listed t found) (home_stays old mid home looked.rests) cause.2);
+        differs = subst (λ s. IsFound s (home_told old home) damage.found) cause.1 (subst (λ t. IsFound damage.listed t damage.found) (home_stays old mid home looked.rests) cause.2);
       })),
 )
 look_stops files items held old mid new before amid after i d home (Mismatch path listed found) all order looked lt is brought cause = (

@@ -12,8 +12,6 @@ use Rattle.ext_host.specs.declared.body.Body.TheVariants.{Here, Kept, Depot}
 use Rattle.ext_host.proofs.ForCallers.{tree_before_within, tree_changed_within}
 use Rattle.ext_homes.specs.Placed.{Stored, ArePlaced, IsBodyPlaced, IsEntryPlaced}
 
--- ---- the same stamps
-
 body_stamp : (old : Stored) (depot : DepotState) (n : ℕ) (held : HeldFile) (body : Body) (next : ℕ) (new : HeldFile) (written : List (List ℕ)) → IsBodyPlaced old depot n held body next new written → new.stamp ≡ held.stamp
 body_stamp old depot n held (Here bytes) next new written is = ap (λ (h : HeldFile). h.stamp) is.2
 body_stamp old depot n held (Kept home) next new written is = ap (λ (h : HeldFile). h.stamp) is.0

@@ -18,10 +18,10 @@ use Rattle.ext_host.specs.declared.body.Body.{Body}
 use Rattle.ext_host.specs.declared.body.Body.TheVariants.{Here, Kept, Depot}
 use Rattle.ext_host.specs.declared.home.Home.{Home}
 use Rattle.ext_disk.proofs.ForCallers.{rests_itself}
-use Rattle.ext_store.specs.HeldFiles.{node_told, told_at}
-use Rattle.ext_store.specs.Names.{home_path}
-use Rattle.ext_store.specs.Writing.{Holds, IsWritten, Works, WorksTold}
-use Rattle.ext_store.proofs.ForCallers.{holds_map, kept_itself, kept_then, told_then, works_itself, works_then, works_wider}
+use Rattle.ext_store_files.specs.HeldFiles.{node_told, told_at}
+use Rattle.ext_store_files.specs.Names.{home_path}
+use Rattle.ext_store_files.specs.Writing.{Holds, IsWritten, Works, WorksTold}
+use Rattle.ext_store_files.proofs.ForCallers.{holds_map, kept_itself, kept_then, told_then, works_itself, works_then, works_wider}
 use Rattle.ext_homes.specs.Brought.{AreSmall, brought, brought_stamps, bytes_of_all, is_brought}
 use Rattle.ext_homes.specs.Comparing.{stored_in}
 use Rattle.ext_homes.specs.Giving.{AreBefore, home_told}
@@ -31,13 +31,12 @@ use Rattle.ext_homes.specs.Placing.{EntryCause, Placing}
 use Rattle.ext_homes.specs.Refused.{HomeCause, HomesCause, StopsAt}
 use Rattle.ext_homes.specs.Written.{AreWritten, HasHomes, HasOnlyHomes, Writes, is_below}
 use Rattle.ext_homes.specs.declared.errors.HomesErr.{HomesErr}
-use Rattle.ext_homes.specs.declared.errors.HomesErr.TheVariants.{OutOfMemory, DiskFault, DepotFault, Damaged, Mismatch, NotInDepot}
+use Rattle.ext_store_files.specs.declared.fault.StoreFault.TheVariants.{OutOfMemory, DiskFault, DepotFault, Damaged}
+use Rattle.ext_homes.specs.declared.errors.HomesErr.TheVariants.{Fault, Mismatch, NotInDepot}
 use Rattle.ext_homes.specs.declared.kept_files.KeptFile.{KeptFile}
 use Rattle.ext_homes.proofs.HomePathsLemmas.{other_generation}
 use Rattle.ext_homes.proofs.LeastLemmas.{brought_stays}
 use Rattle.ext_homes.proofs.StoredLemmas.{Any, IsAlike, all_any, cause_after, cause_since, entries_alike, homes_cause_since, placed_both}
-
--- ---- nothing is written
 
 same_number : (n k : ℕ) (d : Places) → HasHomes n k d → HasHomes n (k + 0) d
 same_number n k d has = subst (λ i. HasHomes n i d) (omega arith) has
@@ -73,8 +72,6 @@ body_placed old depot n held (Depot path) next kept = absurd (false≢true (sym 
 pub kept_placed : (old : Stored) (depot : DepotState) (n : ℕ) (held : HeldFile) (next : ℕ) → is_brought held.body ≡ false → IsFilePlaced old depot n held next held []
 kept_placed old depot n held next kept = body_placed old depot n held held.body next kept
 
--- ---- lists of what is brought
-
 pub brought_both : (es gs : Entries HeldFile) → brought (es ++ gs) ≡ brought es ++ brought gs
 brought_both es gs = flat_map-append (λ (e : List (List ℕ) × Entry HeldFile). brought_stamps e.1) es gs
 
@@ -93,8 +90,6 @@ few_brought (e ∷ es) = let here = few_stamps e.1 in let rest = few_brought es 
 pub bytes_both : (es gs : Entries HeldFile) → bytes_of_all (brought es) + bytes_of_all (brought gs) ≤ bytes_of_all (brought (es ++ gs))
 bytes_both es gs =
     omega (arith, ap bytes_of_all (brought_both es gs), sum_by-append (λ (s : Stamp). s.size) (brought es) (brought gs))
-
--- ---- files written one after another
 
 keeps_list : (n k : ℕ) (written : List (List ℕ)) (d e : Told)
     → ((j : ℕ) (bytes : List ℕ) → j < k + length written → IsWritten (home_path n j) bytes d.places → IsWritten (home_path n j) bytes e.places)
@@ -118,13 +113,9 @@ writes_then n k xs ys c d e one two =
       appended = let first = one.appended in let second = two.appended in omega (arith, sum_by-append (λ (b : List ℕ). length b) xs ys);
     }
 
--- ---- one entry
-
 placed_one : (old : Stored) (depot : DepotState) (n : ℕ) (p : List (List ℕ)) (e : Entry HeldFile) (next : ℕ) (new : Entry HeldFile) (written : List (List ℕ))
     → IsEntryPlaced old depot n e next new written → ArePlaced old depot n ((p, e) ∷ []) next ((p, new) ∷ []) written
 placed_one old depot n p e next new written is = (new, [], written, [], is, (refl, refl), refl, sym (append-nil written))
-
--- ---- one step of a tree
 
 -- what is listed stays told where only this generation's folder changes
 pub told_before : (n : ℕ) (lists : Stamp → Home → Type 0) (most : ℕ) (old new : DiskState) → n < 2 ^ 32 → AreBefore n lists → Works (is_below n) (is_below n) most old new
@@ -182,8 +173,6 @@ placed_then files n next mid count es gs fs hs r s t a b c small before one two 
       };
     }
 
--- ---- an entry in place
-
 pub drop_next : {X : Type 0} (xs : List X) (i : ℕ) (d : X) → i < length xs → drop i xs ≡ get_or xs i d ∷ drop (i + 1) xs
 drop_next xs i d within =
     let next : suc i ≡ i + 1 = omega arith in
@@ -198,8 +187,6 @@ pub take_next : {X : Type 0} (xs : List X) (i : ℕ) (y : X) → i < length xs �
 take_next xs i y within =
     let next : suc i ≡ i + 1 = omega arith in
     subst (λ k. take k (set xs i y) ≡ take i xs ++ y ∷ []) next (take_suc xs i y within)
-
--- ---- a tree
 
 -- some entries have their homes, and the rest is to come
 pub record Going (files : List KeptFile) (n next : ℕ) (all rest : Entries HeldFile) (new : Entries HeldFile) (count : ℕ) (first last : DiskState) (before after : DepotState) : Type 0 where
@@ -273,8 +260,6 @@ goes_on files n next all rest new p e fresh later count more r s t a b c small b
   so_far = placed_then files n next count more going.done ((p, e) ∷ []) new ((p, fresh) ∷ []) r s t a b c small before going.so_far (one_placed files n count more p e fresh s t b c works kept placed);
 }
 
--- ---- where it stops
-
 more_homes : (n low high : ℕ) (d : Places) → low ≤ high → HasOnlyHomes n low d → HasOnlyHomes n high d
 more_homes n low high d fits only p below some = let at = only p below some in let less = at.1 in (at.0, omega arith, at.2)
 
@@ -327,10 +312,10 @@ entry_stops files n next count all done later fs p (File mode held) err r s t a 
     }
 
     by_error : (x : HomesErr) → HomeCause r t a c (stored_in files r) held x → HomesCause r t a c (stored_in files r) n all next x
-    by_error OutOfMemory why = tt
-    by_error DiskFault why = why
-    by_error DepotFault why = why
-    by_error (Damaged home listed found) why = stops (λ h. HomeCause r t a c (stored_in files r) h (Damaged home listed found)) why
+    by_error (Fault OutOfMemory) why = tt
+    by_error (Fault DiskFault) why = why
+    by_error (Fault DepotFault) why = why
+    by_error (Fault (Damaged damage)) why = stops (λ h. HomeCause r t a c (stored_in files r) h (Fault (Damaged damage))) why
     by_error (Mismatch path listed found) why = stops (λ h. HomeCause r t a c (stored_in files r) h (Mismatch path listed found)) why
     by_error (NotInDepot path) why = stops (λ h. HomeCause r t a c (stored_in files r) h (NotInDepot path)) why
 
@@ -339,8 +324,6 @@ pub stop_cause : (files : List KeptFile) (n next : ℕ) (all rest new : Entries 
     → EntryCause s t b c (stored_in files s) e err → HomesCause r t a c (stored_in files r) n all next err
 stop_cause files n next all rest new p e later count err r s t a b c small before is going cause =
     entry_stops files n next count all going.done later new p e err r s t a b c small before (here_split all going.done rest (p, e) later going.split is) going.so_far cause
-
--- ---- at each end
 
 pub going_works : (files : List KeptFile) (n next : ℕ) (all rest new : Entries HeldFile) (count : ℕ) (r s : DiskState) (a b : DepotState)
     → Going files n next all rest new count r s a b → Works (is_below n) (is_below n) (bytes_of_all (brought all)) r s
@@ -363,8 +346,6 @@ pub all_placed : (files : List KeptFile) (n next : ℕ) (all rest new : Entries 
     → Going files n next all rest new count r s a b → PlacedSoFar files n next all new count r s a b
 all_placed files n next all rest new count r s a b none going =
     subst (λ l. PlacedSoFar files n next l new count r s a b) (sym (going.split ∙ ap (λ l. going.done ++ l) none ∙ append-nil going.done)) going.so_far
-
--- ---- two trees
 
 pub root_works : (n : ℕ) (root lower : Entries HeldFile) (r s : DiskState) → Works (is_below n) (is_below n) (bytes_of_all (brought root)) r s → Works (is_below n) (is_below n) (bytes_of_all (brought (root ++ lower))) r s
 root_works n root lower r s works =

@@ -13,16 +13,17 @@ use Rattle.ext_host.specs.Shelf.{IsFound, IsTold}
 use Rattle.ext_host.specs.declared.body.Body.{Body}
 use Rattle.ext_host.specs.declared.body.Body.TheVariants.{Here, Kept, Depot}
 use Rattle.ext_host.specs.declared.home.Home.{Home}
-use Rattle.ext_store.specs.Comparing.{IsCompared}
-use Rattle.ext_store.specs.Copying.{IsMissing, IsReadStamp}
-use Rattle.ext_store.specs.HeldFiles.{IsListed}
-use Rattle.ext_store.proofs.ForCallers.{rose_since}
+use Rattle.ext_store_files.specs.Comparing.{IsCompared}
+use Rattle.ext_store_files.specs.Copying.{IsMissing, IsReadStamp}
+use Rattle.ext_store_files.specs.HeldFiles.{IsListed}
+use Rattle.ext_store_files.proofs.ForCallers.{rose_since}
 use Rattle.ext_homes.specs.Brought.{is_brought}
 use Rattle.ext_homes.specs.Placed.{Stored, ArePlaced, DifferBefore, HasNone, IsBodyPlaced, IsBroughtTo, IsEntryPlaced, IsLeastHome, TakesHome, brought_told}
 use Rattle.ext_homes.specs.Refused.{HomeCause, HomesCause, IsDamaged, IsFirstIntact, StopsAt}
 use Rattle.ext_homes.specs.Sought.{AreAmong, BringsAmong, EntryAmong}
 use Rattle.ext_homes.specs.declared.errors.HomesErr.{HomesErr}
-use Rattle.ext_homes.specs.declared.errors.HomesErr.TheVariants.{OutOfMemory, DiskFault, DepotFault, Damaged, Mismatch, NotInDepot}
+use Rattle.ext_store_files.specs.declared.fault.StoreFault.TheVariants.{OutOfMemory, DiskFault, DepotFault, Damaged}
+use Rattle.ext_homes.specs.declared.errors.HomesErr.TheVariants.{Fault, Mismatch, NotInDepot}
 
 -- of some stamps the store lists the same homes, and the same is told of each of them
 pub record IsAlike (Among : Stamp → Type 0) (one two : Stored) : Type 0 where
@@ -45,6 +46,7 @@ pub all_any : (es : Entries HeldFile) → AreAmong Any es
 all_any [] = tt
 all_any (e ∷ es) = (entry_any e.1, all_any es)
 
+-- two depots tell the same of each path
 abbrev pub AreAlike : DepotState → DepotState → Type 0
 AreAlike x y = (body : Body) → brought_told x body ≡ brought_told y body
 
@@ -94,6 +96,7 @@ entry_alike Among one two x y n (File mode held) next new written alike same amo
 entry_alike Among one two x y n (Link target) next new written alike same among is = is
 entry_alike Among one two x y n Hide next new written alike same among is = is
 
+-- entries have the same homes in two stores that are alike
 pub entries_alike : (Among : Stamp → Type 0) (one two : Stored) (x y : DepotState) (n : ℕ) (es : Entries HeldFile) (next : ℕ) (new : Entries HeldFile) (written : List (List ℕ)) → IsAlike Among one two → AreAlike x y
     → AreAmong Among es → ArePlaced one x n es next new written → ArePlaced two y n es next new written
 entries_alike Among one two x y n [] next new written alike same among is = is
@@ -107,8 +110,6 @@ entries_alike Among one two x y n (e ∷ es) next new written alike same among i
   is.6,
   is.7,
 )
-
--- ---- entries placed one after another
 
 pub placed_both : (old : Stored) (depot : DepotState) (n : ℕ) (es gs : Entries HeldFile) (next : ℕ) (fs hs : Entries HeldFile) (first rest : List (List ℕ))
     → ArePlaced old depot n es next fs first → ArePlaced old depot n gs (next + length first) hs rest → ArePlaced old depot n (es ++ gs) next (fs ++ hs) (first ++ rest)
@@ -127,8 +128,6 @@ placed_both old depot n (e ∷ es) gs next fs hs first rest one two =
       ap (λ l. l ++ hs) one.6,
       ap (λ l. l ++ rest) one.7 ∙ append_assoc one.2 one.3 rest,
     )
-
--- ---- why a file gets no home
 
 damaged : (Among : Stamp → Type 0) (one two : Stored) (stamp : Stamp) (b : shelf.Told) (home : Home) (found : Option Stamp) → IsAlike Among one two → Among stamp
     → IsDamaged one stamp b home found → IsDamaged two stamp b home found
@@ -150,13 +149,13 @@ from_depot Among held path among is = among (ap is_brought is)
 -- since an earlier time, with what was told then
 pub cause_since : (Among : Stamp → Type 0) (one two : Stored) (x y after : DepotState) (old mid new : DiskState) (held : HeldFile) (e : HomesErr) → IsAlike Among one two → AreAlike x y → old.faults ≤ mid.faults → y.faults ≤ x.faults
     → BringsAmong Among held held.body → HomeCause mid new x after one held e → HomeCause old new y after two held e
-cause_since Among one two x y after old mid new held OutOfMemory alike same disk depot among cause = tt
-cause_since Among one two x y after old mid new held DiskFault alike same disk depot among cause = rose_since old.faults mid.faults new.faults disk cause
-cause_since Among one two x y after old mid new held DepotFault alike same disk depot among cause = rose_since y.faults x.faults after.faults depot cause
-cause_since Among one two x y after old mid new held (Damaged home listed found) alike same disk depot among cause = (
+cause_since Among one two x y after old mid new held (Fault OutOfMemory) alike same disk depot among cause = tt
+cause_since Among one two x y after old mid new held (Fault DiskFault) alike same disk depot among cause = rose_since old.faults mid.faults new.faults disk cause
+cause_since Among one two x y after old mid new held (Fault DepotFault) alike same disk depot among cause = rose_since y.faults x.faults after.faults depot cause
+cause_since Among one two x y after old mid new held (Fault (Damaged damage)) alike same disk depot among cause = (
   cause.0,
   cause.1,
-  damaged Among one two listed (brought_told y held.body) home found alike (subst Among (sym cause.1) (among cause.0)) (subst (λ t. IsDamaged one listed t home found) (same held.body) cause.2),
+  damaged Among one two damage.listed (brought_told y held.body) damage.home damage.found alike (subst Among (sym cause.1) (among cause.0)) (subst (λ t. IsDamaged one damage.listed t damage.home damage.found) (same held.body) cause.2),
 )
 cause_since Among one two x y after old mid new held (Mismatch path listed found) alike same disk depot among cause = (
   cause.0,
@@ -186,22 +185,21 @@ stops_since Among one two x y n es next Why Since alike same among why stops =
       why = why stops.held (all_back (λ e. EntryAmong Among e.1) stops.before ((stops.path, File stops.mode stops.held) ∷ stops.after) here).0 stops.why;
     }
 
+-- a cause of a later stretch is one since an earlier time
 pub homes_cause_since : (Among : Stamp → Type 0) (one two : Stored) (x y after : DepotState) (old mid new : DiskState) (n : ℕ) (es : Entries HeldFile) (next : ℕ) (e : HomesErr) → IsAlike Among one two → AreAlike x y → AreAmong Among es
     → old.faults ≤ mid.faults → y.faults ≤ x.faults → HomesCause mid new x after one n es next e → HomesCause old new y after two n es next e
-homes_cause_since Among one two x y after old mid new n es next OutOfMemory alike same among disk depot cause = tt
-homes_cause_since Among one two x y after old mid new n es next DiskFault alike same among disk depot cause = rose_since old.faults mid.faults new.faults disk cause
-homes_cause_since Among one two x y after old mid new n es next DepotFault alike same among disk depot cause = rose_since y.faults x.faults after.faults depot cause
-homes_cause_since Among one two x y after old mid new n es next (Damaged home listed found) alike same among disk depot cause =
-    stops_since Among one two x y n es next (λ held. HomeCause mid new x after one held (Damaged home listed found)) (λ held. HomeCause old new y after two held (Damaged home listed found)) alike same among
-    (λ held is why. cause_since Among one two x y after old mid new held (Damaged home listed found) alike same disk depot is why) cause
+homes_cause_since Among one two x y after old mid new n es next (Fault OutOfMemory) alike same among disk depot cause = tt
+homes_cause_since Among one two x y after old mid new n es next (Fault DiskFault) alike same among disk depot cause = rose_since old.faults mid.faults new.faults disk cause
+homes_cause_since Among one two x y after old mid new n es next (Fault DepotFault) alike same among disk depot cause = rose_since y.faults x.faults after.faults depot cause
+homes_cause_since Among one two x y after old mid new n es next (Fault (Damaged damage)) alike same among disk depot cause =
+    stops_since Among one two x y n es next (λ held. HomeCause mid new x after one held (Fault (Damaged damage))) (λ held. HomeCause old new y after two held (Fault (Damaged damage))) alike same among
+    (λ held is why. cause_since Among one two x y after old mid new held (Fault (Damaged damage)) alike same disk depot is why) cause
 homes_cause_since Among one two x y after old mid new n es next (Mismatch path listed found) alike same among disk depot cause =
     stops_since Among one two x y n es next (λ held. HomeCause mid new x after one held (Mismatch path listed found)) (λ held. HomeCause old new y after two held (Mismatch path listed found)) alike same among
     (λ held is why. cause_since Among one two x y after old mid new held (Mismatch path listed found) alike same disk depot is why) cause
 homes_cause_since Among one two x y after old mid new n es next (NotInDepot path) alike same among disk depot cause =
     stops_since Among one two x y n es next (λ held. HomeCause mid new x after one held (NotInDepot path)) (λ held. HomeCause old new y after two held (NotInDepot path)) alike same among
     (λ held is why. cause_since Among one two x y after old mid new held (NotInDepot path) alike same disk depot is why) cause
-
--- ---- of some entries and of others after them
 
 stops_more : (old : Stored) (depot : DepotState) (n : ℕ) (es gs : Entries HeldFile) (next : ℕ) (Why : HeldFile → Type 0) → StopsAt old depot n es next Why → StopsAt old depot n (es ++ gs) next Why
 stops_more old depot n es gs next Why stops = record {
@@ -218,10 +216,10 @@ stops_more old depot n es gs next Why stops = record {
 }
 
 pub cause_more : (disk new : DiskState) (depot after : DepotState) (old : Stored) (n : ℕ) (es gs : Entries HeldFile) (next : ℕ) (e : HomesErr) → HomesCause disk new depot after old n es next e → HomesCause disk new depot after old n (es ++ gs) next e
-cause_more disk new depot after old n es gs next OutOfMemory cause = tt
-cause_more disk new depot after old n es gs next DiskFault cause = cause
-cause_more disk new depot after old n es gs next DepotFault cause = cause
-cause_more disk new depot after old n es gs next (Damaged home listed found) cause = stops_more old depot n es gs next (λ held. HomeCause disk new depot after old held (Damaged home listed found)) cause
+cause_more disk new depot after old n es gs next (Fault OutOfMemory) cause = tt
+cause_more disk new depot after old n es gs next (Fault DiskFault) cause = cause
+cause_more disk new depot after old n es gs next (Fault DepotFault) cause = cause
+cause_more disk new depot after old n es gs next (Fault (Damaged damage)) cause = stops_more old depot n es gs next (λ held. HomeCause disk new depot after old held (Fault (Damaged damage))) cause
 cause_more disk new depot after old n es gs next (Mismatch path listed found) cause = stops_more old depot n es gs next (λ held. HomeCause disk new depot after old held (Mismatch path listed found)) cause
 cause_more disk new depot after old n es gs next (NotInDepot path) cause = stops_more old depot n es gs next (λ held. HomeCause disk new depot after old held (NotInDepot path)) cause
 
@@ -242,11 +240,11 @@ stops_after old depot n es gs next mid fs first Why count placed stops = record 
 
 pub cause_after : (disk new : DiskState) (depot after : DepotState) (old : Stored) (n : ℕ) (es gs : Entries HeldFile) (next mid : ℕ) (fs : Entries HeldFile) (first : List (List ℕ)) (e : HomesErr) → mid ≡ next + length first
     → ArePlaced old depot n es next fs first → HomesCause disk new depot after old n gs mid e → HomesCause disk new depot after old n (es ++ gs) next e
-cause_after disk new depot after old n es gs next mid fs first OutOfMemory count placed cause = tt
-cause_after disk new depot after old n es gs next mid fs first DiskFault count placed cause = cause
-cause_after disk new depot after old n es gs next mid fs first DepotFault count placed cause = cause
-cause_after disk new depot after old n es gs next mid fs first (Damaged home listed found) count placed cause =
-    stops_after old depot n es gs next mid fs first (λ held. HomeCause disk new depot after old held (Damaged home listed found)) count placed cause
+cause_after disk new depot after old n es gs next mid fs first (Fault OutOfMemory) count placed cause = tt
+cause_after disk new depot after old n es gs next mid fs first (Fault DiskFault) count placed cause = cause
+cause_after disk new depot after old n es gs next mid fs first (Fault DepotFault) count placed cause = cause
+cause_after disk new depot after old n es gs next mid fs first (Fault (Damaged damage)) count placed cause =
+    stops_after old depot n es gs next mid fs first (λ held. HomeCause disk new depot after old held (Fault (Damaged damage))) count placed cause
 cause_after disk new depot after old n es gs next mid fs first (Mismatch path listed found) count placed cause =
     stops_after old depot n es gs next mid fs first (λ held. HomeCause disk new depot after old held (Mismatch path listed found)) count placed cause
 cause_after disk new depot after old n es gs next mid fs first (NotInDepot path) count placed cause =

@@ -8,17 +8,15 @@ use Rattle.ext_text.specs.Path.{is_prefix}
 use Rattle.ext_text.proofs.ForCallers.{same_path}
 use Rattle.ext_disk.specs.Disk.{Node, folder, Places, Told, DiskState, BothTold}
 use Rattle.ext_disk.specs.Calls.{IsFree, MayCall, make_dir, make_file}
-use Rattle.ext_disk.specs.Fixed.{IsSpared}
+use Rattle.ext_disk.specs.Fixed.{IsUnchangedAt}
 use Rattle.ext_tree.specs.declared.stamp.Stamp.{Stamp}
 use Rattle.ext_host.specs.Shelf as shelf
-use Rattle.ext_store.specs.Names.{generation_path, home_folder, home_path}
-use Rattle.ext_store.specs.Writing.{is_at, Works, WorksTold, IsMade, IsWritten, Holds}
-use Rattle.ext_store.proofs.ForCallers.{holds_map, holds_then, proper_append, works_then, works_wider}
+use Rattle.ext_store_files.specs.Names.{generation_path, home_folder, home_path}
+use Rattle.ext_store_files.specs.Writing.{is_at, Works, WorksTold, IsMade, IsWritten, Holds}
+use Rattle.ext_store_files.proofs.ForCallers.{holds_map, holds_then, proper_append, works_then, works_wider}
 use Rattle.ext_homes.specs.Written.{is_below, HasOnlyHomes, HasHomes, Writes}
-use Rattle.ext_homes.specs.Writing.{IsOpen, Opens, IsPut, Puts}
+use Rattle.ext_homes.specs.Writing.{IsNumberOpen, Opens, IsPut, WritesBrought}
 use Rattle.ext_homes.proofs.HomePathsLemmas.{apart_from_folder, apart_from_home, home_no_folder, new_folder, not_at, one_home_path, outside, out_of_folder, out_of_home, same_folder}
-
--- ---- before
 
 none_at : (o : Option Node) → (is_some o ≡ true → ⊥) → o ≡ None
 none_at None out = refl
@@ -57,10 +55,8 @@ may_make_folder n k s high first homes = holds_map (HasHomes n k) (λ d. IsFree 
       path_absent = folder_free n k d high first has.only;
     }) s.told homes
 
--- ---- between
-
 -- the folder is there already
-still_open : (n k : ℕ) (d : Places) → k < 262144 → k % 256 ≢ 0 → HasHomes n k d → IsOpen n k d
+still_open : (n k : ℕ) (d : Places) → k < 262144 → k % 256 ≢ 0 → HasHomes n k d → IsNumberOpen n k d
 still_open n k d high inside has = record {
   root = has.root;
   folders = λ j less. elim (cases_lt j k) [
@@ -81,8 +77,6 @@ opens_itself n k s high inside homes = itself s.told homes
     itself None has = tt
     itself (Some d) has = record { open' = still_open n k d.places high inside has; earlier = λ j bytes less written. written }
 
--- ---- one step
-
 other_at : (q p : List (List ℕ)) → q ≢ p → is_at q p ≡ false
 other_at q p other = outside (is_at q p) false (λ tied. absurd (other (same_path q p tied))) refl
 
@@ -96,13 +90,13 @@ only_after n k count q d e is less only now p below some = elim (cases_Bool (is_
   | inr out ↦ only p below (ap is_some (sym (now p out)) ∙ some)
 ]
 
--- what is spared stays as it was written
-stays_written : (p : List (List ℕ)) (bytes : List ℕ) (d e : Told) → IsSpared d e p → IsWritten p bytes d.places → IsWritten p bytes e.places
-stays_written p bytes d e spared written = record { node = spared.stays.node ∙ written.node; hard = spared.stays.hard written.hard }
+-- what stays as it was stays as it was written
+stays_written : (p : List (List ℕ)) (bytes : List ℕ) (d e : Told) → IsUnchangedAt d e p → IsWritten p bytes d.places → IsWritten p bytes e.places
+stays_written p bytes d e unchanged written = record { node = unchanged.stays.node ∙ written.node; hard = unchanged.stays.hard written.hard }
 
-opened : (n k : ℕ) (d e : Told) → k < 262144 → k % 256 ≡ 0 → HasHomes n k d.places → ((p : List (List ℕ)) → is_prefix (home_folder n k) p ≡ false → IsSpared d e p)
+opened : (n k : ℕ) (d e : Told) → k < 262144 → k % 256 ≡ 0 → HasHomes n k d.places → ((p : List (List ℕ)) → is_prefix (home_folder n k) p ≡ false → IsUnchangedAt d e p)
     → WorksTold (is_at (home_folder n k)) 0 d e → IsMade (home_folder n k) e.places → Opens n k d e
-opened n k d e high first has spared works made = record {
+opened n k d e high first has unchanged works made = record {
   open' = record {
     root = works.now (generation_path n) (other_at (home_folder n k) (generation_path n) (λ same. let long = ap length same in absurd (omega arith))) ∙ has.root;
     folders = λ j less. elim (cases_lt j k) [
@@ -112,19 +106,19 @@ opened n k d e high first has spared works made = record {
     free = made.empty (home_path n k) (proper_append (home_folder n k) (drop 3 (five_digits k)) []);
     only = only_after n k (k + 1) (home_folder n k) d.places e.places (inl refl) (omega arith) (more_homes n k (k + 1) d.places (omega arith) has.only) works.now;
   };
-  earlier = λ j bytes less written. stays_written (home_path n j) bytes d e (spared (home_path n j) (apart_from_folder n j k less high first)) written;
+  earlier = λ j bytes less written. stays_written (home_path n j) bytes d e (unchanged (home_path n j) (apart_from_folder n j k less high first)) written;
 }
 
 pub folder_opens : (n k : ℕ) (old new : DiskState) → k < 262144 → k % 256 ≡ 0 → Holds (HasHomes n k) old → Works (is_prefix (home_folder n k)) (is_at (home_folder n k)) 0 old new
     → Holds (IsMade (home_folder n k)) new → BothTold (Opens n k) old.told new.told
 folder_opens n k old new high first homes works made = go old.told new.told homes works.spares.told works.told made
   where
-    go : (x y : Option Told) → IfSome x (λ d. HasHomes n k d.places) → BothTold (λ d e. (p : List (List ℕ)) → is_prefix (home_folder n k) p ≡ false → IsSpared d e p) x y
+    go : (x y : Option Told) → IfSome x (λ d. HasHomes n k d.places) → BothTold (λ d e. (p : List (List ℕ)) → is_prefix (home_folder n k) p ≡ false → IsUnchangedAt d e p) x y
         → BothTold (WorksTold (is_at (home_folder n k)) 0) x y → IfSome y (λ e. IsMade (home_folder n k) e.places) → BothTold (Opens n k) x y
-    go None None has spared works made = tt
-    go None (Some e) has spared works made = absurd works
-    go (Some d) None has spared works made = absurd works
-    go (Some d) (Some e) has spared works made = opened n k d e high first has spared works made
+    go None None has unchanged works made = tt
+    go None (Some e) has unchanged works made = absurd works
+    go (Some d) None has unchanged works made = absurd works
+    go (Some d) (Some e) has unchanged works made = opened n k d e high first has unchanged works made
 
 -- however the making of the folder ends
 pub folder_only : (n k : ℕ) (old new : DiskState) → Holds (HasHomes n k) old → Works (is_prefix (home_folder n k)) (is_at (home_folder n k)) 0 old new → Holds (HasOnlyHomes n (k + 1)) new
@@ -156,11 +150,9 @@ may_make_file n k old new opens = go old.told new.told opens
       path_absent = opens.open'.free;
     }
 
--- ---- afterwards
-
 wrote : (n k most : ℕ) (bytes : List ℕ) (c d e : Told) → k < 262144 → length bytes ≡ most → d.appended ≤ c.appended + 0 → Opens n k c d
-    → ((p : List (List ℕ)) → is_prefix (home_path n k) p ≡ false → IsSpared d e p) → WorksTold (is_at (home_path n k)) most d e → IsWritten (home_path n k) bytes e.places → Writes n k (bytes ∷ []) c e
-wrote n k most bytes c d e high long before opens spared works written = record {
+    → ((p : List (List ℕ)) → is_prefix (home_path n k) p ≡ false → IsUnchangedAt d e p) → WorksTold (is_at (home_path n k)) most d e → IsWritten (home_path n k) bytes e.places → Writes n k (bytes ∷ []) c e
+wrote n k most bytes c d e high long before opens unchanged works written = record {
   files = (written, tt);
   homes = record {
     root = works.now (generation_path n) (other_at (home_path n k) (generation_path n) (λ same. let more = ap length same in absurd (omega arith))) ∙ opens.open'.root;
@@ -168,7 +160,7 @@ wrote n k most bytes c d e high long before opens spared works written = record 
     only = only_after n k (k + 1) (home_path n k) d.places e.places (inr refl) (omega arith) opens.open'.only works.now;
   };
   earlier = λ j other less was.
-      stays_written (home_path n j) other d e (spared (home_path n j) (apart_from_home n j k (omega arith) high (omega arith))) (opens.earlier j other less was);
+      stays_written (home_path n j) other d e (unchanged (home_path n j) (apart_from_home n j k (omega arith) high (omega arith))) (opens.earlier j other less was);
   appended = let after = works.appended in omega (arith, long, before, after);
 }
 
@@ -176,17 +168,17 @@ pub file_written : (n k most : ℕ) (bytes : List ℕ) (old mid new : DiskState)
     → Works (is_prefix (home_path n k)) (is_at (home_path n k)) most mid new → Holds (IsWritten (home_path n k) bytes) new → BothTold (Writes n k (bytes ∷ [])) old.told new.told
 file_written n k most bytes old mid new high long first opens works written = go old.told mid.told new.told first.told opens works.spares.told works.told written
   where
-    go : (x y z : Option Told) → BothTold (WorksTold (is_below n) 0) x y → BothTold (Opens n k) x y → BothTold (λ d e. (p : List (List ℕ)) → is_prefix (home_path n k) p ≡ false → IsSpared d e p) y z
+    go : (x y z : Option Told) → BothTold (WorksTold (is_below n) 0) x y → BothTold (Opens n k) x y → BothTold (λ d e. (p : List (List ℕ)) → is_prefix (home_path n k) p ≡ false → IsUnchangedAt d e p) y z
         → BothTold (WorksTold (is_at (home_path n k)) most) y z → IfSome z (λ e. IsWritten (home_path n k) bytes e.places) → BothTold (Writes n k (bytes ∷ [])) x z
-    go None None None first opens spared works written = tt
-    go None None (Some e) first opens spared works written = absurd works
-    go None (Some d) z first opens spared works written = absurd opens
-    go (Some c) None z first opens spared works written = absurd opens
-    go (Some c) (Some d) None first opens spared works written = absurd works
-    go (Some c) (Some d) (Some e) first opens spared works written = wrote n k most bytes c d e high long first.appended opens spared works written
+    go None None None first opens unchanged works written = tt
+    go None None (Some e) first opens unchanged works written = absurd works
+    go None (Some d) z first opens unchanged works written = absurd opens
+    go (Some c) None z first opens unchanged works written = absurd opens
+    go (Some c) (Some d) None first opens unchanged works written = absurd works
+    go (Some c) (Some d) (Some e) first opens unchanged works written = wrote n k most bytes c d e high long first.appended opens unchanged works written
 
 pub put_written : (n k : ℕ) (brought : shelf.Told) (stamp : Stamp) (old mid new : DiskState) → k < 262144 → Works (is_below n) (is_below n) 0 old mid → BothTold (Opens n k) old.told mid.told
-    → Works (is_prefix (home_path n k)) (is_at (home_path n k)) stamp.size mid new → IsPut brought stamp (home_path n k) new → Puts n k brought stamp old new
+    → Works (is_prefix (home_path n k)) (is_at (home_path n k)) stamp.size mid new → IsPut brought stamp (home_path n k) new → WritesBrought n k brought stamp old new
 put_written n k brought stamp old mid new high first opens works put =
     (put.0, put.1, put.2, file_written n k stamp.size put.0 old mid new high (sym put.2.size) first opens works put.3)
 

@@ -10,6 +10,7 @@ use Rattle.ext_host.specs.Valid.{bytes_of}
 use Rattle.ext_host.specs.declared.body.Body.{Body}
 use Rattle.ext_host.specs.declared.body.Body.TheVariants.{Here, Kept, Depot}
 
+-- the bytes are not kept in the store yet
 abbrev pub is_brought : Body → Bool
 is_brought (Here bytes) = true
 is_brought (Kept home) = false
@@ -19,6 +20,7 @@ is_brought (Depot path) = true
 abbrev pub held_stamps : HeldFile → List Stamp
 held_stamps held = if is_brought held.body then held.stamp ∷ [] else []
 
+-- the stamp of an entry's file, where it is brought
 abbrev pub brought_stamps : Entry HeldFile → List Stamp
 brought_stamps (Dir mode) = []
 brought_stamps (Opaque mode) = []

@@ -10,13 +10,11 @@ use Rattle.ext_host.specs.Shelf as shelf
 use Rattle.ext_host.specs.declared.body.Body.TheVariants.{Kept}
 use Rattle.ext_host.specs.declared.home.Home.{Home}
 use Rattle.ext_host.specs.declared.host.Host.{Host}
-use Rattle.ext_store.specs.HeldFiles.{path_told}
-use Rattle.ext_store.specs.Names.{IsFileNumber, home_path}
+use Rattle.ext_store_files.specs.HeldFiles.{path_told}
+use Rattle.ext_store_files.specs.Names.{IsFileNumber, home_path}
 use Rattle.ext_homes.specs.Placed.{Stored, IsHostPlaced}
 use Rattle.ext_homes.specs.Written.{Writes}
 use Rattle.ext_homes.specs.declared.giving.Placed.{Placed}
-
--- ---- the host before
 
 -- its trees; of no host, none
 abbrev pub trees_before : Option Host → List (Entries HeldFile)
@@ -31,9 +29,11 @@ lists_kept trees stamp home = IsFileOf trees (record { stamp = stamp; body = Kep
 abbrev pub AreBefore : ℕ → (Stamp → Home → Type 0) → Type 0
 AreBefore generation lists = (stamp : Stamp) (home : Home) → lists stamp home → (home.generation < generation) × IsFileNumber home.file
 
+-- each home that is listed has the number of a file
 abbrev pub AreNumbered : (Stamp → Home → Type 0) → Type 0
 AreNumbered lists = (stamp : Stamp) (home : Home) → lists stamp home → IsFileNumber home.file
 
+-- each kept file of the trees is in an earlier generation
 abbrev pub AreHomesBefore : ℕ → List (Entries HeldFile) → Type 0
 AreHomesBefore generation trees = AreBefore generation (lists_kept trees)
 
@@ -44,8 +44,6 @@ home_told disk home = path_told disk (home_path home.generation home.file)
 -- what the store has: what the host before lists, and what the disk tells
 abbrev pub stored_by : Option Host → DiskState → Stored
 stored_by from disk = record { lists = lists_kept (trees_before from); told = home_told disk }
-
--- ---- how it ends
 
 -- each file has its home, and those that are new are written, in the order of their numbers
 pub record Gives (from : Option Host) (generation : ℕ) (host : Host) (old new : DiskState) (depot : DepotState) (placed : Placed) : Type 0 where

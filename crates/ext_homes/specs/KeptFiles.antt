@@ -21,26 +21,31 @@ use Rattle.ext_homes.specs.declared.kept_files.HomeKey.{HomeKey}
 use Rattle.ext_homes.specs.declared.kept_files.KeptFile.{KeptFile}
 use Rattle.ext_homes.specs.declared.kept_files.StampKey.{StampKey}
 
+-- a stamp as it is ordered
 abbrev pub stamp_key : Stamp → StampKey
 stamp_key stamp = record { size = stamp.size; digest = stamp.digest.0 }
 
+-- a stamp and a home at which it is listed
 abbrev pub kept_file : Stamp → Home → KeptFile
 kept_file stamp home = record { stamp = stamp_key stamp; home = record { generation = home.generation; file = home.file } }
 
+-- the stamp of a kept file
 abbrev pub file_stamp : KeptFile → Stamp
 file_stamp f = record { size = f.stamp.size; digest = record { 0 = f.stamp.digest } }
 
+-- the home of a kept file
 abbrev pub home_of : KeptFile → Home
 home_of f = record { generation = f.home.generation; file = f.home.file }
 
--- ---- their order
-
+-- the order of stamps
 abbrev pub stamp_key_cmp : StampKey → StampKey → Ordering
 stamp_key_cmp a b = ordering_then (nat_cmp a.size b.size) (slice_cmp nat_cmp a.digest b.digest)
 
+-- the order of homes
 abbrev pub home_key_cmp : HomeKey → HomeKey → Ordering
 home_key_cmp a b = ordering_then (nat_cmp a.generation b.generation) (nat_cmp a.file b.file)
 
+-- the order of kept files: by stamp, then by home
 abbrev pub kept_cmp : KeptFile → KeptFile → Ordering
 kept_cmp a b = ordering_then (stamp_key_cmp a.stamp b.stamp) (home_key_cmp a.home b.home)
 
@@ -57,8 +62,6 @@ abbrev pub AreInOrder : List KeptFile → Type 0
 AreInOrder [] = Unit {0}
 AreInOrder (f ∷ files) = AllByRecursion (λ g. home_cmp (home_of g) (home_of f) ≢ Less) files × AreInOrder files
 
--- ---- which they are
-
 -- among these files one of the stamp is kept at the home
 abbrev pub lists_in : List KeptFile → Stamp → Home → Type 0
 lists_in files stamp home = Contains files (kept_file stamp home)
@@ -68,13 +71,13 @@ pub record AreKept (trees : List (Entries HeldFile)) (sought : Stamp → Bool) (
   pub each : (stamp : Stamp) (home : Home) → lists_in files stamp home → lists_kept trees stamp home
   pub all : (stamp : Stamp) (home : Home) → sought stamp ≡ true → lists_kept trees stamp home → lists_in files stamp home
 
--- ---- in the order of trees and entries
-
+-- a file that is kept, where its stamp is sought
 abbrev pub body_kept : (Stamp → Bool) → Stamp → Body → List KeptFile
 body_kept sought stamp (Here bytes) = []
 body_kept sought stamp (Kept home) = if sought stamp then kept_file stamp home ∷ [] else []
 body_kept sought stamp (Depot path) = []
 
+-- that of an entry's file
 abbrev pub entry_kept : (Stamp → Bool) → Entry HeldFile → List KeptFile
 entry_kept sought (Dir mode) = []
 entry_kept sought (Opaque mode) = []
@@ -82,6 +85,7 @@ entry_kept sought (File mode held) = body_kept sought held.stamp held.body
 entry_kept sought (Link target) = []
 entry_kept sought Hide = []
 
+-- those of all entries of a tree
 abbrev pub tree_kept : (Stamp → Bool) → Entries HeldFile → List KeptFile
 tree_kept sought es = flat_map (λ e. entry_kept sought e.1) es
 
@@ -89,5 +93,6 @@ tree_kept sought es = flat_map (λ e. entry_kept sought e.1) es
 abbrev pub past_trees : List Past → List (Entries HeldFile)
 past_trees past = flat_map (λ tree. tree.root ∷ tree.lower ∷ []) past
 
+-- those of all trees, one after another
 abbrev pub trees_kept : (Stamp → Bool) → List (Entries HeldFile) → List KeptFile
 trees_kept sought trees = flat_map (tree_kept sought) trees

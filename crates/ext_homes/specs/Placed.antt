@@ -17,10 +17,8 @@ use Rattle.ext_host.specs.declared.body.Body.{Body}
 use Rattle.ext_host.specs.declared.body.Body.TheVariants.{Here, Kept, Depot}
 use Rattle.ext_host.specs.declared.home.Home.{Home}
 use Rattle.ext_host.specs.declared.host.Host.{Host}
-use Rattle.ext_store.specs.Comparing.{IsCompared}
-use Rattle.ext_store.specs.Copying.{depot_told}
-
--- ---- what the store has
+use Rattle.ext_store_files.specs.Comparing.{IsCompared}
+use Rattle.ext_store_files.specs.Copying.{depot_told}
 
 -- at which homes it lists a file of a stamp, and what is told of the bytes at each home
 pub record Stored : Type 1 where
@@ -46,8 +44,6 @@ pub record IsLeastHome (old : Stored) (stamp : Stamp) (brought : shelf.Told) (ho
 abbrev pub HasNone : Stored → Stamp → shelf.Told → Type 0
 HasNone old stamp brought = (other : Home) → old.lists stamp other → IsCompared (old.told other) brought stamp false
 
--- ---- one file
-
 -- what is told of the bytes that a change brings: those that are here, or those of a file of the depot
 abbrev pub brought_told : DepotState → Body → shelf.Told
 brought_told depot (Here bytes) = shelf.stored bytes
@@ -62,10 +58,12 @@ TakesHome old generation stamp brought next home written =
     ⊎ (HasNone old stamp brought × (home ≡ record { generation = generation; file = next })
     × ((bytes : List ℕ) × IsTold brought bytes × IsStampOf bytes stamp × (written ≡ bytes ∷ [])))
 
+-- the brought file has its home: the least that has its bytes, or the next number
 abbrev pub IsBroughtTo : Stored → DepotState → ℕ → HeldFile → ℕ → HeldFile → List (List ℕ) → Type 0
 IsBroughtTo old depot generation held next new written =
     (home : Home) × TakesHome old generation held.stamp (brought_told depot held.body) next home written × (new ≡ record { stamp = held.stamp; body = Kept home })
 
+-- a file has its home: its own where it is kept, else that to which it is brought
 abbrev pub IsBodyPlaced : Stored → DepotState → ℕ → HeldFile → Body → ℕ → HeldFile → List (List ℕ) → Type 0
 IsBodyPlaced old depot generation held (Here bytes) next new written = IsBroughtTo old depot generation held next new written
 IsBodyPlaced old depot generation held (Kept home) next new written = (new ≡ held) × (written ≡ [])
@@ -75,8 +73,7 @@ IsBodyPlaced old depot generation held (Depot path) next new written = IsBrought
 abbrev pub IsFilePlaced : Stored → DepotState → ℕ → HeldFile → ℕ → HeldFile → List (List ℕ) → Type 0
 IsFilePlaced old depot generation held next new written = IsBodyPlaced old depot generation held held.body next new written
 
--- ---- entries, trees and hosts; `next` is the number of the first file that is written there
-
+-- an entry's file has its home; other entries stay
 abbrev pub IsEntryPlaced : Stored → DepotState → ℕ → Entry HeldFile → ℕ → Entry HeldFile → List (List ℕ) → Type 0
 IsEntryPlaced old depot generation (Dir mode) next new written = (new ≡ Dir mode) × (written ≡ [])
 IsEntryPlaced old depot generation (Opaque mode) next new written = (new ≡ Opaque mode) × (written ≡ [])
@@ -85,6 +82,7 @@ IsEntryPlaced old depot generation (File mode held) next new written =
 IsEntryPlaced old depot generation (Link target) next new written = (new ≡ Link target) × (written ≡ [])
 IsEntryPlaced old depot generation Hide next new written = (new ≡ Hide) × (written ≡ [])
 
+-- the files of entries have their homes, in their order
 abbrev pub ArePlaced : Stored → DepotState → ℕ → Entries HeldFile → ℕ → Entries HeldFile → List (List ℕ) → Type 0
 ArePlaced old depot generation [] next new written = (new ≡ []) × (written ≡ [])
 ArePlaced old depot generation (x ∷ es) next new written =

@@ -14,14 +14,13 @@ use Rattle.ext_host.specs.Shelf as shelf
 use Rattle.ext_host.specs.Shelf.{IsFound}
 use Rattle.ext_host.specs.declared.body.Body.TheVariants.{Depot}
 use Rattle.ext_host.specs.declared.home.Home.{Home}
-use Rattle.ext_store.specs.HeldFiles.{IsListed}
-use Rattle.ext_store.specs.Copying.{IsMissing, IsReadStamp}
+use Rattle.ext_store_files.specs.HeldFiles.{IsListed}
+use Rattle.ext_store_files.specs.Copying.{IsMissing, IsReadStamp}
 use Rattle.ext_homes.specs.Brought.{is_brought}
 use Rattle.ext_homes.specs.Placed.{Stored, home_cmp, DifferBefore, brought_told, ArePlaced}
 use Rattle.ext_homes.specs.declared.errors.HomesErr.{HomesErr}
-use Rattle.ext_homes.specs.declared.errors.HomesErr.TheVariants.{OutOfMemory, DiskFault, DepotFault, Damaged, Mismatch, NotInDepot}
-
--- ---- one file
+use Rattle.ext_store_files.specs.declared.fault.StoreFault.TheVariants.{OutOfMemory, DiskFault, DepotFault, Damaged}
+use Rattle.ext_homes.specs.declared.errors.HomesErr.TheVariants.{Fault, Mismatch, NotInDepot}
 
 -- the home lists the stamp and has another file, which was found; the lesser ones have files of the stamp, with other bytes
 -- than those that are brought
@@ -36,17 +35,15 @@ IsFirstIntact old stamp = (home : Home) → old.lists stamp home → ((other : H
 
 -- when each answer may come for one file
 abbrev pub HomeCause : DiskState → DiskState → DepotState → DepotState → Stored → HeldFile → HomesErr → Type 0
-HomeCause disk new depot after old held OutOfMemory = Unit {0}
-HomeCause disk new depot after old held DiskFault = Rose disk.faults new.faults
-HomeCause disk new depot after old held DepotFault = Rose depot.faults after.faults
-HomeCause disk new depot after old held (Damaged home listed found) =
-    (is_brought held.body ≡ true) × (listed ≡ held.stamp) × IsDamaged old listed (brought_told depot held.body) home found
+HomeCause disk new depot after old held (Fault OutOfMemory) = Unit {0}
+HomeCause disk new depot after old held (Fault DiskFault) = Rose disk.faults new.faults
+HomeCause disk new depot after old held (Fault DepotFault) = Rose depot.faults after.faults
+HomeCause disk new depot after old held (Fault (Damaged damage)) =
+    (is_brought held.body ≡ true) × (damage.listed ≡ held.stamp) × IsDamaged old damage.listed (brought_told depot held.body) damage.home damage.found
 HomeCause disk new depot after old held (Mismatch path listed found) =
     (held.body ≡ Depot path) × (listed ≡ held.stamp) × IsFirstIntact old listed × IsReadStamp (brought_told depot held.body) listed found
 HomeCause disk new depot after old held (NotInDepot path) =
     (held.body ≡ Depot path) × IsFirstIntact old held.stamp × IsMissing (brought_told depot held.body)
-
--- ---- the files of some entries, in their order
 
 -- there is a file of which this holds, and each file before it has its home
 pub record StopsAt (old : Stored) (depot : DepotState) (generation : ℕ) (es : Entries HeldFile) (next : ℕ) (Why : HeldFile → Type 0) : Type 0 where
@@ -63,11 +60,11 @@ pub record StopsAt (old : Stored) (depot : DepotState) (generation : ℕ) (es : 
 
 -- when each answer may come: those on files at the first one that gets no home
 abbrev pub HomesCause : DiskState → DiskState → DepotState → DepotState → Stored → ℕ → Entries HeldFile → ℕ → HomesErr → Type 0
-HomesCause disk new depot after old generation es next OutOfMemory = Unit {0}
-HomesCause disk new depot after old generation es next DiskFault = Rose disk.faults new.faults
-HomesCause disk new depot after old generation es next DepotFault = Rose depot.faults after.faults
-HomesCause disk new depot after old generation es next (Damaged home listed found) =
-    StopsAt old depot generation es next (λ held. HomeCause disk new depot after old held (Damaged home listed found))
+HomesCause disk new depot after old generation es next (Fault OutOfMemory) = Unit {0}
+HomesCause disk new depot after old generation es next (Fault DiskFault) = Rose disk.faults new.faults
+HomesCause disk new depot after old generation es next (Fault DepotFault) = Rose depot.faults after.faults
+HomesCause disk new depot after old generation es next (Fault (Damaged damage)) =
+    StopsAt old depot generation es next (λ held. HomeCause disk new depot after old held (Fault (Damaged damage)))
 HomesCause disk new depot after old generation es next (Mismatch path listed found) =
     StopsAt old depot generation es next (λ held. HomeCause disk new depot after old held (Mismatch path listed found))
 HomesCause disk new depot after old generation es next (NotInDepot path) =

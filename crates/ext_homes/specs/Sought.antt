@@ -14,9 +14,11 @@ use Rattle.ext_homes.specs.Brought.{is_brought}
 abbrev pub mark_of : Stamp → ℕ
 mark_of stamp = get_or stamp.digest.0 0 0 * 256 + get_or stamp.digest.0 1 0
 
+-- the mark of the stamp is set
 abbrev pub is_sought : List Bool → Stamp → Bool
 is_sought marks stamp = get_or marks (mark_of stamp) true
 
+-- the mark of the stamp is set, as a fact
 abbrev pub IsSought : List Bool → Stamp → Type 0
 IsSought marks stamp = is_sought marks stamp ≡ true
 
@@ -24,12 +26,11 @@ IsSought marks stamp = is_sought marks stamp ≡ true
 abbrev pub Grows : List Bool → List Bool → Type 0
 Grows old new = (stamp : Stamp) → IsSought old stamp → IsSought new stamp
 
--- ---- the files that are brought
-
 -- the file's stamp is one of these, where the file is brought
 abbrev pub BringsAmong : (Stamp → Type 0) → HeldFile → Body → Type 0
 BringsAmong Among held body = is_brought body ≡ true → Among held.stamp
 
+-- the same of an entry's file
 abbrev pub EntryAmong : (Stamp → Type 0) → Entry HeldFile → Type 0
 EntryAmong Among (Dir mode) = Unit {0}
 EntryAmong Among (Opaque mode) = Unit {0}
@@ -41,5 +42,6 @@ EntryAmong Among Hide = Unit {0}
 abbrev pub AreAmong : (Stamp → Type 0) → Entries HeldFile → Type 0
 AreAmong Among es = AllByRecursion (λ e. EntryAmong Among e.1) es
 
+-- the stamps of all brought files of the entries are marked
 abbrev pub AreSought : List Bool → Entries HeldFile → Type 0
 AreSought marks es = AreAmong (IsSought marks) es

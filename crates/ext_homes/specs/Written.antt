@@ -5,8 +5,8 @@ use Rattle.std.specs.List.{sum_by}
 use Rattle.std.specs.Option.{is_some}
 use Rattle.ext_text.specs.Path.{is_proper_prefix}
 use Rattle.ext_disk.specs.Disk.{folder, Places, Told}
-use Rattle.ext_store.specs.Names.{generation_path, home_folder, home_path}
-use Rattle.ext_store.specs.Writing.{IsWritten}
+use Rattle.ext_store_files.specs.Names.{generation_path, home_folder, home_path}
+use Rattle.ext_store_files.specs.Writing.{IsWritten}
 
 -- below the folder of the generation
 abbrev pub is_below : ℕ → List (List ℕ) → Bool
@@ -23,7 +23,7 @@ pub record HasHomes (generation count : ℕ) (e : Places) : Type 0 where
   pub folders : (k : ℕ) → k < count → (e (home_folder generation k)).node ≡ Some folder
   pub only : HasOnlyHomes generation count e
 
--- files of these bytes stand at the homes from this number on, and their bytes are settled
+-- files of these bytes stand at the homes from this number on, and their bytes are synced
 abbrev pub AreWritten : ℕ → ℕ → List (List ℕ) → Places → Type 0
 AreWritten generation number [] e = Unit {0}
 AreWritten generation number (bytes ∷ more) e = IsWritten (home_path generation number) bytes e × AreWritten generation (number + 1) more e

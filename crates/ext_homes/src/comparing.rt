@@ -1,34 +1,41 @@
 // A brought file, compared with the stored files of its stamp.
-ghost use Rattle.std.specs.Prelude.{◌≡◌, ◌⊎◌, ◌<◌, ◌↔◌, ◌^◌, true, min, length, IsTrue, IfOk, IfErr};
+ghost use Rattle.std.specs.Prelude.{◌≡◌, ◌⊎◌, ◌<◌, ◌^◌, true, min, length, IsTrue, IfOk, IfErr};
 ghost use Rattle.ext_depot.specs.Depot.{IsKept};
 ghost use Rattle.ext_disk.specs.Since.{Rests};
 ghost use Rattle.ext_host.specs.Held.{IsStampOf};
 ghost use Rattle.ext_host.specs.Shelf.{stored};
-ghost use Rattle.ext_store.specs.Comparing.{IsCompared, IsSame};
-ghost use Rattle.ext_store.specs.HeldFiles.{IsListed, body_told, is_served};
-ghost use Rattle.ext_store.specs.Names.{IsFileNumber};
+ghost use Rattle.ext_store_files.specs.Comparing.{IsCompared, IsSame};
+ghost use Rattle.ext_store_files.specs.HeldFiles.{IsListed, body_told, is_served};
+ghost use Rattle.ext_store_files.specs.Names.{IsFileNumber};
 ghost use Rattle.ext_homes.specs.Brought.{is_brought};
-ghost use Rattle.ext_homes.specs.Comparing.{IsLeast, KeptCause, SameCause, homes_err_of_compare, stored_in};
+ghost use Rattle.ext_homes.specs.Comparing.{IsLeastOrNone, KeptFileCause, SameCause, homes_err_of_compare, stored_in};
+ghost use Rattle.ext_store_files.specs.declared.fault.StoreFault.TheVariants as store_faults;
 ghost use Rattle.ext_homes.specs.declared.errors.HomesErr.TheVariants as errors;
 ghost use Rattle.ext_homes.specs.Giving.{AreNumbered, home_told};
 ghost use Rattle.ext_homes.specs.KeptFiles.{lists_in};
 ghost use Rattle.ext_homes.specs.Placed.{brought_told};
 ghost use Rattle.ext_homes.specs.Refused.{HomeCause};
+ghost use Rattle.ext_io.specs.Pieces.{most_of_piece};
 
 use crate::errors::{HomesErr, mismatch, not_in_depot};
 use crate::kept_files::KeptFiles;
 use ext_depot::Depot;
 use ext_disk::Disk;
 use ext_host::{Body, Held, Home};
-use ext_store::{CompareErr, PIECE, is_same_as_kept, piece, verify};
-use ext_text::{OutOfMemory, Path};
+use ext_io::{PIECE, are_equal, zeros};
+use ext_store_files::{CompareErr, is_same_as_kept, piece, verify};
+use ext_text::Path;
 use std::alloc::Global;
 
 /// The least home at which the store has a file of the brought file's stamp and bytes; `None` where it has none.
 ///
 /// # Errors
-/// `Damaged` where a home that was looked at has another file than listed; then `NotInDepot` and `Mismatch` where the depot
-/// has none, or another than listed; a fault of the disk or of the depot; out of memory. Nothing changes.
+/// - `Damaged` where a home that was looked at has another file than listed.
+/// - Then `NotInDepot` and `Mismatch` where the depot has none, or another than listed.
+/// - A fault of the disk or of the depot.
+/// - Out of memory.
+///
+/// Nothing changes.
 pub(crate) fn least_home<D: Disk, P: Depot>(
     alloc: Global,
     disk: &mut D,
@@ -39,10 +46,12 @@ pub(crate) fn least_home<D: Disk, P: Depot>(
     requires numbers { AreNumbered (lists_in kept.now) }
     requires brought { is_brought held.now.body ≡ true }
     requires size { held.now.stamp.size < 2 ^ 63 }
-    ensures least { IfOk result (IsLeast (stored_in kept.now (D.state disk.old)) held.now.stamp (brought_told (P.state depot.old) held.now.body)) }
+    ensures least { IfOk result (IsLeastOrNone (stored_in kept.now (D.state disk.old)) held.now.stamp
+        (brought_told (P.state depot.old) held.now.body)) }
     ensures rests { Rests (D.state disk.old) (D.state disk.new) }
     ensures kept { IsKept (P.state depot.old) (P.state depot.new) }
-    ensures cause { IfErr result (HomeCause (D.state disk.old) (D.state disk.new) (P.state depot.old) (P.state depot.new) (stored_in kept.now (D.state disk.old)) held.now) }
+    ensures cause { IfErr result (HomeCause (D.state disk.old) (D.state disk.new) (P.state depot.old) (P.state depot.new)
+        (stored_in kept.now (D.state disk.old)) held.now) }
 {
     for file in kept.of_stamp(held.stamp()) {
         let home = file.home();
@@ -64,10 +73,12 @@ fn is_same<D: Disk, P: Depot>(
     requires number { IsFileNumber home.now.file }
     requires brought { is_brought held.now.body ≡ true }
     requires size { held.now.stamp.size < 2 ^ 63 }
-    ensures compared { IfOk result (IsCompared (home_told (D.state disk.old) home.now) (brought_told (P.state depot.old) held.now.body) held.now.stamp) }
+    ensures compared { IfOk result (IsCompared (home_told (D.state disk.old) home.now)
+        (brought_told (P.state depot.old) held.now.body) held.now.stamp) }
     ensures rests { Rests (D.state disk.old) (D.state disk.new) }
     ensures kept { IsKept (P.state depot.old) (P.state depot.new) }
-    ensures cause { IfErr result (SameCause (D.state disk.old) (D.state disk.new) (P.state depot.old) (P.state depot.new) (home_told (D.state disk.old) home.now) home.now held.now) }
+    ensures cause { IfErr result (SameCause (D.state disk.old) (D.state disk.new) (P.state depot.old) (P.state depot.new)
+        (home_told (D.state disk.old) home.now) home.now held.now) }
 {
     match held.body() {
         Body::Here(text) => {
@@ -95,7 +106,8 @@ fn is_same_as_text<D: Disk>(
     requires stamp { IsStampOf text.now kept.now.stamp }
     ensures compared { IfOk result (IsCompared (body_told (D.state disk.old) kept.now.body) (stored text.now) kept.now.stamp) }
     ensures rests { Rests (D.state disk.old) (D.state disk.new) }
-    ensures cause { IfErr result (KeptCause (D.state disk.old) (D.state disk.new) (body_told (D.state disk.old) kept.now.body) kept.now) }
+    ensures cause { IfErr result (KeptFileCause (D.state disk.old) (D.state disk.new)
+        (body_told (D.state disk.old) kept.now.body) kept.now) }
 {
     verify(alloc, disk, kept)?;
     let mut buffer = zeros(alloc, PIECE.min(text.len()))?;
@@ -113,10 +125,11 @@ fn has_bytes<D: Disk>(
     requires served { IsTrue (is_served kept.now.body) }
     requires stamp { IsStampOf text.now kept.now.stamp }
     requires listed { IsListed (body_told (D.state disk.old) kept.now.body) kept.now.stamp }
-    requires room { length buffer.old ≡ min 65536 (length text.now) }
+    requires room { length buffer.old ≡ min most_of_piece (length text.now) }
     ensures same { IfOk result (IsSame (body_told (D.state disk.old) kept.now.body) (stored text.now)) }
     ensures rests { Rests (D.state disk.old) (D.state disk.new) }
-    ensures cause { IfErr result (KeptCause (D.state disk.old) (D.state disk.new) (body_told (D.state disk.old) kept.now.body) kept.now) }
+    ensures cause { IfErr result (KeptFileCause (D.state disk.old) (D.state disk.new)
+        (body_told (D.state disk.old) kept.now.body) kept.now) }
 {
     let mut at = 0;
     'pieces: while at < text.len() {
@@ -129,36 +142,12 @@ fn has_bytes<D: Disk>(
     Ok(true)
 }
 
-fn are_equal(ours: &[u8], theirs: &[u8]) -> bool
-    ensures { IsTrue result ↔ (ours.now ≡ theirs.now) }
-{
-    ours == theirs
-}
-
-// A buffer of so many bytes.
-fn zeros(alloc: Global, count: usize) -> Result<Vec<u8>, OutOfMemory>
-    ensures { IfOk result (λ buffer. length buffer.items ≡ count) }
-{
-    Ok(vec![in alloc; 0u8; count]?)
-}
-
 // The error of a comparison, with the path of the depot's file.
 fn compare_err(refused: CompareErr, from: &Path) -> HomesErr
-    ensures { (result ≡ homes_err_of_compare refused from.now) ⊎ (result ≡ errors.OutOfMemory) }
+    ensures { (result ≡ homes_err_of_compare refused from.now) ⊎ (result ≡ errors.Fault store_faults.OutOfMemory) }
 {
     match refused {
-        CompareErr::OutOfMemory => HomesErr::OutOfMemory,
-        CompareErr::DiskFault => HomesErr::DiskFault,
-        CompareErr::DepotFault => HomesErr::DepotFault,
-        CompareErr::Damaged {
-            home,
-            listed,
-            found,
-        } => HomesErr::Damaged {
-            home,
-            listed,
-            found,
-        },
+        CompareErr::Fault(fault) => HomesErr::Fault(fault),
         CompareErr::NotInDepot => not_in_depot(from),
         CompareErr::Mismatch { listed, found } => mismatch(from, listed, found),
     }

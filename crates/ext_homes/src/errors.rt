@@ -1,8 +1,10 @@
 // Why a file of a coming host got no home.
 ghost use Rattle.std.specs.Prelude.{◌≡◌, ◌⊎◌};
+ghost use Rattle.ext_store_files.specs.declared.fault.StoreFault.TheVariants as store_faults;
 ghost use Rattle.ext_homes.specs.declared.errors.HomesErr.TheVariants as errors;
 
-use ext_host::{Home, ShelfErr};
+use ext_host::ShelfErr;
+use ext_store_files::StoreFault;
 use ext_text::{OutOfMemory, Path};
 use ext_tree::Stamp;
 use thiserror::Error;
@@ -10,25 +12,9 @@ use thiserror::Error;
 /// Why the files of a coming host have no homes.
 #[derive(Debug, Drop, Error)]
 pub enum HomesErr {
-    /// Out of memory.
-    #[error("out of memory")]
-    OutOfMemory,
-    /// The disk had a fault.
-    #[error("disk fault")]
-    DiskFault,
-    /// The depot had a fault.
-    #[error("depot fault")]
-    DepotFault,
-    /// A kept file with the stamp of a brought one is another than the one that is listed.
-    #[error("a kept file is damaged")]
-    Damaged {
-        /// Where the file is kept.
-        home: Home,
-        /// The stamp that it is listed with.
-        listed: Stamp,
-        /// The stamp of the file that stands there; `None` exactly where no file of the listed size does.
-        found: Option<Stamp>,
-    },
+    /// A device failed, there was no memory, or a kept file with the stamp of a brought one is damaged.
+    #[error(transparent)]
+    Fault(StoreFault),
     /// A file of the depot is another than the one that is listed.
     #[error("a file of the depot is not the listed one")]
     Mismatch {
@@ -48,48 +34,36 @@ pub enum HomesErr {
 }
 
 impl From<OutOfMemory> for HomesErr {
-    ghost from_gives = { λ _ e. e ≡ errors.OutOfMemory };
+    ghost from_gives = { λ _ e. e ≡ errors.Fault store_faults.OutOfMemory };
 
     fn from(_refused: OutOfMemory) -> HomesErr {
-        HomesErr::OutOfMemory
+        HomesErr::Fault(StoreFault::OutOfMemory)
     }
 }
 
 impl From<ShelfErr> for HomesErr {
-    ghost use Rattle.ext_homes.specs.Comparing.{homes_err_of_shelf};
+    ghost use Rattle.ext_store_files.specs.Fault.{fault_of_shelf};
 
-    ghost from_gives = { λ e f. f ≡ homes_err_of_shelf e };
+    ghost from_gives = { λ e f. f ≡ errors.Fault (fault_of_shelf e) };
 
     fn from(refused: ShelfErr) -> HomesErr {
-        match refused {
-            ShelfErr::OutOfMemory => HomesErr::OutOfMemory,
-            ShelfErr::Fault => HomesErr::DiskFault,
-            ShelfErr::Damaged {
-                home,
-                listed,
-                found,
-            } => HomesErr::Damaged {
-                home,
-                listed,
-                found,
-            },
-        }
+        HomesErr::Fault(StoreFault::from(refused))
     }
 }
 
 /// The depot has no file at this path. Where the path finds no memory, that is the error.
 pub(crate) fn not_in_depot(path: &Path) -> HomesErr
-    ensures { (result ≡ errors.NotInDepot path.now) ⊎ (result ≡ errors.OutOfMemory) }
+    ensures { (result ≡ errors.NotInDepot path.now) ⊎ (result ≡ errors.Fault store_faults.OutOfMemory) }
 {
     match path.copy() {
         Ok(path) => HomesErr::NotInDepot { path },
-        Err(_) => HomesErr::OutOfMemory,
+        Err(_) => HomesErr::Fault(StoreFault::OutOfMemory),
     }
 }
 
 /// The depot has another file at this path. Where the path finds no memory, that is the error.
 pub(crate) fn mismatch(path: &Path, listed: Stamp, found: Stamp) -> HomesErr
-    ensures { (result ≡ errors.Mismatch path.now listed found) ⊎ (result ≡ errors.OutOfMemory) }
+    ensures { (result ≡ errors.Mismatch path.now listed found) ⊎ (result ≡ errors.Fault store_faults.OutOfMemory) }
 {
     match path.copy() {
         Ok(path) => HomesErr::Mismatch {
@@ -97,6 +71,6 @@ pub(crate) fn mismatch(path: &Path, listed: Stamp, found: Stamp) -> HomesErr
             listed,
             found,
         },
-        Err(_) => HomesErr::OutOfMemory,
+        Err(_) => HomesErr::Fault(StoreFault::OutOfMemory),
     }
 }

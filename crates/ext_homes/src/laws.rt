@@ -2,7 +2,7 @@
 ghost use Rattle.ext_homes.specs.Laws.{PlacedInOneWay, TakesHomeOfBytes};
 
 /// Where the disk has at each listed home bytes of the listed stamp, a brought file takes the least home of its own bytes,
-/// whatever stamp they are listed with; where there is none it is written, and takes the next number.
+/// whatever stamp they are listed with. Where there is none it is written, and takes the next number.
 pub fn a_brought_file_takes_the_least_home_of_its_bytes()
     ensures { TakesHomeOfBytes }
 {}

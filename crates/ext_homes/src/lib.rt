@@ -2,7 +2,7 @@
 //!
 //! A host is kept in a store by an index and the files that it lists. A file that the host before had stays where it is. A
 //! file that a change brings, from a text that is here or out of the depot, is looked for among the stored files of its
-//! stamp, which are read and compared; only where none of them has its bytes is it written into the folder of the coming
+//! stamp, which are read and compared. Only where none of them has its bytes is it written into the folder of the coming
 //! generation. The crate that carries generations through stops stands on this one.
 #![tactic(auto)]
 

@@ -3,7 +3,8 @@ ghost use Rattle.std.specs.Prelude.{◌≡◌, ◌+◌, ◌<◌, ◌≤◌, ◌^
 ghost use Rattle.ext_depot.specs.Depot.{IsKept};
 ghost use Rattle.ext_host.specs.Valid.{bytes_of};
 ghost use Rattle.ext_host.specs.declared.body.Body.TheVariants as bodies;
-ghost use Rattle.ext_store.specs.Writing.{Holds, Works};
+ghost use Rattle.ext_host.specs.Home.{most_files_of_generation};
+ghost use Rattle.ext_store_files.specs.Writing.{Holds, Works};
 ghost use Rattle.ext_homes.specs.Brought.{AreSmall, brought, brought_stamps, bytes_of_all, held_stamps, is_brought};
 ghost use Rattle.ext_homes.specs.Comparing.{stored_in};
 ghost use Rattle.ext_homes.specs.Giving.{AreBefore, AreNumbered};
@@ -12,7 +13,7 @@ ghost use Rattle.ext_homes.specs.Placed.{AreBothPlaced, ArePlaced, IsEntryPlaced
 ghost use Rattle.ext_homes.specs.Placing.{EntryCause, Placing};
 ghost use Rattle.ext_homes.specs.Refused.{HomeCause, HomesCause};
 ghost use Rattle.ext_homes.specs.Written.{HasHomes, HasOnlyHomes, is_below};
-ghost use Rattle.ext_homes.specs.Writing.{Puts, WriteCause};
+ghost use Rattle.ext_homes.specs.Writing.{WritesBrought, WriteCause};
 
 use crate::comparing::least_home;
 use crate::errors::HomesErr;
@@ -52,14 +53,18 @@ pub(crate) fn place_both<D: Disk, P: Depot>(
     lower: Tree<Held>,
 ) -> Result<Both, HomesErr>
     requires before { AreBefore generation (lists_in kept.now) }
-    requires few { length root + length lower ≤ 262144 }
+    requires few { length root + length lower ≤ most_files_of_generation }
     requires sizes { AreSmall (root ++ lower) }
     requires homes { Holds (HasHomes generation 0) (D.state disk.old) }
-    ensures works { Works (is_below generation) (is_below generation) (bytes_of_all (brought (root ++ lower))) (D.state disk.old) (D.state disk.new) }
+    ensures works { Works (is_below generation) (is_below generation) (bytes_of_all (brought (root ++ lower)))
+        (D.state disk.old) (D.state disk.new) }
     ensures only { Holds (HasOnlyHomes generation (length (brought (root ++ lower)))) (D.state disk.new) }
     ensures kept { IsKept (P.state depot.old) (P.state depot.new) }
-    ensures placed { IfOk result (λ both. Placing (λ written. AreBothPlaced (stored_in kept.now (D.state disk.old)) (P.state depot.old) generation root lower 0 both.root both.lower written) generation 0 both.files (brought (root ++ lower)) (D.state disk.old) (D.state disk.new)) }
-    ensures cause { IfErr result (HomesCause (D.state disk.old) (D.state disk.new) (P.state depot.old) (P.state depot.new) (stored_in kept.now (D.state disk.old)) generation (root ++ lower) 0) }
+    ensures placed { IfOk result (λ both. Placing (λ written. AreBothPlaced (stored_in kept.now (D.state disk.old))
+        (P.state depot.old) generation root lower 0 both.root both.lower written) generation 0 both.files
+        (brought (root ++ lower)) (D.state disk.old) (D.state disk.new)) }
+    ensures cause { IfErr result (HomesCause (D.state disk.old) (D.state disk.new) (P.state depot.old) (P.state depot.new)
+        (stored_in kept.now (D.state disk.old)) generation (root ++ lower) 0) }
 {
     let mut files = 0;
     let root = place_tree(alloc, disk, depot, kept, generation, root, &mut files)?;
@@ -78,14 +83,17 @@ fn place_tree<D: Disk, P: Depot>(
     files: &mut u32,
 ) -> Result<Tree<Held>, HomesErr>
     requires before { AreBefore generation (lists_in kept.now) }
-    requires few { files.old + length tree ≤ 262144 }
+    requires few { files.old + length tree ≤ most_files_of_generation }
     requires sizes { AreSmall tree }
     requires homes { Holds (HasHomes generation files.old) (D.state disk.old) }
     ensures works { Works (is_below generation) (is_below generation) (bytes_of_all (brought tree)) (D.state disk.old) (D.state disk.new) }
     ensures only { Holds (HasOnlyHomes generation (files.old + length (brought tree))) (D.state disk.new) }
     ensures kept { IsKept (P.state depot.old) (P.state depot.new) }
-    ensures placed { IfOk result (λ placed. Placing (λ written. ArePlaced (stored_in kept.now (D.state disk.old)) (P.state depot.old) generation tree files.old placed written) generation files.old files.new (brought tree) (D.state disk.old) (D.state disk.new)) }
-    ensures cause { IfErr result (HomesCause (D.state disk.old) (D.state disk.new) (P.state depot.old) (P.state depot.new) (stored_in kept.now (D.state disk.old)) generation tree files.old) }
+    ensures placed { IfOk result (λ placed. Placing (λ written. ArePlaced (stored_in kept.now (D.state disk.old))
+        (P.state depot.old) generation tree files.old placed written) generation files.old files.new (brought tree)
+        (D.state disk.old) (D.state disk.new)) }
+    ensures cause { IfErr result (HomesCause (D.state disk.old) (D.state disk.new) (P.state depot.old) (P.state depot.new)
+        (stored_in kept.now (D.state disk.old)) generation tree files.old) }
 {
     let mut pairs = tree.into_pairs();
     place_pairs(alloc, disk, depot, kept, generation, &mut pairs, files)?;
@@ -103,14 +111,18 @@ fn place_pairs<D: Disk, P: Depot>(
     files: &mut u32,
 ) -> Result<(), HomesErr>
     requires before { AreBefore generation (lists_in kept.now) }
-    requires few { files.old + length pairs.old ≤ 262144 }
+    requires few { files.old + length pairs.old ≤ most_files_of_generation }
     requires sizes { AreSmall pairs.old }
     requires homes { Holds (HasHomes generation files.old) (D.state disk.old) }
-    ensures works { Works (is_below generation) (is_below generation) (bytes_of_all (brought pairs.old)) (D.state disk.old) (D.state disk.new) }
+    ensures works { Works (is_below generation) (is_below generation) (bytes_of_all (brought pairs.old)) (D.state disk.old)
+        (D.state disk.new) }
     ensures only { Holds (HasOnlyHomes generation (files.old + length (brought pairs.old))) (D.state disk.new) }
     ensures kept { IsKept (P.state depot.old) (P.state depot.new) }
-    ensures placed { OnOk result (Placing (λ written. ArePlaced (stored_in kept.now (D.state disk.old)) (P.state depot.old) generation pairs.old files.old pairs.new written) generation files.old files.new (brought pairs.old) (D.state disk.old) (D.state disk.new)) }
-    ensures cause { IfErr result (HomesCause (D.state disk.old) (D.state disk.new) (P.state depot.old) (P.state depot.new) (stored_in kept.now (D.state disk.old)) generation pairs.old files.old) }
+    ensures placed { OnOk result (Placing (λ written. ArePlaced (stored_in kept.now (D.state disk.old)) (P.state depot.old)
+        generation pairs.old files.old pairs.new written) generation files.old files.new (brought pairs.old)
+        (D.state disk.old) (D.state disk.new)) }
+    ensures cause { IfErr result (HomesCause (D.state disk.old) (D.state disk.new) (P.state depot.old) (P.state depot.new)
+        (stored_in kept.now (D.state disk.old)) generation pairs.old files.old) }
 {
     'pairs: for pair in pairs.iter_mut() {
         place_entry(alloc, disk, depot, kept, generation, &mut pair.1, files)?;
@@ -129,14 +141,18 @@ fn place_entry<D: Disk, P: Depot>(
     files: &mut u32,
 ) -> Result<(), HomesErr>
     requires numbers { AreNumbered (lists_in kept.now) }
-    requires number { files.old < 262144 }
+    requires number { files.old < most_files_of_generation }
     requires homes { Holds (HasHomes generation files.old) (D.state disk.old) }
     requires size { bytes_of entry.old < 2 ^ 63 }
-    ensures works { Works (is_below generation) (is_below generation) (bytes_of_all (brought_stamps entry.old)) (D.state disk.old) (D.state disk.new) }
+    ensures works { Works (is_below generation) (is_below generation) (bytes_of_all (brought_stamps entry.old))
+        (D.state disk.old) (D.state disk.new) }
     ensures only { Holds (HasOnlyHomes generation (files.old + length (brought_stamps entry.old))) (D.state disk.new) }
     ensures kept { IsKept (P.state depot.old) (P.state depot.new) }
-    ensures placed { OnOk result (Placing (λ written. IsEntryPlaced (stored_in kept.now (D.state disk.old)) (P.state depot.old) generation entry.old files.old entry.new written) generation files.old files.new (brought_stamps entry.old) (D.state disk.old) (D.state disk.new)) }
-    ensures cause { IfErr result (EntryCause (D.state disk.old) (D.state disk.new) (P.state depot.old) (P.state depot.new) (stored_in kept.now (D.state disk.old)) entry.old) }
+    ensures placed { OnOk result (Placing (λ written. IsEntryPlaced (stored_in kept.now (D.state disk.old))
+        (P.state depot.old) generation entry.old files.old entry.new written) generation files.old files.new
+        (brought_stamps entry.old) (D.state disk.old) (D.state disk.new)) }
+    ensures cause { IfErr result (EntryCause (D.state disk.old) (D.state disk.new) (P.state depot.old) (P.state depot.new)
+        (stored_in kept.now (D.state disk.old)) entry.old) }
 {
     match entry {
         Entry::File(_, held) => place_held(alloc, disk, depot, kept, generation, held, files),
@@ -158,14 +174,18 @@ fn place_held<D: Disk, P: Depot>(
     files: &mut u32,
 ) -> Result<(), HomesErr>
     requires numbers { AreNumbered (lists_in kept.now) }
-    requires number { files.old < 262144 }
+    requires number { files.old < most_files_of_generation }
     requires homes { Holds (HasHomes generation files.old) (D.state disk.old) }
     requires size { held.old.stamp.size < 2 ^ 63 }
-    ensures works { Works (is_below generation) (is_below generation) (bytes_of_all (held_stamps held.old)) (D.state disk.old) (D.state disk.new) }
+    ensures works { Works (is_below generation) (is_below generation) (bytes_of_all (held_stamps held.old))
+        (D.state disk.old) (D.state disk.new) }
     ensures only { Holds (HasOnlyHomes generation (files.old + length (held_stamps held.old))) (D.state disk.new) }
     ensures kept { IsKept (P.state depot.old) (P.state depot.new) }
-    ensures placed { OnOk result (Placing (λ written. IsFilePlaced (stored_in kept.now (D.state disk.old)) (P.state depot.old) generation held.old files.old held.new written) generation files.old files.new (held_stamps held.old) (D.state disk.old) (D.state disk.new)) }
-    ensures cause { IfErr result (HomeCause (D.state disk.old) (D.state disk.new) (P.state depot.old) (P.state depot.new) (stored_in kept.now (D.state disk.old)) held.old) }
+    ensures placed { OnOk result (Placing (λ written. IsFilePlaced (stored_in kept.now (D.state disk.old))
+        (P.state depot.old) generation held.old files.old held.new written) generation files.old files.new
+        (held_stamps held.old) (D.state disk.old) (D.state disk.new)) }
+    ensures cause { IfErr result (HomeCause (D.state disk.old) (D.state disk.new) (P.state depot.old) (P.state depot.new)
+        (stored_in kept.now (D.state disk.old)) held.old) }
 {
     if is_kept(held) {
         return Ok(());
@@ -192,15 +212,19 @@ fn place_brought<D: Disk, P: Depot>(
     files: &mut u32,
 ) -> Result<Home, HomesErr>
     requires numbers { AreNumbered (lists_in kept.now) }
-    requires number { files.old < 262144 }
+    requires number { files.old < most_files_of_generation }
     requires homes { Holds (HasHomes generation files.old) (D.state disk.old) }
     requires brought { is_brought held.now.body ≡ true }
     requires size { held.now.stamp.size < 2 ^ 63 }
-    ensures works { Works (is_below generation) (is_below generation) (bytes_of_all (held.now.stamp ∷ [])) (D.state disk.old) (D.state disk.new) }
+    ensures works { Works (is_below generation) (is_below generation) (bytes_of_all (held.now.stamp ∷ []))
+        (D.state disk.old) (D.state disk.new) }
     ensures only { Holds (HasOnlyHomes generation (files.old + length (held.now.stamp ∷ []))) (D.state disk.new) }
     ensures kept { IsKept (P.state depot.old) (P.state depot.new) }
-    ensures placed { IfOk result (λ placed. Placing (λ written. TakesHome (stored_in kept.now (D.state disk.old)) generation held.now.stamp (brought_told (P.state depot.old) held.now.body) files.old placed written) generation files.old files.new (held.now.stamp ∷ []) (D.state disk.old) (D.state disk.new)) }
-    ensures cause { IfErr result (HomeCause (D.state disk.old) (D.state disk.new) (P.state depot.old) (P.state depot.new) (stored_in kept.now (D.state disk.old)) held.now) }
+    ensures placed { IfOk result (λ placed. Placing (λ written. TakesHome (stored_in kept.now (D.state disk.old)) generation
+        held.now.stamp (brought_told (P.state depot.old) held.now.body) files.old placed written) generation files.old
+        files.new (held.now.stamp ∷ []) (D.state disk.old) (D.state disk.new)) }
+    ensures cause { IfErr result (HomeCause (D.state disk.old) (D.state disk.new) (P.state depot.old) (P.state depot.new)
+        (stored_in kept.now (D.state disk.old)) held.now) }
 {
     match least_home(alloc, disk, depot, kept, held)? {
         Some(home) => Ok(home),
@@ -217,7 +241,7 @@ fn write_next<D: Disk, P: Depot>(
     held: &Held,
     files: &mut u32,
 ) -> Result<Home, HomesErr>
-    requires number { files.old < 262144 }
+    requires number { files.old < most_files_of_generation }
     requires homes { Holds (HasHomes generation files.old) (D.state disk.old) }
     requires brought { is_brought held.now.body ≡ true }
     requires size { held.now.stamp.size < 2 ^ 63 }
@@ -226,7 +250,8 @@ fn write_next<D: Disk, P: Depot>(
     ensures kept { IsKept (P.state depot.old) (P.state depot.new) }
     ensures home { IfOk result (λ home. home ≡ record { generation = generation; file = files.old }) }
     ensures count { OnOk result (files.new ≡ files.old + 1) }
-    ensures written { OnOk result (Puts generation files.old (brought_told (P.state depot.old) held.now.body) held.now.stamp (D.state disk.old) (D.state disk.new)) }
+    ensures written { OnOk result (WritesBrought generation files.old (brought_told (P.state depot.old) held.now.body) held.now.stamp
+        (D.state disk.old) (D.state disk.new)) }
     ensures cause { IfErr result (WriteCause (D.state disk.old) (D.state disk.new) (P.state depot.old) (P.state depot.new) held.now) }
 {
     let file = *files;

@@ -4,26 +4,28 @@ ghost use Rattle.ext_text.specs.Path.{is_prefix};
 ghost use Rattle.ext_depot.specs.Depot.{IsKept};
 ghost use Rattle.ext_disk.specs.Disk.{BothTold};
 ghost use Rattle.ext_disk.specs.Calls.{MayCall, make_file};
-ghost use Rattle.ext_store.specs.Names.{home_path};
-ghost use Rattle.ext_store.specs.Writing.{Holds, Works, is_at};
+ghost use Rattle.ext_store_files.specs.Names.{home_path};
+ghost use Rattle.ext_store_files.specs.Writing.{Holds, Works, is_at};
 ghost use Rattle.ext_homes.specs.Brought.{is_brought};
 ghost use Rattle.ext_homes.specs.Placed.{brought_told};
 ghost use Rattle.ext_homes.specs.Written.{HasHomes, HasOnlyHomes, is_below};
-ghost use Rattle.ext_homes.specs.Writing.{FolderCause, IsPut, Opens, Puts, WriteCause, homes_err_of_copy};
+ghost use Rattle.ext_homes.specs.Writing.{FolderCause, IsPut, Opens, WritesBrought, WriteCause, homes_err_of_copy};
+ghost use Rattle.ext_store_files.specs.declared.fault.StoreFault.TheVariants as store_faults;
 ghost use Rattle.ext_homes.specs.declared.errors.HomesErr.TheVariants as errors;
+ghost use Rattle.ext_host.specs.Home.{most_files_of_generation};
 
 use crate::errors::{HomesErr, mismatch, not_in_depot};
 use ext_depot::Depot;
 use ext_disk::Disk;
 use ext_host::{Body, Held};
-use ext_store::{CopyErr, copy_from_depot, home_folder, home_path, make_folder, write_file};
+use ext_store_files::{
+    CopyErr, FILES_OF_A_FOLDER, StoreFault, copy_from_depot, home_folder, home_path, make_folder,
+    write_file,
+};
 use ext_text::Path;
 use std::alloc::Global;
 
-// How many files have one folder.
-const FILES_IN_FOLDER: u32 = 256;
-
-/// Writes a brought file under a number, where those before it are written, and settles its bytes.
+/// Writes a brought file under a number, where those before it are written, and syncs its bytes.
 pub(crate) fn write_brought<D: Disk, P: Depot>(
     alloc: Global,
     disk: &mut D,
@@ -32,14 +34,15 @@ pub(crate) fn write_brought<D: Disk, P: Depot>(
     number: u32,
     held: &Held,
 ) -> Result<(), HomesErr>
-    requires number { number < 262144 }
+    requires number { number < most_files_of_generation }
     requires brought { is_brought held.now.body ≡ true }
     requires size { held.now.stamp.size < 2 ^ 63 }
     requires homes { Holds (HasHomes generation number) (D.state disk.old) }
     ensures works { Works (is_below generation) (is_below generation) held.now.stamp.size (D.state disk.old) (D.state disk.new) }
     ensures only { Holds (HasOnlyHomes generation (number + 1)) (D.state disk.new) }
     ensures kept { IsKept (P.state depot.old) (P.state depot.new) }
-    ensures written { OnOk result (Puts generation number (brought_told (P.state depot.old) held.now.body) held.now.stamp (D.state disk.old) (D.state disk.new)) }
+    ensures written { OnOk result (WritesBrought generation number (brought_told (P.state depot.old) held.now.body) held.now.stamp
+        (D.state disk.old) (D.state disk.new)) }
     ensures cause { IfErr result (WriteCause (D.state disk.old) (D.state disk.new) (P.state depot.old) (P.state depot.new) held.now) }
 {
     make_home_folder(alloc, disk, generation, number)?;
@@ -54,20 +57,20 @@ fn make_home_folder<D: Disk>(
     generation: u32,
     number: u32,
 ) -> Result<(), HomesErr>
-    requires number { number < 262144 }
+    requires number { number < most_files_of_generation }
     requires homes { Holds (HasHomes generation number) (D.state disk.old) }
     ensures works { Works (is_below generation) (is_below generation) 0 (D.state disk.old) (D.state disk.new) }
     ensures only { Holds (HasOnlyHomes generation (number + 1)) (D.state disk.new) }
     ensures opens { OnOk result (BothTold (Opens generation number) (D.state disk.old).told (D.state disk.new).told) }
     ensures cause { IfErr result (FolderCause (D.state disk.old) (D.state disk.new)) }
 {
-    if number % FILES_IN_FOLDER != 0 {
+    if number % FILES_OF_A_FOLDER != 0 {
         return Ok(());
     }
     let folder = home_folder(alloc, generation, number)?;
     match make_folder(disk, &folder) {
         Ok(()) => Ok(()),
-        Err(_) => Err(HomesErr::DiskFault),
+        Err(_) => Err(HomesErr::Fault(StoreFault::DiskFault)),
     }
 }
 
@@ -90,7 +93,7 @@ fn put_file<D: Disk, P: Depot>(
     match held.body() {
         Body::Here(text) => match write_file(disk, path, text.bytes()) {
             Ok(()) => Ok(()),
-            Err(_) => Err(HomesErr::DiskFault),
+            Err(_) => Err(HomesErr::Fault(StoreFault::DiskFault)),
         },
         Body::Depot(from) => {
             match copy_from_depot(alloc, disk, path, depot, from, held.stamp()) {
@@ -104,12 +107,12 @@ fn put_file<D: Disk, P: Depot>(
 
 // The error of a copy, with the path of the depot's file.
 fn copy_err(refused: CopyErr, from: &Path) -> HomesErr
-    ensures { (result ≡ homes_err_of_copy refused from.now) ⊎ (result ≡ errors.OutOfMemory) }
+    ensures { (result ≡ homes_err_of_copy refused from.now) ⊎ (result ≡ errors.Fault store_faults.OutOfMemory) }
 {
     match refused {
-        CopyErr::OutOfMemory => HomesErr::OutOfMemory,
-        CopyErr::DiskFault => HomesErr::DiskFault,
-        CopyErr::DepotFault => HomesErr::DepotFault,
+        CopyErr::OutOfMemory => HomesErr::Fault(StoreFault::OutOfMemory),
+        CopyErr::DiskFault => HomesErr::Fault(StoreFault::DiskFault),
+        CopyErr::DepotFault => HomesErr::Fault(StoreFault::DepotFault),
         CopyErr::NotInDepot => not_in_depot(from),
         CopyErr::Mismatch { listed, found } => mismatch(from, listed, found),
     }

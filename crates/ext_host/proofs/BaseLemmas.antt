@@ -28,8 +28,6 @@ abbrev pub AreRising : List (List ℕ) → Type 0
 AreRising [] = Unit {0}
 AreRising (n ∷ names) = AllByRecursion (λ m. is_lt (bytes_cmp m n) ≡ false) names × AreRising names
 
--- ---- lists in order, one after another
-
 module _ {K X : Type 0} (R : K → K → Ordering) where
   below_each : (x : K) (es : List (K × X)) → AllByRecursion (λ e. R x e.0 ≡ Less) es → below_all R x es ≡ true
   below_each x [] each = refl
@@ -76,8 +74,6 @@ module _ {K X : Type 0} (R : K → K → Ordering) where
         | true ↦ λ in_. subst (λ b. length (e ∷ where_key R f es) + length (cond b (e ∷ where_key R g es) (where_key R g es)) ≤ length (e ∷ es)) (sym (apart e.0 in_)) (omega arith)
         | false ↦ λ _. elim (g e.0) as (λ b. length (where_key R f es) + length (cond b (e ∷ where_key R g es) (where_key R g es)) ≤ length (e ∷ es)) [ true ↦ omega arith | false ↦ omega arith ]
       ] refl
-
--- ---- the base at a path
 
 -- the first of two look-ups that finds something
 abbrev first_found : {X : Type 0} → Option X → Option X → Option X
@@ -168,8 +164,6 @@ module _ {C : Type 0} where
       let whole : length (a ++ (b ++ rest)) ≡ length a + (length b + length rest) = length-append a (b ++ rest) ∙ ap (λ k. length a + k) (length-append b rest) in
       omega arith
 
--- ---- the base is a tree
-
 module _ {C : Type 0} (names : List (List ℕ)) (root lower es : Entries C) (says : (p : List (List ℕ)) → lookup es p ≡ cond (is_in names p) (lookup lower p) (lookup root p)) where
   in_root : is_in names [] ≡ false
   in_root = in_nothing names
@@ -217,8 +211,6 @@ module _ {C : Type 0} (names : List (List ℕ)) (root lower es : Entries C) (say
       paths = paths_base;
       parents = parents_base;
     }
-
--- ---- sorted names, and the whole
 
 pub rising_names : (names : List (List ℕ)) → IsSorted bytes_cmp names → AreRising names
 rising_names [] up = tt

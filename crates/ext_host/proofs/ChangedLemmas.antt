@@ -25,6 +25,7 @@ module _ {C D : Type 0} (change : List (List ℕ) → Entry C → Entry D) where
   sorted_changed [] = refl
   sorted_changed (e ∷ es) = λ i. below_changed e.0 es i && sorted_changed es i
 
+  -- what is looked up among changed entries is what was there, changed
   pub lookup_changed : (p : List (List ℕ)) (es : Entries C) → lookup (changed es) p ≡ option_map (change p) (lookup es p)
   lookup_changed p [] = refl
   lookup_changed p (e ∷ es) =
@@ -50,6 +51,7 @@ module _ {C D : Type 0} (change : List (List ℕ) → Entry C → Entry D) where
     directory_changed [] es = refl
     directory_changed (n ∷ p) es = ap is_directory_at (lookup_changed (n ∷ p) es) ∙ directory_mapped (n ∷ p) (lookup es (n ∷ p))
 
+    -- changed entries are a tree
     pub tree_changed : (es : Entries C) → IsTree es → IsTree (changed es)
     tree_changed es tree =
         let there : (p : List (List ℕ)) → is_some (lookup (changed es) p) ≡ true → is_some (lookup es p) ≡ true = λ p h. sym (some_mapped p (lookup es p)) ∙ sym (ap is_some (lookup_changed p es)) ∙ h in
@@ -60,6 +62,7 @@ module _ {C D : Type 0} (change : List (List ℕ) → Entry C → Entry D) where
           parents = λ p h. directory_changed (parent p) es ∙ tree.parents p (there p h);
         }
 
+    -- within the limits, too
     pub tree_changed_within : (es : Entries C) → IsTreeWithin es → IsTreeWithin (changed es)
     tree_changed_within es within = record {
       tree = tree_changed es within.tree;
@@ -77,6 +80,7 @@ module _ {C D : Type 0} (change : List (List ℕ) → Entry C → Entry D) where
           parents = λ p h. sym (directory_changed (parent p) es) ∙ tree.parents p (there p h);
         }
 
+    -- so are the entries that were changed
     pub tree_before_within : (es : Entries C) → IsTreeWithin (changed es) → IsTreeWithin es
     tree_before_within es within = record {
       tree = tree_before es within.tree;

@@ -19,9 +19,11 @@ use Rattle.ext_host.specs.Laws.{BaseIsDrawn, CutIsDrawn, DrawnFromItself, DrawnO
 nothing_is : {X : Type 0} (x : X) → None ≡ Some x → ⊥
 nothing_is x h = false≢true (ap is_some h)
 
+-- a tree is drawn from itself
 pub drawn_from_itself : DrawnFromItself
 drawn_from_itself host held home kept file = file
 
+-- what is drawn from a drawn tree is drawn from that one
 pub drawn_through : DrawnThrough
 drawn_through a b c first second held home kept file = first held home kept (second held home kept file)
 
@@ -61,6 +63,7 @@ of_one es held is = subst (λ tree. HasFile tree held) (only is.tree is.among) i
     only tree (zero, lt, same) = sym same
     only tree (suc k, lt, same) = absurd (omega arith)
 
+-- a host's base is drawn from its trees
 pub base_is_drawn : BaseIsDrawn
 base_is_drawn host es is held home kept file =
     let f = of_one es held file in
@@ -69,17 +72,17 @@ base_is_drawn host es is held home kept file =
       | inr under ↦ record { tree = host.lower; among = second_among host.root host.lower []; file = record { path = f.path; mode = f.mode; stands = under } }
     ]
 
+-- a part is drawn
 pub part_is_drawn : PartIsDrawn
 part_is_drawn es part at is held home kept file =
     let f = of_one part held file in
     record { tree = es; among = first_among es []; file = record { path = at ++ f.path; mode = f.mode; stands = entries_of_part es part at f.path (File f.mode held) is f.stands } }
 
+-- what is left is drawn
 pub cut_is_drawn : CutIsDrawn
 cut_is_drawn es rest at is held home kept file =
     let f = of_one rest held file in
     record { tree = es; among = first_among es []; file = record { path = f.path; mode = f.mode; stands = entries_of_cut es rest at f.path (File f.mode held) is f.stands } }
-
--- ---- grafts
 
 some_same : {X : Type 0} (x y : X) → Some x ≡ Some y → x ≡ y
 some_same x y h = cc
@@ -110,6 +113,7 @@ entries_of_graft es part new (n ∷ at) path e is stands =
 file_not_made : (mode : ℕ) (held : HeldFile) → File mode held ≡ made → ⊥
 file_not_made mode held h = false≢true (ap is_directory h)
 
+-- a tree with a graft is drawn from both
 pub graft_is_drawn : GraftIsDrawn
 graft_is_drawn es part new at is held home kept file =
     let f = of_one new held file in
@@ -119,8 +123,7 @@ graft_is_drawn es part new at is held home kept file =
       | inr (inr dir) ↦ absurd (file_not_made f.mode held dir)
     ]
 
--- ---- trees one by one
-
+-- so are several trees
 pub trees_drawn_through : TreesDrawnThrough
 trees_drawn_through a b c first second held home kept file = first held home kept (second held home kept file)
 
@@ -128,11 +131,13 @@ trees_drawn_through a b c first second held home kept file = first held home kep
 one_of : {X : Type 0} (P : X → Type 0) (xs : List X) (x : X) → AllByRecursion P xs → Contains xs x → P x
 one_of P xs x all among = All-contains P xs x (All-from_recursion P xs all) among
 
+-- trees that are drawn one by one are drawn
 pub drawn_one_by_one : DrawnOneByOne
 drawn_one_by_one old new each held home kept file =
     one_of (λ es. AreDrawnFrom old (es ∷ [])) new file.tree each file.among held home kept
     (record { tree = file.tree; among = first_among file.tree []; file = file.file })
 
+-- a host's trees are drawn from themselves
 pub trees_are_drawn : TreesAreDrawn
 trees_are_drawn old new each held home kept file =
     record { tree = file.tree; among = one_of (Contains old) new file.tree each file.among; file = file.file }

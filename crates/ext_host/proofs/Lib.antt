@@ -8,4 +8,6 @@ pub mod TouchLemmas
 pub mod StampLemmas
 pub mod DefaultLemmas
 pub mod AscendingLemmas
+pub mod ReadOnlyLemmas
+pub mod LimitsLemmas
 pub mod ForCallers

@@ -25,8 +25,6 @@ less_or_equal Greater s h = inl h
 greater_not_less : Greater ≡ Less → ⊥
 greater_not_less h = false≢true (ap is_lt h)
 
--- ---- a test of a name passes for what comes before, or for what comes after
-
 pub before_down : (n : List ℕ) (x y : List (List ℕ)) → path_cmp x y ≡ Less → comes_before n y ≡ true → comes_before n x ≡ true
 before_down n [] y less before = refl
 before_down n (a ∷ x) [] less before = absurd (greater_not_less less)
@@ -57,8 +55,6 @@ after_down n x y less out =
 pub neither : (n : List ℕ) (x : List (List ℕ)) → (not (comes_before n x) && not (comes_after n x)) ≡ stands_at n x
 neither n x = elim (first_name_cmp n x) as (λ o. (not (is_gt o) && not (is_lt o)) ≡ is_eq o) [ Less ↦ refl | Equal ↦ refl | Greater ↦ refl ]
 
--- ---- the order of what stands before, at and after a name
-
 -- what comes before a name comes before what does not
 pub before_first : (n : List ℕ) (x y : List (List ℕ)) → comes_before n x ≡ true → comes_before n y ≡ false → path_cmp x y ≡ Less
 before_first n [] [] before out = absurd (true≢false out)
@@ -84,8 +80,6 @@ at_not_before n x at = ap is_gt (is_equal (first_name_cmp n x) at)
 
 pub after_not_before : (n : List ℕ) (x : List (List ℕ)) → comes_after n x ≡ true → comes_before n x ≡ false
 after_not_before n x after = ap is_gt (is_less (first_name_cmp n x) after)
-
--- ---- names that do not fall
 
 -- a path at or below a name
 pub prefix_at : (n : List ℕ) (p : List (List ℕ)) → is_prefix (n ∷ []) p ≡ stands_at n p

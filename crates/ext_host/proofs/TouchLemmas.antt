@@ -1,11 +1,14 @@
 -- What holds of a host's manifests still holds of those that a change leaves.
-use Rattle.std.proofs.Common.{◌≡◌, Bool, true, false, cond, not, List, [], ◌∷◌, map}
+use Rattle.std.proofs.Common.{◌≡◌, Bool, true, false, cond, not, ◌||◌, List, [], ◌∷◌, map, refl, sym, ap, ◌∙◌}
 use Rattle.std.specs.List.{AllByRecursion, filter}
 use Rattle.std.specs.declared.cmp.Ordering.{Ordering}
 use Rattle.std.specs.declared.cmp.Ordering.TheVariants.{Less}
-use Rattle.ext_text.specs.Path.{are_related, path_cmp}
-use Rattle.ext_host.specs.Laws.{TouchedIsValid}
-use Rattle.ext_host.specs.Valid.{AreApart, AreAscending, IsManifest}
+use Rattle.ext_text.specs.Path.{are_related, is_prefix, path_cmp}
+use Rattle.ext_text.specs.SortedPaths.{meets}
+use Rattle.ext_host.specs.Laws.{TouchedAllIsValid, TouchedIsValid, TouchedOneByOne}
+use Rattle.ext_host.specs.Touch.{untouched_all}
+use Rattle.ext_host.specs.Valid.{AreApart, AreAscending, IsManifest, IsValidHost}
+use Rattle.ext_host.specs.declared.host.Host.{Host}
 use Rattle.ext_host.specs.declared.manifest.Manifest.{Manifest}
 
 -- what holds of each holds of those that are kept
@@ -44,10 +47,10 @@ apart_kept f (m ∷ manifests) apart =
       | false ↦ rest
     ]
 
-pub touched_is_valid : TouchedIsValid
-touched_is_valid host path valid =
+-- a host that keeps some of its manifests is as valid as it was
+kept_is_valid : (f : Manifest → Bool) (host : Host) → IsValidHost host → IsValidHost (record host { kept = filter f host.kept })
+kept_is_valid f host valid =
     let kept = valid.present.kept in
-    let f = λ (m : Manifest). not (are_related m.path path) in
     record {
       scope = valid.scope;
       hierarchies = valid.hierarchies;
@@ -68,3 +71,28 @@ touched_is_valid host path valid =
       past_count = valid.past_count;
       past_order = valid.past_order;
     }
+
+pub touched_is_valid : TouchedIsValid
+touched_is_valid host path valid = kept_is_valid (λ m. not (are_related m.path path)) host valid
+
+pub touched_all_is_valid : TouchedAllIsValid
+touched_all_is_valid host paths valid = kept_is_valid (λ m. not (meets paths m.path)) host valid
+
+swapped : (a b : Bool) → a || b ≡ b || a
+swapped true true = refl
+swapped true false = refl
+swapped false true = refl
+swapped false false = refl
+
+-- a manifest that the first path leaves and the others leave
+left_by_both : (a b : Bool) (m : Manifest) (f : Manifest → Bool) (rest : List Manifest) → f m ≡ not a → cond (not (a || b)) (m ∷ filter f rest) (filter f rest) ≡ filter f (cond (not b) (m ∷ rest) rest)
+left_by_both true true m f rest is = refl
+left_by_both true false m f rest is = sym (ap (λ t. cond t (m ∷ filter f rest) (filter f rest)) is)
+left_by_both false true m f rest is = refl
+left_by_both false false m f rest is = sym (ap (λ t. cond t (m ∷ filter f rest) (filter f rest)) is)
+
+pub touched_one_by_one : TouchedOneByOne
+touched_one_by_one path paths [] = refl
+touched_one_by_one path paths (m ∷ manifests) =
+    ap (λ rest. cond (not (are_related path m.path || meets paths m.path)) (m ∷ rest) rest) (touched_one_by_one path paths manifests)
+    ∙ left_by_both (are_related path m.path) (meets paths m.path) m (λ n. not (are_related n.path path)) (untouched_all paths manifests) (ap not (swapped (is_prefix m.path path) (is_prefix path m.path)))

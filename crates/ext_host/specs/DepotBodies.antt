@@ -19,6 +19,7 @@ in_depot path (File mode stamp) = File mode (record { stamp = stamp; body = Depo
 in_depot path (Link target) = Link target
 in_depot path Hide = Hide
 
+-- an entry whose file is in the depot below the path
 abbrev pub pair_in_depot : List (List ℕ) → List (List ℕ) × Entry Stamp → List (List ℕ) × Entry HeldFile
 pair_in_depot res e = (e.0, in_depot (res ++ e.0) e.1)
 
@@ -27,12 +28,12 @@ abbrev pub from_depot : List (List ℕ) → Entries Stamp → Entries HeldFile
 from_depot res es = map (pair_in_depot res) es
 
 -- a file's path below `res` is within the limits
-abbrev pub Fits : List (List ℕ) → List (List ℕ) × Entry Stamp → Type 0
-Fits res e = IsTrue (is_file e.1) → IsPath (res ++ e.0)
+abbrev pub FileFits : List (List ℕ) → List (List ℕ) × Entry Stamp → Type 0
+FileFits res e = IsTrue (is_file e.1) → IsPath (res ++ e.0)
 
 -- a file's path below `res` passes the limits
-abbrev pub Passes : List (List ℕ) → List (List ℕ) × Entry Stamp → Type 0
-Passes res e = IsTrue (is_file e.1) × ¬ IsPath (res ++ e.0)
+abbrev pub FilePasses : List (List ℕ) → List (List ℕ) × Entry Stamp → Type 0
+FilePasses res e = IsTrue (is_file e.1) × ¬ IsPath (res ++ e.0)
 
 -- why a path below `res` is not given
 abbrev pub JoinErr : List (List ℕ) → TreeErr → Type 0
@@ -48,7 +49,7 @@ HasFileErr res e OutOfMemory = Unit {0}
 HasFileErr res e Exists = ⊥
 HasFileErr res e NotDirectory = ⊥
 HasFileErr res e Limit = ⊥
-HasFileErr res e Path = Passes res e
+HasFileErr res e Path = FilePasses res e
 
 -- why a tree is not given: an allocation failed, or some file's path passes the limits
 abbrev pub FitsErr : List (List ℕ) → Entries Stamp → TreeErr → Type 0
@@ -56,9 +57,9 @@ FitsErr res es OutOfMemory = Unit {0}
 FitsErr res es Exists = ⊥
 FitsErr res es NotDirectory = ⊥
 FitsErr res es Limit = ⊥
-FitsErr res es Path = (e : List (List ℕ) × Entry Stamp) × Contains es e × Passes res e
+FitsErr res es Path = (e : List (List ℕ) × Entry Stamp) × Contains es e × FilePasses res e
 
 -- what `from_depot` gives: the tree, where each file's path fits, or that the path of some file does not
 abbrev pub GivesFromDepot : List (List ℕ) → Entries Stamp → Result (Entries HeldFile) TreeErr → Type 0
-GivesFromDepot res es (Ok placed) = (placed ≡ from_depot res es) × AllByRecursion (Fits res) es
+GivesFromDepot res es (Ok placed) = (placed ≡ from_depot res es) × AllByRecursion (FileFits res) es
 GivesFromDepot res es (Err e) = FitsErr res es e

@@ -3,8 +3,8 @@
 use Rattle.std.specs.Prelude.{◌≡◌, ℕ, Bool, List, [], ◌∷◌, ◌++◌, if◌then◌else◌, Option, Some, None, codes}
 use Rattle.std.specs.List.{list_any}
 use Rattle.ext_text.specs.Path.{is_prefix}
-use Rattle.ext_text.specs.declared.class.Class.{Class}
-use Rattle.ext_text.specs.declared.class.Class.TheVariants.{Sysext, Confext, Portable}
+use Rattle.ext_text.specs.declared.extension.Extension.{Extension}
+use Rattle.ext_text.specs.declared.extension.Extension.TheVariants.{Sysext, Confext}
 use Rattle.ext_tree.specs.Tree.{Entries, lookup}
 use Rattle.ext_tree.specs.declared.entry.Entry.{Entry}
 use Rattle.ext_host.specs.Held.{HeldFile}
@@ -13,31 +13,26 @@ use Rattle.ext_host.specs.declared.manifest.Manifest.{Manifest}
 use Rattle.ext_host.specs.declared.past.Past.{Past}
 use Rattle.ext_host.specs.declared.host.Host.{Host}
 
--- ---- hierarchies: names directly below the root
-
 -- the hierarchies of a host, by their class
 pub record Hierarchies : Type 0 where
   pub sysext : List (List ℕ)
   pub confext : List (List ℕ)
 
 -- the hierarchies of a class
-abbrev pub hierarchies_of : Class → Hierarchies → List (List ℕ)
+abbrev pub hierarchies_of : Extension → Hierarchies → List (List ℕ)
 hierarchies_of Sysext hierarchies = hierarchies.sysext
 hierarchies_of Confext hierarchies = hierarchies.confext
-hierarchies_of Portable hierarchies = []
 
 -- those of a host that chose none
-abbrev pub default_hierarchies : Class → List (List ℕ)
+abbrev pub default_hierarchies : Extension → List (List ℕ)
 default_hierarchies Sysext = codes "opt" ∷ codes "usr" ∷ []
 default_hierarchies Confext = codes "etc" ∷ []
-default_hierarchies Portable = []
 
 -- the path is at or below one of the names
 abbrev pub is_in : List (List ℕ) → List (List ℕ) → Bool
 is_in names path = list_any (λ name. is_prefix (name ∷ []) path) names
 
--- ---- what a host has at one time: it, or a past tree of it
-
+-- a tree of a host, present or past: what is seen and what lies under it, what is merged, attached and left by updates
 pub record HostTree : Type 0 where
   pub root : Entries HeldFile
   pub lower : Entries HeldFile
@@ -46,20 +41,22 @@ pub record HostTree : Type 0 where
   pub attached : List Attachment
   pub kept : List Manifest
 
+-- those of a host
 abbrev pub hierarchies_in : Host → Hierarchies
 hierarchies_in host = record { sysext = host.sysext_hier; confext = host.confext_hier }
 
+-- the present tree of a host
 abbrev pub present : Host → HostTree
 present host = record { root = host.root; lower = host.lower; sysext = host.sysext; confext = host.confext; attached = host.attached; kept = host.kept }
 
+-- the tree of a past host
 abbrev pub past_tree : Past → HostTree
 past_tree past = record { root = past.root; lower = past.lower; sysext = past.sysext; confext = past.confext; attached = past.attached; kept = past.kept }
 
 -- the names of a class, where they are merged
-abbrev pub merged_names : Class → HostTree → Option (List (List ℕ))
+abbrev pub merged_names : Extension → HostTree → Option (List (List ℕ))
 merged_names Sysext tree = tree.sysext
 merged_names Confext tree = tree.confext
-merged_names Portable tree = None
 
 -- these names, where something is merged
 abbrev pub where_merged : Option (List (List ℕ)) → List (List ℕ) → List (List ℕ)

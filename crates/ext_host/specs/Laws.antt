@@ -9,7 +9,8 @@ use Rattle.ext_tree.specs.declared.entry.Entry.{Entry}
 use Rattle.ext_host.specs.Drawn.{AreDrawnFrom, IsDrawnFrom}
 use Rattle.ext_host.specs.Held.{HeldFile}
 use Rattle.ext_host.specs.Host.{IsBase}
-use Rattle.ext_host.specs.Touch.{untouched}
+use Rattle.ext_host.specs.Touch.{untouched, untouched_all}
+use Rattle.ext_host.specs.declared.manifest.Manifest.{Manifest}
 use Rattle.ext_host.specs.Valid.{IsValidHost}
 use Rattle.ext_host.specs.declared.host.Host.{Host}
 
@@ -54,15 +55,26 @@ EntriesOfGraft C = (es part new : Entries C) (at path : List (List ℕ)) (e : En
 abbrev pub BaseIsDrawn : Type 0
 BaseIsDrawn = (host : Host) (es : Entries HeldFile) → IsBase host es → AreDrawnFrom (host.root ∷ host.lower ∷ []) (es ∷ [])
 
+-- a part of a tree is drawn from it
 abbrev pub PartIsDrawn : Type 0
 PartIsDrawn = (es part : Entries HeldFile) (at : List (List ℕ)) → IsPart es at part → AreDrawnFrom (es ∷ []) (part ∷ [])
 
+-- a tree without a part is drawn from it
 abbrev pub CutIsDrawn : Type 0
 CutIsDrawn = (es rest : Entries HeldFile) (at : List (List ℕ)) → IsCut es at rest → AreDrawnFrom (es ∷ []) (rest ∷ [])
 
+-- a tree with a part grafted is drawn from both
 abbrev pub GraftIsDrawn : Type 0
 GraftIsDrawn = (es part new : Entries HeldFile) (at : List (List ℕ)) → IsGraft es at part new → AreDrawnFrom (es ∷ part ∷ []) (new ∷ [])
 
 -- a valid host stays valid where a path is touched
 abbrev pub TouchedIsValid : Type 0
 TouchedIsValid = (host : Host) (path : List (List ℕ)) → IsValidHost host → IsValidHost (record host { kept = untouched path host.kept })
+
+-- and where many are
+abbrev pub TouchedAllIsValid : Type 0
+TouchedAllIsValid = (host : Host) (paths : List (List (List ℕ))) → IsValidHost host → IsValidHost (record host { kept = untouched_all paths host.kept })
+
+-- touching many paths leaves what touching one after the other does
+abbrev pub TouchedOneByOne : Type 0
+TouchedOneByOne = (path : List (List ℕ)) (paths : List (List (List ℕ))) (manifests : List Manifest) → untouched_all (path ∷ paths) manifests ≡ untouched path (untouched_all paths manifests)

@@ -1,12 +1,15 @@
+pub mod Home
 pub mod Held
 pub mod Shelf
 pub mod Host
 pub mod Base
 pub mod Locks
+pub mod ReadOnly
 pub mod Touch
 pub mod Stamped
 pub mod DepotBodies
 pub mod Valid
 pub mod Drawn
+pub mod Limits
+pub mod Planning
 pub mod Laws
-pub mod Samples

@@ -42,7 +42,7 @@ pub record IsKeptAs (held : HeldFile) (home : Home) (listed : Stamp) : Type 0 wh
 abbrev pub ShelfCause : ℕ → ℕ → Told → HeldFile → ShelfErr → Type 0
 ShelfCause old new told held OutOfMemory = Unit {0}
 ShelfCause old new told held Fault = Rose old new
-ShelfCause old new told held (Damaged home listed found) = IsKeptAs held home listed × IsFound listed told found
+ShelfCause old new told held (Damaged damage) = IsKeptAs held damage.home damage.listed × IsFound damage.listed told damage.found
 
 -- Staying holds of a state with itself, and over a state between; and what stays serves the same files and tells the same
 -- of each.

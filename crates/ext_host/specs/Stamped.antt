@@ -15,6 +15,7 @@ stamped_entry (File mode held) = File mode held.stamp
 stamped_entry (Link target) = Link target
 stamped_entry Hide = Hide
 
+-- entries with the stamps of their files alone
 abbrev pub stamps : Entries HeldFile → Entries Stamp
 stamps es = map (λ e. (e.0, stamped_entry e.1)) es
 

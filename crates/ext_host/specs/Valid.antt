@@ -25,8 +25,6 @@ abbrev pub AreAscending : {X : Type 0} → (X → X → Ordering) → List X →
 AreAscending R [] = Unit {0}
 AreAscending R (x ∷ xs) = AllByRecursion (λ y. R x y ≡ Less) xs × AreAscending R xs
 
--- ---- entries
-
 -- the bytes of an entry's file
 abbrev pub bytes_of : Entry HeldFile → ℕ
 bytes_of (Dir mode) = 0
@@ -58,8 +56,6 @@ pub record IsWithinLimits (tree : HostTree) : Type 0 where
   pub entries : length tree.root + length tree.lower ≤ most_entries
   pub bytes : all_bytes tree.root + all_bytes tree.lower ≤ most_bytes
 
--- ---- merged names, hierarchies and attachments
-
 -- where a class is merged: at least one name, in the order of versions
 pub record AreMerged (names : List (List ℕ)) : Type 0 where
   pub non_empty : 0 < length names
@@ -81,8 +77,6 @@ pub record IsAttachment (attachment : Attachment) : Type 0 where
 pub record AreAttachments (attached : List Attachment) : Type 0 where
   pub each : AllByRecursion IsAttachment attached
   pub order : AreAscending bytes_cmp (map (λ attachment. attachment.name) attached)
-
--- ---- manifests
 
 -- the items are the files at and below the manifest's path, each with its digest: each item is such a file, and each such
 -- file is an item
@@ -107,8 +101,6 @@ pub record AreManifests (base : List (List ℕ) → Option (Entry HeldFile)) (ke
   pub apart : AreApart kept
   pub items : AllByRecursion (HasItems base) kept
 
--- ---- hosts
-
 -- what a host has at one time
 pub record IsValidTree (hierarchies : Hierarchies) (tree : HostTree) : Type 0 where
   -- what lies under the view lies in the merged hierarchies
@@ -129,6 +121,7 @@ pub record AreOfClasses (hierarchies : Hierarchies) : Type 0 where
 abbrev pub most_past : ℕ
 most_past = 16
 
+-- what every host of a store is
 pub record IsValidHost (host : Host) : Type 0 where
   pub scope : host.scope ≢ Portable
   pub hierarchies : AreOfClasses (hierarchies_in host)

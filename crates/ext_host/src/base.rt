@@ -212,8 +212,8 @@ fn comes_after(name: &Name, pair: &Pair) -> bool
 fn first_name_cmp(name: &Name, pair: &Pair) -> Ordering
     ensures { result ≡ first_name_cmp name.now pair.now.0 }
 {
-    match pair.0.names() {
-        [] => Ordering::Greater,
-        [first, ..] => name.bytes().cmp(first.bytes()),
+    match pair.0.names().split_first() {
+        None => Ordering::Greater,
+        Some((first, _below)) => name.bytes().cmp(first),
     }
 }

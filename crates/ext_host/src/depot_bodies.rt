@@ -1,11 +1,11 @@
 // Trees whose files are in the depot.
 ghost use Rattle.std.specs.Prelude.{◌≡◌, ◌++◌, IfErr, IfOk};
 ghost use Rattle.ext_text.specs.Path.{IsPath};
-ghost use Rattle.ext_host.specs.DepotBodies.{Fits, FitsErr, GivesFromDepot, HasFileErr, JoinErr, from_depot, in_depot, pair_in_depot};
+ghost use Rattle.ext_host.specs.DepotBodies.{FileFits, FitsErr, GivesFromDepot, HasFileErr, JoinErr, from_depot, in_depot, pair_in_depot};
 ghost use Rattle.std.specs.List.{AllByRecursion};
 
 use crate::held::Held;
-use ext_lines::grown;
+use ext_lines::allocated;
 use ext_text::{Path, PathErr};
 use ext_tree::{Entry, Stamp, Tree, TreeErr};
 use std::alloc::Global;
@@ -13,7 +13,7 @@ use std::alloc::Global;
 /// The same tree with each file's body in the depot, at its path below `res`.
 ///
 /// # Errors
-/// `Path` exactly where a file's path below `res` passes the limits of a path; `OutOfMemory` may come at any time, and
+/// `Path` exactly where a file's path below `res` passes the limits of a path. `OutOfMemory` may come at any time, and
 /// nothing else comes.
 pub fn from_depot(alloc: Global, tree: Tree<Stamp>, res: &Path) -> Result<Tree<Held>, TreeErr>
     ensures { GivesFromDepot res.now tree result }
@@ -28,19 +28,19 @@ fn pairs_at(
     pairs: Vec<(Path, Entry<Stamp>)>,
     res: &Path,
 ) -> Result<Vec<(Path, Entry<Held>)>, TreeErr>
-    ensures ok { IfOk result (λ placed. (placed.items ≡ from_depot res.now pairs.items) × AllByRecursion (Fits res.now) pairs.items) }
+    ensures ok { IfOk result (λ placed. (placed.items ≡ from_depot res.now pairs.items) × AllByRecursion (FileFits res.now) pairs.items) }
     ensures err { IfErr result (FitsErr res.now pairs.items) }
 {
-    let mut placed = grown(Vec::with_capacity(alloc, pairs.len()))?;
+    let mut placed = allocated(Vec::with_capacity(alloc, pairs.len()))?;
     for pair in pairs {
-        grown(placed.push(pair_at(pair, res)?))?;
+        allocated(placed.push(pair_at(pair, res)?))?;
     }
     Ok(placed)
 }
 
 // The entry, a file's with a body below `res`.
 fn pair_at(pair: (Path, Entry<Stamp>), res: &Path) -> Result<(Path, Entry<Held>), TreeErr>
-    ensures ok { IfOk result (λ placed. (placed ≡ pair_in_depot res.now pair) × Fits res.now pair) }
+    ensures ok { IfOk result (λ placed. (placed ≡ pair_in_depot res.now pair) × FileFits res.now pair) }
     ensures err { IfErr result (HasFileErr res.now pair) }
 {
     let (path, entry) = pair;
@@ -50,7 +50,7 @@ fn pair_at(pair: (Path, Entry<Stamp>), res: &Path) -> Result<(Path, Entry<Held>)
 
 // The path's entry, a file's with a body below `res`.
 fn entry_at(entry: Entry<Stamp>, path: &Path, res: &Path) -> Result<Entry<Held>, TreeErr>
-    ensures ok { IfOk result (λ placed. (placed ≡ in_depot (res.now ++ path.now) entry) × Fits res.now (path.now, entry)) }
+    ensures ok { IfOk result (λ placed. (placed ≡ in_depot (res.now ++ path.now) entry) × FileFits res.now (path.now, entry)) }
     ensures err { IfErr result (HasFileErr res.now (path.now, entry)) }
 {
     match entry {

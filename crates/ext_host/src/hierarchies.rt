@@ -4,38 +4,39 @@ ghost use Rattle.ext_text.specs.Name.{IsName};
 ghost use Rattle.ext_host.specs.Host.{default_hierarchies, hierarchies_in, hierarchies_of};
 
 use crate::host::Host;
-use ext_text::{Class, Name, NameErr, Names, OutOfMemory};
+use ext_text::{Extension, Name, NameErr, Names, OutOfMemory};
 use std::alloc::Global;
 
+/// The most hierarchies of a class.
+pub const MOST_HIERARCHIES: usize = 16;
+
 impl Host {
-    /// The names, directly below the root, that extensions of the class extend; none for portable services.
-    pub fn hierarchies(&self, class: Class) -> &[Name]
+    /// The names, directly below the root, that extensions of the class extend.
+    pub fn hierarchies(&self, class: Extension) -> &[Name]
         ensures { result.now ≡ hierarchies_of class (hierarchies_in self.now) }
     {
         match class {
-            Class::Sysext => self.sysext_hier.as_slice(),
-            Class::Confext => self.confext_hier.as_slice(),
-            Class::Portable => &[],
+            Extension::Sysext => self.sysext_hier.as_slice(),
+            Extension::Confext => self.confext_hier.as_slice(),
         }
     }
 }
 
 /// The hierarchies that a class has where a host chose none: `opt` and `usr` for system extensions, `etc` for configuration
-/// extensions, none for portable services; systemd-sysext(8).
+/// extensions. After systemd-sysext(8).
 ///
 /// # Errors
 /// `OutOfMemory` alone.
-pub fn default_hierarchies(alloc: Global, class: Class) -> Result<Names, OutOfMemory>
+pub fn default_hierarchies(alloc: Global, class: Extension) -> Result<Names, OutOfMemory>
     ensures { IfOk result (λ names. names ≡ default_hierarchies class) }
 {
     let mut names = Names::new(alloc);
     match class {
-        Class::Sysext => {
+        Extension::Sysext => {
             append_name(alloc, &mut names, b"opt")?;
             append_name(alloc, &mut names, b"usr")?;
         }
-        Class::Confext => append_name(alloc, &mut names, b"etc")?,
-        Class::Portable => {}
+        Extension::Confext => append_name(alloc, &mut names, b"etc")?,
     }
     Ok(names)
 }

@@ -1,5 +1,5 @@
 //! Laws of hosts, each the contract of a function that does nothing: what holds of every host, whoever made it.
-ghost use Rattle.ext_host.specs.Laws.{BaseIsDrawn, CutIsDrawn, DrawnFromItself, DrawnOneByOne, DrawnThrough, EntriesOfBase, EntriesOfCut, EntriesOfGraft, EntriesOfPart, GraftIsDrawn, PartIsDrawn, TouchedIsValid, TreesAreDrawn, TreesDrawnThrough};
+ghost use Rattle.ext_host.specs.Laws.{BaseIsDrawn, CutIsDrawn, DrawnFromItself, DrawnOneByOne, DrawnThrough, EntriesOfBase, EntriesOfCut, EntriesOfGraft, EntriesOfPart, GraftIsDrawn, PartIsDrawn, TouchedAllIsValid, TouchedIsValid, TouchedOneByOne, TreesAreDrawn, TreesDrawnThrough};
 
 /// A host is drawn from itself, and what is drawn from a host that is drawn from another is drawn from that one: so it is
 /// enough that each step of a command is.
@@ -8,7 +8,7 @@ pub fn drawing_goes_on()
     ensures through { DrawnThrough }
 {}
 
-/// What is drawn of trees goes on in the same way; trees are drawn from others where each of them by itself is, and where
+/// What is drawn of trees goes on in the same way. Trees are drawn from others where each of them by itself is, and where
 /// each of them is one of those.
 pub fn trees_are_drawn_one_by_one()
     ensures through { TreesDrawnThrough }
@@ -33,7 +33,10 @@ pub fn results_are_drawn()
     ensures graft { GraftIsDrawn }
 {}
 
-/// A valid host of which a path is touched is valid.
+/// A valid host of which a path is touched is valid, and so is one of which many are. Touching many leaves what touching
+/// one after the other does.
 pub fn a_touched_host_is_valid()
-    ensures { TouchedIsValid }
+    ensures one { TouchedIsValid }
+    ensures all { TouchedAllIsValid }
+    ensures in_turn { TouchedOneByOne }
 {}

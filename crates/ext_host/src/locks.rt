@@ -27,18 +27,17 @@ fn lock(names: &[Name], path: &Path) -> bool
 }
 
 // Whether the path is in, at or above the name.
-#[tactic(auto, using(crate::proofs::LocksLemmas::related_name))]
 fn locks_alone(name: &Name, path: &Path) -> bool
     ensures { result ≡ are_related (name.now ∷ []) path.now }
 {
-    match path.names() {
-        [] => true,
-        [first, ..] => is_equal(name, first),
+    match path.names().split_first() {
+        None => true,
+        Some((first, _below)) => is_equal(name, first),
     }
 }
 
-fn is_equal(name: &Name, other: &Name) -> bool
+fn is_equal(name: &Name, other: &[u8]) -> bool
     ensures { result ≡ eq_by_cmp bytes_cmp name.now other.now }
 {
-    name.bytes().cmp(other.bytes()).is_eq()
+    name.bytes().cmp(other).is_eq()
 }

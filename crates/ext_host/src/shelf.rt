@@ -2,10 +2,9 @@ ghost use Rattle.std.specs.Prelude.{ℕ, ◌≤◌, Bool, IsTrue, IfOk, IfErr};
 ghost use Rattle.ext_host.specs.Held.{HeldFile, IsStampOf};
 ghost use Rattle.ext_host.specs.Shelf.{IsStays, IsTold, ShelfCause, Told};
 
+use crate::damage::Damage;
 use crate::held::Held;
-use crate::home::Home;
 use ext_text::{OutOfMemory, Text};
-use ext_tree::Stamp;
 use std::alloc::Global;
 use thiserror::Error;
 
@@ -20,14 +19,7 @@ pub enum ShelfErr {
     Fault,
     /// The file at the home has not the stamp that it is listed with.
     #[error("a kept file is damaged")]
-    Damaged {
-        /// Where the file is kept.
-        home: Home,
-        /// The stamp that it is listed with.
-        listed: Stamp,
-        /// The stamp of the file that stands there; `None` exactly where no file of the listed size does.
-        found: Option<Stamp>,
-    },
+    Damaged(Damage),
 }
 
 impl From<OutOfMemory> for ShelfErr {
@@ -58,8 +50,11 @@ pub trait Shelf {
     /// All bytes of the file, which have its stamp.
     ///
     /// # Errors
-    /// `Fault` only where the shelf's count of faults rose; `Damaged` exactly where what stands at the file's home has
-    /// another stamp; `OutOfMemory`. Whatever the answer, the same is told afterwards.
+    /// - `Fault` only where the shelf's count of faults rose.
+    /// - `Damaged` exactly where what stands at the file's home has another stamp.
+    /// - `OutOfMemory`.
+    ///
+    /// Whatever the answer, the same is told afterwards.
     fn bytes(&mut self, alloc: Global, held: &Held) -> Result<Text, ShelfErr>
         requires { IsTrue (serves self.old held.now) }
         ensures told { IfOk result (IsTold (told self.old held.now)) }

@@ -3,8 +3,8 @@ use Rattle.std.proofs.Common.{◌≡◌, ℕ, ◌+◌, List, ◌∷◌, ◌++◌
 use Rattle.std.specs.List.{flat_map}
 use Rattle.ext_host.specs.Host.{HostTree}
 use Rattle.ext_host.specs.declared.manifest.Manifest.{Manifest}
-use Rattle.ext_record.specs.Out.{at_most_64_bits}
-use Rattle.ext_record.specs.Lines.{number_line}
+use Rattle.ext_index_lines.specs.Out.{at_most_64_bits}
+use Rattle.ext_index_lines.specs.Lines.{number_line}
 use Rattle.ext_index.specs.Faulty.{lines_to_kept}
 use Rattle.ext_index.specs.Index.{attachment_lines, manifest_lines, merged_lines}
 

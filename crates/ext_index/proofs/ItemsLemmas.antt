@@ -24,8 +24,6 @@ use Rattle.ext_host.specs.declared.manifest.Item.{Item}
 use Rattle.ext_host.specs.declared.manifest.Manifest.{Manifest}
 use Rattle.ext_index.specs.Items.{item_of, items_of}
 
--- ---- items
-
 -- items of one path and one digest are equal
 pub item_same : (item : Item) (path : List (List ℕ)) (digest : Digest) → item.path ≡ path → item.digest.0 ≡ digest.0 → item ≡ record { path = path; digest = digest }
 item_same item path digest p d = λ i. record { path = p i; digest = record { 0 = d i } }
@@ -47,8 +45,6 @@ all_unmapped : (P : List (List ℕ) → Type 0) (xs : List Item) → AllByRecurs
 all_unmapped P [] all = tt
 all_unmapped P (x ∷ xs) all = (all.0, all_unmapped P xs all.1)
 
--- ---- look-ups in path order
-
 -- after the first path, a look-up is one in the rest
 later : (e : List (List ℕ) × Entry HeldFile) (es : Entries HeldFile) (q : List (List ℕ)) → path_cmp e.0 q ≡ Less → lookup (e ∷ es) q ≡ lookup es q
 later e es q less = ap (λ r. cond (is_eq r) (Some e.1) (lookup es q)) (paths_total.antisymm q e.0 ∙ ap ordering_reverse less)
@@ -69,8 +65,6 @@ lowest e es q below found less =
       | true ↦ λ tied _. false≢true (sym (ap is_eq less) ∙ tied)
       | false ↦ λ _ there. true≢false (ap is_lt (sym less ∙ paths_total.antisymm q e.0 ∙ ap ordering_reverse (above e.0 es q below there)))
     ] refl found
-
--- ---- the items of entries
 
 -- an item is that of a file
 abbrev Found : Entries HeldFile → Item → Type 0
@@ -108,8 +102,6 @@ are_whole (e ∷ es) path mode held found =
       | true ↦ λ tied is. Contains-append_left (item_of e) (items_of es) _ (here e path mode held (same_path path e.0 tied) (ap (λ o. unwrap_or o e.1) is))
       | false ↦ λ _ there. Contains-append_right (item_of e) (items_of es) _ (are_whole es path mode held there)
     ] refl found
-
--- ---- items that are those of entries
 
 -- where the first is no file, an item is found after it
 skipped : (e : List (List ℕ) × Entry HeldFile) (es : Entries HeldFile) → ((mode : ℕ) (held : HeldFile) → ¬ (e.1 ≡ File mode held)) → (item : Item) → Found (e ∷ es) item → Found es item
@@ -184,8 +176,6 @@ exact ((path, File mode held) ∷ es) (x ∷ xs) sorted up found whole =
     let rest = exact es xs (and_parts _ _ sorted).1 up.1 (other_items_found path (File mode held) es x xs same up.0 found.1) (other_items_whole path (File mode held) es x xs same below whole) in
     λ i. first i ∷ rest i
 
--- ---- items so far
-
 -- a list is the elements before a place, the one there, and those after it
 pub parted_at : {X : Type 0} (xs : List X) (n : ℕ) (x : X) → n < length xs → x ≡ get_or xs n x → xs ≡ take n xs ++ x ∷ drop (suc n) xs
 parted_at xs n x within at = sym (take-append-drop n xs) ∙ ap (λ l. take n xs ++ l) (drop-cons xs n x within ∙ ap (λ y. y ∷ drop (suc n) xs) (sym at))
@@ -196,8 +186,6 @@ pub begins_otherwise : (items rest : List Item) (es : Entries HeldFile) (i : ℕ
 begins_otherwise items rest es i e within at so_far other is =
     other (items_of (drop (suc i) es)) (append_cancel_left (items_of (take i es)) rest (item_of e ++ items_of (drop (suc i) es))
     (sym so_far ∙ is ∙ ap items_of (parted_at es i e within at) ∙ flat_map-append item_of (take i es) (e ∷ drop (suc i) es)))
-
--- ---- manifests
 
 -- where entries have the files at and below the path of a manifest, their items are what it should say
 pub says_what_is : (es fs : Entries HeldFile) (m : Manifest) → IsManifest m → is_sorted path_cmp fs ≡ true

@@ -14,15 +14,13 @@ use Rattle.ext_host.specs.declared.host.Host.{Host}
 use Rattle.ext_host.specs.declared.manifest.Item.{Item}
 use Rattle.ext_host.specs.declared.manifest.Manifest.{Manifest}
 use Rattle.ext_host.specs.declared.past.Past.{Past}
-use Rattle.ext_reading.specs.Listed.{IsListed, IsListedTree}
-use Rattle.ext_reading.specs.Reading.{IsSaid}
-use Rattle.ext_reading.specs.declared.said.Said.{Said}
-use Rattle.ext_reading.proofs.ForCallers.{listed_is_said, no_stop, one_said, one_stop}
+use Rattle.ext_index_reader.specs.Listed.{IsListedHost, IsListedTree}
+use Rattle.ext_index_reader.specs.Reading.{IsSaid}
+use Rattle.ext_index_reader.specs.declared.said.Said.{Said}
+use Rattle.ext_index_reader.proofs.ForCallers.{listed_is_said, no_stop, one_said, one_stop}
 use Rattle.ext_index.specs.Faulty.{AreRight, IsFaulty, IsRight, IsWrongAt}
 use Rattle.ext_index.specs.ValidIndex.{GivesIndex, IsIndexOf, IsValidFor, text_number}
 use Rattle.ext_index.proofs.WrongLineLemmas.{one_wrong_line, right_has_none}
-
--- ---- a valid host is one that an index lists, and its manifests say what the base has
 
 -- what lies at or below a path that is not the root is not the root
 below_some : (p q : List (List ℕ)) → p ≢ [] → is_prefix p q ≡ true → q ≢ []
@@ -65,7 +63,7 @@ pasts_right h (past ∷ pasts) valid = (valid.0.kept.items, pasts_right h pasts 
 right_host : (g : ℕ) (host : Host) → IsValidFor g host → IsRight host
 right_host g host valid = record { now = valid.valid.present.kept.items; past = pasts_right (hierarchies_in host) host.past valid.valid.past }
 
-listed_host : (g : ℕ) (host : Host) → IsValidFor g host → IsListed g host
+listed_host : (g : ℕ) (host : Host) → IsValidFor g host → IsListedHost g host
 listed_host g host valid = record {
   scope = valid.valid.scope;
   hierarchies = valid.valid.hierarchies;
@@ -77,8 +75,6 @@ listed_host g host valid = record {
   homes = record { kept = valid.kept; agree = valid.agree };
 }
 
--- ---- an index says its host
-
 abbrev said_with : Bool → Host → Said
 said_with two host = record { host = host; two = two }
 
@@ -87,12 +83,11 @@ index_says two g host bytes last index =
     let fits = index.fits in
     listed_is_said g bytes (said_with two host) last (omega arith) (record { formed = index.formed; listed = listed_host g host index.valid; text_1 = index.text_1; text = index.text })
 
+-- bytes are the index of one host
 pub one_host : (g : ℕ) (bytes : List ℕ) (a b : Host × ℕ) → g ≤ 4294967295 → GivesIndex g bytes a → GivesIndex g bytes b → a ≡ b
 one_host g bytes a b last one other =
     let same = one_said g bytes (said_with one.0 a.0) (said_with other.0 b.0) last (index_says one.0 g a.0 bytes last one.2) (index_says other.0 g b.0 bytes last other.2) in
     λ i. ((same i).host, (one.1 ∙ (λ j. text_number (same j).two) ∙ sym other.1) i)
-
--- ---- faulty bytes
 
 -- they are no index
 pub faulty_is_none : (g : ℕ) (bytes : List ℕ) (line : ℕ) (a : Host × ℕ) → g ≤ 4294967295 → IsFaulty g bytes line → ¬ GivesIndex g bytes a

@@ -2,11 +2,11 @@
 use Rattle.std.proofs.Common.{◌≡◌, ℕ, ◌+◌, List, [], ◌∷◌, ◌++◌, length, true, sym, ap, ◌∙◌, subst, append_assoc, append-nil, codes}
 use Rattle.std.specs.Prelude.{map}
 use Rattle.std.specs.List.{flat_map}
-use Rattle.ext_text.specs.declared.class.Class.TheVariants.{Sysext, Confext}
+use Rattle.ext_text.specs.declared.extension.Extension.TheVariants.{Sysext, Confext}
 use Rattle.ext_host.specs.Host.{HostTree, present}
 use Rattle.ext_host.specs.declared.host.Host.{Host}
 use Rattle.ext_host.specs.declared.past.Past.{Past}
-use Rattle.ext_record.specs.Lines.{hierarchy_line, number_line}
+use Rattle.ext_index_lines.specs.Lines.{hierarchy_line, number_line}
 use Rattle.ext_index.specs.Index.{hierarchy_lines, index_text, machine_lines, past_lines, section_lines}
 use Rattle.ext_lines.specs.Lines.{lines_text}
 use Rattle.ext_lines.proofs.ForCallers.{lines_text-append}

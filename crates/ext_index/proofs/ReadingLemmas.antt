@@ -5,14 +5,12 @@ use Rattle.ext_host.specs.Host.{Hierarchies, HostTree, hierarchies_in, past_tree
 use Rattle.ext_host.specs.Valid.{IsManifest, IsValidHost, IsValidTree}
 use Rattle.ext_host.specs.declared.past.Past.{Past}
 use Rattle.ext_host.specs.declared.host.Host.{Host}
-use Rattle.ext_reading.specs.Listed.{IsListed, IsListedTree}
-use Rattle.ext_reading.specs.Reading.{IsSaid}
-use Rattle.ext_reading.specs.declared.said.Said.{Said}
-use Rattle.ext_reading.proofs.ForCallers.{said_is_listed}
+use Rattle.ext_index_reader.specs.Listed.{IsListedHost, IsListedTree}
+use Rattle.ext_index_reader.specs.Reading.{IsSaid}
+use Rattle.ext_index_reader.specs.declared.said.Said.{Said}
+use Rattle.ext_index_reader.proofs.ForCallers.{said_is_listed}
 use Rattle.ext_index.specs.Faulty.{AreRight, IsRight}
 use Rattle.ext_index.specs.ValidIndex.{IsIndexOf, most_index_bytes}
-
--- ---- a tree whose manifests say what the base has is valid
 
 valid_tree : (h : Hierarchies) (tree : HostTree) → IsListedTree h tree → AreRight h tree → IsValidTree h tree
 valid_tree h tree listed right = record {
@@ -29,7 +27,7 @@ valid_pasts : (h : Hierarchies) (pasts : List Past) → AllByRecursion (λ past.
 valid_pasts h [] listed right = tt
 valid_pasts h (past ∷ pasts) listed right = (valid_tree h (past_tree past) listed.0 right.0, valid_pasts h pasts listed.1 right.1)
 
-valid_host : (g : ℕ) (host : Host) → IsListed g host → IsRight host → IsValidHost host
+valid_host : (g : ℕ) (host : Host) → IsListedHost g host → IsRight host → IsValidHost host
 valid_host g host listed right = record {
   scope = listed.scope;
   hierarchies = listed.hierarchies;
@@ -38,8 +36,6 @@ valid_host g host listed right = record {
   past_count = listed.past_count;
   past_order = listed.past_order;
 }
-
--- ---- what was read
 
 -- the lines say an index, where no manifest says other than the base has
 pub index_said : (g : ℕ) (bytes : List ℕ) (said : Said) → g ≤ 4294967295 → length bytes ≤ most_index_bytes → IsSaid g bytes said → IsRight said.host → IsIndexOf said.two g said.host bytes
@@ -57,8 +53,6 @@ index_said g bytes said small fits is right =
       text_1 = listing.text_1;
       fits = fits;
     }
-
--- ---- its manifests, apart from what they say
 
 manifests_of_pasts : (h : Hierarchies) (pasts : List Past) → AllByRecursion (λ past. IsListedTree h (past_tree past)) pasts → AllByRecursion (λ (past : Past). AllByRecursion IsManifest past.kept) pasts
 manifests_of_pasts h [] listed = tt

@@ -17,7 +17,7 @@ use Rattle.ext_host.specs.declared.manifest.Manifest.{Manifest}
 use Rattle.ext_host.specs.declared.past.Past.{Past}
 use Rattle.ext_host.specs.declared.host.Host.{Host}
 use Rattle.ext_host.proofs.ForCallers.{in_first}
-use Rattle.ext_record.specs.Out.{at_most_64_bits}
+use Rattle.ext_index_lines.specs.Out.{at_most_64_bits}
 use Rattle.ext_index.specs.Faulty.{AreRight, IsFirstWrong, IsWrongAt, head_lines, lines_to_kept, lines_to_past}
 use Rattle.ext_index.proofs.ItemsLemmas.{parted_at}
 

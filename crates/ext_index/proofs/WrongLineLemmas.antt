@@ -8,17 +8,15 @@ use Rattle.ext_host.specs.Valid.{HasItems}
 use Rattle.ext_host.specs.declared.manifest.Manifest.{Manifest}
 use Rattle.ext_host.specs.declared.past.Past.{Past}
 use Rattle.ext_host.specs.declared.host.Host.{Host}
-use Rattle.ext_record.specs.Lines.{number_line}
-use Rattle.ext_record.specs.Out.{at_most_64_bits}
-use Rattle.ext_reading.specs.Listed.{IsOfText1}
-use Rattle.ext_reading.specs.Reading.{IsSaid}
-use Rattle.ext_reading.specs.declared.said.Said.{Said}
-use Rattle.ext_reading.proofs.ForCallers.{lines_below_bytes, said_is_listed}
+use Rattle.ext_index_lines.specs.Lines.{number_line}
+use Rattle.ext_index_lines.specs.Out.{at_most_64_bits}
+use Rattle.ext_index_reader.specs.Listed.{IsOfText1}
+use Rattle.ext_index_reader.specs.Reading.{IsSaid}
+use Rattle.ext_index_reader.specs.declared.said.Said.{Said}
+use Rattle.ext_index_reader.proofs.ForCallers.{lines_below_bytes, said_is_listed}
 use Rattle.ext_index.specs.Faulty.{AreRight, FindsWrong, HasWrongManifest, IsFirstWrong, IsRight, IsWrongAt, IsWrongPast, head_lines, lines_to_kept, lines_to_past}
-use Rattle.ext_index.specs.Index.{attachment_lines, index_lines, index_text, machine_lines, manifest_lines, merged_lines, past_lines, record_lines, section_lines, tree_lines}
+use Rattle.ext_index.specs.Index.{attachment_lines, index_lines, index_text, machine_lines, manifest_lines, merged_lines, past_lines, record_lines, section_lines, listed_tree_lines}
 use Rattle.ext_index.specs.ValidIndex.{most_index_bytes}
-
--- ---- it is one of the lines of the index
 
 -- more of a list makes more lines
 flat_longer : {X : Type 0} (lines : X → List (List ℕ)) (before : List X) (x : X) (after : List X) → length (flat_map lines before) + length (lines x) ≤ length (flat_map lines (before ++ x ∷ after))
@@ -38,7 +36,7 @@ kept_within g hierarchies tree before wrong =
     let all = flat_map manifest_lines tree.kept in
     let head = number_line (codes "attached") (length tree.attached) in
     let mid = number_line (codes "kept") (length tree.kept) in
-    let entries = tree_lines (codes "root") g tree.root ++ tree_lines (codes "lower") g tree.lower in
+    let entries = listed_tree_lines (codes "root") g tree.root ++ listed_tree_lines (codes "lower") g tree.lower in
     let a = length-append one (two ++ (head ∷ (attached ++ (mid ∷ some)))) in
     let b = length-append two (head ∷ (attached ++ (mid ∷ some))) in
     let c = length-append attached (mid ∷ some) in
@@ -111,8 +109,6 @@ wrong_exactly g bytes said found last fits is (line, at, same) =
     let long : length bytes ≡ length (index_text said.two g said.host) = ap length listing.text in
     let fewer = lines_below_bytes (index_lines said.two g said.host) in
     record { said = said; is_said = is; wrong = subst (IsWrongAt said.two g said.host) (sym (same ∙ exactly line (omega arith))) at }
-
--- ---- there is one such line
 
 -- the first that lacks a property has one prefix before it
 module _ {X : Type 0} (P : X → Type 0) where

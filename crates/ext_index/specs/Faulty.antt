@@ -10,14 +10,12 @@ use Rattle.ext_host.specs.Valid.{HasItems}
 use Rattle.ext_host.specs.declared.manifest.Manifest.{Manifest}
 use Rattle.ext_host.specs.declared.past.Past.{Past}
 use Rattle.ext_host.specs.declared.host.Host.{Host}
-use Rattle.ext_record.specs.Lines.{header_line, host_line, number_line}
-use Rattle.ext_record.specs.Out.{at_most_64_bits}
-use Rattle.ext_reading.specs.Reading.{IsSaid, StopsAt}
-use Rattle.ext_reading.specs.declared.said.Said.{Said}
+use Rattle.ext_index_lines.specs.Lines.{header_line, host_line, number_line}
+use Rattle.ext_index_lines.specs.Out.{at_most_64_bits}
+use Rattle.ext_index_reader.specs.Reading.{IsSaid, StopsAtLine}
+use Rattle.ext_index_reader.specs.declared.said.Said.{Said}
 use Rattle.ext_index.specs.Index.{attachment_lines, machine_lines, manifest_lines, merged_lines, past_lines, section_lines}
 use Rattle.ext_index.specs.ValidIndex.{most_index_bytes}
-
--- ---- manifests that say other than the base has
 
 -- each manifest of the tree says what its base has
 abbrev pub AreRight : Hierarchies → HostTree → Type 0
@@ -30,8 +28,6 @@ pub record IsFirstWrong (hierarchies : Hierarchies) (tree : HostTree) (before : 
   pub parted : tree.kept ≡ before ++ wrong ∷ after
   pub right : AllByRecursion (HasItems (base_at hierarchies tree)) before
   pub differs : ¬ HasItems (base_at hierarchies tree) wrong
-
--- ---- the lines before a manifest
 
 -- those of its tree
 abbrev pub lines_to_kept : HostTree → List Manifest → List (List ℕ)
@@ -51,8 +47,6 @@ lines_to_past two g host before past =
     head_lines two host
     ++ (section_lines g (present host) ++ (number_line (codes "past") (length host.past) ∷ (flat_map (past_lines g) before ++ number_line (codes "g") past.generation ∷ [])))
 
--- ---- the first line of such a manifest
-
 -- one of the host's own
 pub record IsWrongNow (two : Bool) (host : Host) (line : ℕ) : Type 0 where
   pub before : List Manifest
@@ -71,6 +65,7 @@ pub record IsWrongPast (two : Bool) (g : ℕ) (host : Host) (line : ℕ) : Type 
   pub wrong : IsFirstWrong (hierarchies_in host) (past_tree tree) before
   pub counted : line ≡ length (lines_to_past two g host trees tree ++ lines_to_kept (past_tree tree) before) + 1
 
+-- the line of the first manifest that says other than the base has, of the host or of a past tree
 abbrev pub IsWrongAt : Bool → ℕ → Host → ℕ → Type 0
 IsWrongAt two g host line = IsWrongNow two host line ⊎ IsWrongPast two g host line
 
@@ -84,15 +79,14 @@ abbrev pub FindsWrong : Bool → ℕ → Host → Option ℕ → Type 0
 FindsWrong two g host None = IsRight host
 FindsWrong two g host (Some found) = (line : ℕ) × IsWrongAt two g host line × (found ≡ at_most_64_bits line)
 
--- ---- the first faulty line
-
 -- the lines run through, and a manifest says other than the base has
 pub record HasWrongManifest (g : ℕ) (bytes : List ℕ) (line : ℕ) : Type 0 where
   pub said : Said
   pub is_said : IsSaid g bytes said
   pub wrong : IsWrongAt said.two g said.host line
 
+-- the first faulty line of bytes that are no index of the generation
 abbrev pub IsFaulty : ℕ → List ℕ → ℕ → Type 0
 IsFaulty g bytes line =
     ((most_index_bytes < length bytes) × (line ≡ 1))
-    ⊎ ((length bytes ≤ most_index_bytes) × (StopsAt g bytes line ⊎ HasWrongManifest g bytes line))
+    ⊎ ((length bytes ≤ most_index_bytes) × (StopsAtLine g bytes line ⊎ HasWrongManifest g bytes line))

@@ -15,5 +15,6 @@ item_of (path, File mode held) = record { path = path; digest = held.stamp.diges
 item_of (path, Link target) = []
 item_of (path, Hide) = []
 
+-- the items of entries, one for each file
 abbrev pub items_of : Entries HeldFile → List Item
 items_of es = flat_map item_of es

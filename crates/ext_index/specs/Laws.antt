@@ -21,11 +21,13 @@ empty_host = record {
   past = [];
 }
 
+-- the index of an empty host as text 2
 abbrev pub empty_index_2 : List ℕ
 empty_index_2 = lines_text (
     codes "hostext-store 2" ∷ codes "host x86-64 system" ∷ codes "hierarchies 3" ∷ codes "h sysext opt" ∷ codes "h sysext usr" ∷ codes "h confext etc"
     ∷ codes "attached 0" ∷ codes "kept 0" ∷ codes "root 0" ∷ codes "lower 0" ∷ codes "past 0" ∷ codes "end" ∷ [])
 
+-- the index of an empty host as text 1
 abbrev pub empty_index_1 : List ℕ
 empty_index_1 = lines_text (
     codes "hostext-store 1" ∷ codes "host x86-64 system" ∷ codes "attached 0" ∷ codes "kept 0" ∷ codes "root 0" ∷ codes "lower 0" ∷ codes "end" ∷ [])

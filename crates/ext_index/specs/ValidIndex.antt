@@ -9,9 +9,7 @@ use Rattle.ext_host.specs.declared.body.Body.TheVariants.{Kept}
 use Rattle.ext_host.specs.declared.home.Home.{Home}
 use Rattle.ext_host.specs.declared.host.Host.{Host}
 use Rattle.ext_index.specs.Index.{index_text}
-pub use Rattle.ext_reading.specs.Listed.{IsHomeUpTo, IsKeptUpTo, IsOfText1, IsWellFormed, IsWellFormedAttachment, IsWellFormedManifest, IsWellFormedTree}
-
--- ---- hosts that a generation may have
+pub use Rattle.ext_index_reader.specs.Listed.{IsHomeUpTo, IsKeptUpTo, IsOfText1, IsWellFormed, IsWellFormedAttachment, IsWellFormedManifest, IsWellFormedTree}
 
 -- The host is valid in generation g, apart from the length of its index. Its files are those of what is seen, of what lies under
 -- the view and of every past tree.
@@ -23,8 +21,6 @@ pub record IsValidFor (g : ℕ) (host : Host) : Type 0 where
   pub agree : (a b : HeldFile) (home : Home) → IsFileOf (trees_of host) a → IsFileOf (trees_of host) b → a.body ≡ Kept home → b.body ≡ Kept home → a.stamp ≡ b.stamp
   -- each past tree is of a generation before it
   pub past : AllByRecursion (λ past. (0 < past.generation) × (past.generation < g)) host.past
-
--- ---- indexes
 
 -- the most bytes of an index
 abbrev pub most_index_bytes : ℕ

@@ -1,7 +1,7 @@
 // How many lines of an index stand before a kept manifest. A count stops at 18,446,744,073,709,551,615.
-ghost use Rattle.std.specs.Prelude.{◌≡◌, ◌+◌, ◌++◌, ℕ, List, length};
+ghost use Rattle.std.specs.Prelude.{◌≡◌, ◌++◌, ℕ, List, length};
 ghost use Rattle.std.specs.List.{flat_map};
-ghost use Rattle.ext_record.specs.Out.{at_most_64_bits};
+ghost use Rattle.ext_index_lines.specs.Out.{at_most_64_bits};
 ghost use Rattle.ext_index.specs.Faulty.{head_lines, lines_to_kept, lines_to_past};
 ghost use Rattle.ext_index.specs.Index.{attachment_lines, manifest_lines, merged_lines, past_lines, section_lines};
 ghost use Rattle.ext_index.specs.Sections.{listed};
@@ -44,7 +44,8 @@ pub(crate) fn count_to_past(two: bool, host: &Host, before: &[Past]) -> u64
 
 // The lines of the merged names of both classes.
 fn classes_count(sections: Sections<'_>) -> u64
-    ensures { (word other : List ℕ) → result ≡ at_most_64_bits (length (merged_lines word (listed sections.entry).sysext ++ merged_lines other (listed sections.entry).confext)) }
+    ensures { (word other : List ℕ) → result ≡ at_most_64_bits (length
+        (merged_lines word (listed sections.entry).sysext ++ merged_lines other (listed sections.entry).confext)) }
 {
     merged_count(sections.sysext).saturating_add(merged_count(sections.confext))
 }

@@ -17,7 +17,7 @@ pub(crate) fn has_items(tree: &Tree<Held>, manifest: &Manifest) -> bool
     ensures { IsTrue result ↔ HasItems (lookup tree.now) manifest.now }
 {
     let items = manifest.items.as_slice();
-    let below = tree.below(manifest.path.names());
+    let below = tree.below(&manifest.path.names());
     match file_at(tree, &manifest.path) {
         Some(held) => are_file_and_items(items, &manifest.path, held, below),
         None => are_items(items, below),
@@ -74,7 +74,8 @@ fn are_items(items: &[Item], entries: &[(Path, Entry<Held>)]) -> bool
 
 // The items after that of an entry, if it is a file; `None` exactly where they begin otherwise.
 fn after_item<'a>(items: &'a [Item], entry: &(Path, Entry<Held>)) -> Option<&'a [Item]>
-    ensures { MatchOption result ((rest : List Item) → ¬ (items.now ≡ item_of entry.now ++ rest)) (λ rest. items.now ≡ item_of entry.now ++ rest.now) }
+    ensures { MatchOption result ((rest : List Item) → ¬ (items.now ≡ item_of entry.now ++ rest))
+        (λ rest. items.now ≡ item_of entry.now ++ rest.now) }
 {
     match &entry.1 {
         Entry::File(_, held) => after_file(items, &entry.0, held),

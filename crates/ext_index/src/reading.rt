@@ -5,11 +5,11 @@ ghost use Rattle.ext_index.specs.ValidIndex.{text_number};
 
 use crate::wrong::wrong_line;
 use ext_host::Host;
-use ext_reading::{IndexErr, read_lines};
+use ext_index_reader::{IndexErr, read_lines};
 use std::alloc::Global;
 
 /// The most bytes of an index.
-const MOST_INDEX_BYTES: usize = 134_217_728;
+pub const MOST_INDEX_BYTES: usize = 134_217_728;
 
 /// The host of an index of a generation, and the number of the text, 1 or 2. Every file of the host is kept.
 ///
@@ -17,10 +17,10 @@ const MOST_INDEX_BYTES: usize = 134_217_728;
 /// text with number 1 is one with the default hierarchies and without past trees. The format is this project's own.
 ///
 /// # Errors
-/// `Broken` exactly where the bytes are no such index, with the first line that breaks a rule, counted from 1. An index of more
-/// than 134,217,728 bytes is faulty at its first line. A missing line is counted where it should stand, and a line too many
-/// where it stands. The items of the kept manifests are compared with the base only where every other rule holds; a manifest
-/// that says other than the base has is faulty at its first line. `OutOfMemory` may come at any time.
+/// `Broken` exactly where the bytes are no such index, with the first line that breaks a rule, counted from 1. An index of
+/// more than 134,217,728 bytes is faulty at its first line. A missing line is counted where it should stand, and a line too
+/// many where it stands. The items of the kept manifests are compared with the base only where every other rule holds. A
+/// manifest that says other than the base has is faulty at its first line. `OutOfMemory` may come at any time.
 pub fn read_index(alloc: Global, bytes: &[u8], generation: u32) -> Result<(Host, u32), IndexErr>
     ensures { ReadsIndex generation bytes.now result }
 {

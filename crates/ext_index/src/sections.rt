@@ -18,7 +18,7 @@ pub(crate) struct Sections<'a> {
     pub(crate) lower: &'a Tree<Held>,
 }
 
-// Those of the host itself.
+// The sections of the host itself.
 pub(crate) fn sections_of_host(host: &Host) -> Sections<'_>
     ensures { listed result ≡ present host.now }
 {
@@ -32,7 +32,7 @@ pub(crate) fn sections_of_host(host: &Host) -> Sections<'_>
     }
 }
 
-// Those of a past tree.
+// The sections of a past tree.
 pub(crate) fn sections_of_past(past: &Past) -> Sections<'_>
     ensures { listed result ≡ past_tree past.now }
 {

@@ -1,22 +1,21 @@
 // The index of a host is printed, or only its length is told.
-ghost use Rattle.std.specs.Prelude.{◌≡◌, ◌++◌, ◌+◌, ◌∷◌, [], ℕ, List, codes, length, map, true, IfOk, OnOk};
+ghost use Rattle.std.specs.Prelude.{◌≡◌, ◌++◌, ◌+◌, ℕ, List, length, map, true, IfOk, OnOk};
 ghost use Rattle.std.specs.List.{flat_map};
 ghost use Rattle.ext_lines.specs.Lines.{lines_text};
-ghost use Rattle.ext_text.specs.declared.class.Class.{Class};
-ghost use Rattle.ext_record.specs.Lines.{hierarchy_line};
-ghost use Rattle.ext_record.specs.Out.{at_most_64_bits};
-ghost use Rattle.ext_index.specs.Index.{hierarchy_lines, index_lines, index_text, machine_lines, past_lines};
+ghost use Rattle.ext_index_lines.specs.Lines.{hierarchy_line};
+ghost use Rattle.ext_index_lines.specs.Out.{at_most_64_bits};
+ghost use Rattle.ext_index.specs.Index.{hierarchy_lines, index_text, machine_lines, past_lines};
 
 use crate::printing::put_sections;
 use crate::sections::{sections_of_host, sections_of_past};
 use ext_host::{Host, Past};
-use ext_record::{Counted, Out, Printed, put_hierarchy, put_host, put_line, put_number};
-use ext_text::{Class, Name, OutOfMemory, Text};
+use ext_index_lines::{Counted, Out, Printed, put_hierarchy, put_host, put_line, put_number};
+use ext_text::{Extension, Name, OutOfMemory, Text};
 use std::alloc::Global;
 
 /// The index of a host in a generation, as text 2.
 ///
-/// It is printed for any host. A file that is not kept is listed with a home in this generation, whose number is 0; so the
+/// It is printed for any host. A file that is not kept is listed with a home in this generation, whose number is 0. So the
 /// text is the index that a store holds only where every file is kept. The format is this project's own.
 ///
 /// # Errors
@@ -30,7 +29,7 @@ pub fn write_index(alloc: Global, host: &Host, generation: u32) -> Result<Text, 
 }
 
 /// The length of the host's index in a generation, as text 2, each file that is not kept counted with a home in this
-/// generation; or 18,446,744,073,709,551,615 where it is longer. It takes no memory.
+/// generation, or 18,446,744,073,709,551,615 where it is longer. It takes no memory.
 pub fn index_size(host: &Host, generation: u32) -> u64
     ensures { result ≡ at_most_64_bits (length (index_text true generation host.now)) }
 {
@@ -66,8 +65,8 @@ fn put_classes<O: Out>(out: &mut O, host: &Host) -> Result<(), O::Refused>
     ensures { (before : List ℕ) → O.holds out.old before → OnOk result (O.holds out.new (before ++ lines_text (hierarchy_lines host.now))) }
 {
     put_number(out, b"hierarchies", count_of_hierarchies(host))?;
-    put_hierarchies(out, Class::Sysext, host.sysext_hier.as_slice())?;
-    put_hierarchies(out, Class::Confext, host.confext_hier.as_slice())
+    put_hierarchies(out, Extension::Sysext, host.sysext_hier.as_slice())?;
+    put_hierarchies(out, Extension::Confext, host.confext_hier.as_slice())
 }
 
 // How many hierarchies there are.
@@ -78,8 +77,9 @@ fn count_of_hierarchies(host: &Host) -> u64
 }
 
 // Prints the lines of a class's hierarchies.
-fn put_hierarchies<O: Out>(out: &mut O, class: Class, names: &[Name]) -> Result<(), O::Refused>
-    ensures { (before : List ℕ) → O.holds out.old before → OnOk result (O.holds out.new (before ++ lines_text (map (hierarchy_line class) names.now))) }
+fn put_hierarchies<O: Out>(out: &mut O, class: Extension, names: &[Name]) -> Result<(), O::Refused>
+    ensures { (before : List ℕ) → O.holds out.old before → OnOk result (O.holds out.new
+        (before ++ lines_text (map (hierarchy_line class) names.now))) }
 {
     'names: for name in names {
         put_hierarchy(out, class, name)?;
@@ -89,7 +89,8 @@ fn put_hierarchies<O: Out>(out: &mut O, class: Class, names: &[Name]) -> Result<
 
 // Prints past trees.
 fn put_pasts<O: Out>(out: &mut O, generation: u32, pasts: &[Past]) -> Result<(), O::Refused>
-    ensures { (before : List ℕ) → O.holds out.old before → OnOk result (O.holds out.new (before ++ lines_text (flat_map (past_lines generation) pasts.now))) }
+    ensures { (before : List ℕ) → O.holds out.old before → OnOk result (O.holds out.new
+        (before ++ lines_text (flat_map (past_lines generation) pasts.now))) }
 {
     'pasts: for past in pasts {
         put_past(out, generation, past)?;
@@ -99,7 +100,8 @@ fn put_pasts<O: Out>(out: &mut O, generation: u32, pasts: &[Past]) -> Result<(),
 
 // Prints a past tree.
 fn put_past<O: Out>(out: &mut O, generation: u32, past: &Past) -> Result<(), O::Refused>
-    ensures { (before : List ℕ) → O.holds out.old before → OnOk result (O.holds out.new (before ++ lines_text (past_lines generation past.now))) }
+    ensures { (before : List ℕ) → O.holds out.old before → OnOk result (O.holds out.new
+        (before ++ lines_text (past_lines generation past.now))) }
 {
     put_number(out, b"g", u64::from(past.generation))?;
     put_sections(out, generation, sections_of_past(past))

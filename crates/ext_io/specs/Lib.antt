@@ -1,3 +1,4 @@
+pub mod Pieces
 pub mod SourceState
 pub mod SinkState
 pub mod Device

@@ -36,8 +36,8 @@ SinkFails old = Contains old.fails (next_count old.calls)
 
 -- a call that is handed these bytes: it fails where it is listed, and else only where it is out of memory, which it
 -- counts; and it takes as many bytes as there are, at most a piece
-abbrev pub Writes : {E : Type 0} → SinkView → SinkView → List ℕ → Result ℕ E → Type 0
-Writes old new bytes (Ok n) =
+abbrev pub SinkWrites : {E : Type 0} → SinkView → SinkView → List ℕ → Result ℕ E → Type 0
+SinkWrites old new bytes (Ok n) =
     (¬ SinkFails old) × (n ≡ min old.piece (length bytes)) × (new ≡ sink_after old (take n bytes))
-Writes old new bytes (Err _) =
+SinkWrites old new bytes (Err _) =
     (SinkFails old × (new ≡ sink_failed old)) ⊎ ((¬ SinkFails old) × (new ≡ sink_starved old))

@@ -1,7 +1,7 @@
 ghost use Rattle.std.specs.Prelude.{◌≡◌, ◌<◌, ◌≤◌, ◌++◌, [], length, take, IfOk, OnErr};
 ghost use Rattle.std.specs.Io.KnownBytes.{Appends, Keeps};
 ghost use Rattle.ext_text.specs.Causes.{HasCause};
-ghost use Rattle.ext_io.specs.MemorySink.{Writes};
+ghost use Rattle.ext_io.specs.MemorySink.{SinkWrites};
 
 use crate::device::{Calls, is_listed, next_count};
 use crate::failed::Failed;
@@ -93,7 +93,7 @@ impl Sink for MemorySink {
         ensures failed { OnErr result (self.new.written ≡ self.old.written) }
         ensures count { self.old.faults ≤ self.new.faults }
         ensures cause { HasCause result self.old.faults self.new.faults }
-        ensures exact { Writes self.old self.new bytes.now result }
+        ensures exact { SinkWrites self.old self.new bytes.now result }
     {
         self.calls = next_count(self.calls);
         if is_listed(&self.fails, self.calls) {

@@ -9,7 +9,7 @@ use std::io::{ErrorKind, Read, Write};
 pub const TRIES: u32 = 1001;
 
 /// One read of a reader, tried again where it was interrupted, at most 1,000 times. It gives how many bytes it moved into
-/// the buffer; 0 where there is no room, and else at the end of the input alone.
+/// the buffer: 0 where there is no room, and else at the end of the input alone.
 ///
 /// # Errors
 /// The reader failed, or was interrupted too often. Where it tells what is left, nothing was read.

@@ -5,14 +5,12 @@ ghost use Rattle.ext_text.specs.Causes.{HasCause};
 ghost use Rattle.ext_io.specs.Whole.{ReadsAll, Stopped, PieceStopped, AppendsProperPrefix};
 
 use crate::failed::Failed;
+use crate::pieces::{PIECE, append, zeros};
 use crate::sink::Sink;
 use crate::source::Source;
 use ext_text::{OutOfMemory, Text};
 use std::alloc::Global;
 use thiserror::Error;
-
-/// The most bytes that are asked for in one read.
-const PIECE: usize = 65_536;
 
 /// Why a source was not read to its end.
 #[derive(Clone, Copy, Debug, PartialEq, Eq, Error)]
@@ -74,13 +72,6 @@ pub fn read_to_end<S: Source>(alloc: Global, source: &mut S, most: usize) -> Res
     Err(ReadErr::TooLong)
 }
 
-// A buffer of so many bytes.
-fn zeros(alloc: Global, count: usize) -> Result<Vec<u8>, OutOfMemory>
-    ensures { IfOk result (λ buffer. length buffer.items ≡ count) }
-{
-    Ok(vec![in alloc; 0u8; count]?)
-}
-
 // Reads once, adds what was read to the bytes, and gives how much that was.
 fn read_piece<S: Source>(
     source: &mut S,
@@ -98,14 +89,6 @@ fn read_piece<S: Source>(
     let count = source.read(buffer)?;
     append(bytes, &buffer[..count])?;
     Ok(count)
-}
-
-// Adds bytes at the end.
-fn append(bytes: &mut Vec<u8>, piece: &[u8]) -> Result<(), OutOfMemory>
-    ensures { OnOk result (bytes.new.items ≡ bytes.old.items ++ piece.now) }
-{
-    bytes.extend_from_slice(piece)?;
-    Ok(())
 }
 
 /// Writes all the bytes.

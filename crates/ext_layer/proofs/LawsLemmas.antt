@@ -103,6 +103,7 @@ module _ {C : Type 0} (P : Entry C → Type 0) where
         all_from_lookup es parts.1 (λ p e h. at p e (ap (λ b. cond b (Some x.1) (find path_cmp p es)) (apart p e h) ∙ h)),
       )
 
+-- a layered tree has a text
 pub layered_has_text : LayeredHasText
 layered_has_text layers es all layered count = record {
   within = record { tree = layered.tree; count = count };

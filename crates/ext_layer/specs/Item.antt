@@ -10,6 +10,7 @@ use Rattle.ext_layer.specs.Overlay.{Marked, MarkedEntries}
 abbrev pub seen : {C : Type 0} → Item C → List (List ℕ) × Marked C
 seen i = (i.pair.now.0, record { entry = i.pair.now.1; cuts = i.cuts })
 
+-- the marked entries of items
 abbrev pub all_seen : {C : Type 0} → List (Item C) → MarkedEntries C
 all_seen items = map seen items
 

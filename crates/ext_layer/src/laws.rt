@@ -7,8 +7,8 @@ pub fn one_layered_tree<C>()
     ensures { OneLayeredTree C }
 {}
 
-/// Each entry of a layered tree is an entry of one of the layers, at the same path, an opaque directory as a directory;
-/// so each file is a file of one of them: nothing is made up.
+/// Each entry of a layered tree is an entry of one of the layers, at the same path, an opaque directory as a directory.
+/// So each file is a file of one of them: nothing is made up.
 pub fn entries_are_of_layers<C>()
     ensures entries { EntriesAreOfLayers C }
     ensures files { FilesAreOfLayers C }

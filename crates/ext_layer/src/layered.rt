@@ -19,7 +19,7 @@ use std::alloc::Global;
 /// the layers, and an opaque directory among them is to be shown as a directory.
 ///
 /// # Errors
-/// `Limit` exactly where the layered tree has more than 262,144 entries; `OutOfMemory` may come at any time.
+/// `Limit` exactly where the layered tree has more than 262,144 entries. `OutOfMemory` may come at any time.
 pub fn visible_entries<'a, C>(
     alloc: Global,
     layers: &'a Layers<C>,
@@ -35,7 +35,8 @@ pub fn visible_entries<'a, C>(
     Ok(pairs)
 }
 
-/// The layered tree, its entries copied, opaque directories as directories. The number of entries is tested before anything is copied.
+/// The layered tree, its entries copied, opaque directories as directories. The number of entries is tested before anything
+/// is copied.
 ///
 /// # Errors
 /// As for [`visible_entries`].

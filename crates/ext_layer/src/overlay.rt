@@ -68,7 +68,8 @@ fn insertion_point<C>(lower: &[Item<C>], upper: &Item<C>) -> usize
 fn passes_stride<C>(lower: &[Item<C>], upper: &Item<C>) -> bool
     requires { IsTrue (is_sorted path_cmp (all_seen lower.now)) }
     ensures within { IsTrue result → STRIDE ≤ length lower.now }
-    ensures passed { IsTrue result → insertion_point path_cmp (seen upper.now).0 (all_seen lower.now) ≡ STRIDE + insertion_point path_cmp (seen upper.now).0 (all_seen (drop STRIDE lower.now)) }
+    ensures passed { IsTrue result → insertion_point path_cmp (seen upper.now).0 (all_seen lower.now)
+        ≡ STRIDE + insertion_point path_cmp (seen upper.now).0 (all_seen (drop STRIDE lower.now)) }
 {
     match lower.get(STRIDE - 1) {
         Some(last) => is_past(upper, last),

@@ -2,8 +2,6 @@
 
 -- what holds at all holds at each error
 pub use Rattle.ext_lines.proofs.MemoryLemmas.{on_err}
--- ---- splitting
-
 -- a byte is another than this one, as a test
 pub use Rattle.ext_lines.proofs.SplitLemmas.{Differs, differs}
 -- what the empty text lacks, and longer texts
@@ -20,24 +18,22 @@ pub use Rattle.ext_lines.proofs.SplitLemmas.{one_part, first_part, one_part_by, 
 pub use Rattle.ext_lines.proofs.SplitLemmas.{split_at_first, none_at_all, split_from_index}
 -- `split_of` is the split at the byte, and `None` where the text lacks it
 pub use Rattle.ext_lines.proofs.SplitLemmas.{split_of-split, split_of-lacks}
--- ---- prefixes that were added at the end of a text
-
+-- the text before its last byte: where the byte was added at the end, and what one that is given says
+pub use Rattle.ext_lines.proofs.SplitLemmas.{before_last-push, before_last-whole}
+-- a text begins with a prefix where its first bytes are the prefix, and only there
+pub use Rattle.ext_lines.proofs.PrefixLemmas.{prefix_taken, taken_prefix}
 -- none, one of a longer text, and one after a text that was added whole
 pub use Rattle.ext_lines.proofs.PrefixLemmas.{appends_nothing, appends_more, appends_after}
--- ---- lines
-
 -- the lines of a text: one where no newline is, and the first at a newline
 pub use Rattle.ext_lines.proofs.LinesLemmas.{last_line, first_line}
 -- the whole lines of a text: none where no newline is, the first at a newline, and those of a text of lines
 pub use Rattle.ext_lines.proofs.LinesLemmas.{whole_lines-lacks, whole_lines-split, whole_lines-text}
+-- the lines of a text whose last may lack its newline: the first at a newline, and one where no newline is
+pub use Rattle.ext_lines.proofs.LinesLemmas.{text_lines-split, text_lines-lacks}
 -- the text of lines: one line more, and two lists of them
 pub use Rattle.ext_lines.proofs.LinesLemmas.{lines_text-push, lines_text-append}
--- ---- plain text
-
 -- plain text lacks each control byte below the space
 pub use Rattle.ext_lines.proofs.PlainLemmas.{plain_lacks}
--- ---- numbers and hexadecimal digits
-
 -- decimal and octal digits lack each byte before `0`, as a newline, a space, a slash
 pub use Rattle.ext_lines.proofs.NumbersLemmas.{decimal_lacks, octal_lacks}
 -- numbers with the same octal digits are equal; for decimal digits std has `decimal_injective`

@@ -10,13 +10,13 @@ use Rattle.ext_lines.specs.Hexadecimal.{Are32Bytes, five_digits, hex_digit}
 use Rattle.ext_lines.specs.Split.{Lacks}
 use Rattle.ext_lines.proofs.SplitLemmas.{Differs, differs, lacks_cons, lacks_nil}
 
--- ---- bytes
-
+-- numbers below 256 are bytes
 pub bytes_below : (bs : List ℕ) → AllByRecursion (λ b. b < 256) bs → IsBytes bs
 bytes_below [] each i = omega arith
 bytes_below (b ∷ bs) each zero = each.0
 bytes_below (b ∷ bs) each (suc i) = bytes_below bs each.1 i
 
+-- each of some bytes is below 256
 pub each_below : (bs : List ℕ) → IsBytes bs → AllByRecursion (λ b. b < 256) bs
 each_below [] fits = tt
 each_below (b ∷ bs) fits = (fits 0, each_below bs (λ i. fits (suc i)))
@@ -50,8 +50,6 @@ hex_high c is = grind (arith)
 pub hex_lacks : (byte : ℕ) (bs : List ℕ) → byte < 48 → Are32Bytes bs → Lacks byte (encode_lower bs)
 hex_lacks byte bs low is =
     All-weaker (λ c. is_hex_digit c ≡ true) (λ c. Differs byte c) (λ c hex. differs byte c (λ e. omega (arith, hex_high c hex))) (encode_lower bs) (hex_count bs is).1
-
--- ---- digits by their indices
 
 -- the first digit of a byte stands at twice its index
 high_digit : (bs : List ℕ) (k : ℕ) → k < length bs → get_or (encode_lower bs) (2 * k) 0 ≡ get_or lower_digits (get_or bs k 0 / 16) 0
@@ -103,8 +101,6 @@ pub zeros_below : (bytes : List ℕ) → list_all (λ b. eqb b 0) bytes ≡ true
 zeros_below [] zeros k = omega arith
 zeros_below (b ∷ bytes) zeros zero = omega (arith, eqb-true b 0 (and_parts _ _ zeros).0)
 zeros_below (b ∷ bytes) zeros (suc k) = zeros_below bytes (and_parts _ _ zeros).1 k
-
--- ---- five digits
 
 -- the values of the five digits make the number
 pub five_give : (n v w x y z : ℕ) → n < 1048576 → v ≡ n / 65536 → w ≡ n / 4096 % 16 → x ≡ n / 256 % 16 → y ≡ n / 16 % 16 → z ≡ n % 16

@@ -1,13 +1,12 @@
 -- The lines of a text, one by one.
-use Rattle.std.proofs.Common.{◌≡◌, ℕ, suc, ◌-◌, ◌<◌, List, [], ◌∷◌, ◌++◌, length, length-append, take, refl, sym, ap, ◌∙◌, arith, append_assoc, eqb}
+use Rattle.std.proofs.Common.{◌≡◌, ℕ, suc, ◌-◌, ◌<◌, false, List, [], ◌∷◌, ◌++◌, length, length-append, take, refl, sym, ap, ◌∙◌, arith, append_assoc, eqb}
 use Rattle.std.specs.List.{AllByRecursion}
+use Rattle.std.proofs.lemmas.Bool.{true≢false}
 use Rattle.std.proofs.lemmas.List.Splits.{length-slice_split}
 use Rattle.std.proofs.lemmas.List.Concat.{flat_map-append}
 use Rattle.ext_lines.specs.Split.{Lacks, IsSplit}
-use Rattle.ext_lines.specs.Lines.{lines_of, lines_text, whole_lines}
+use Rattle.ext_lines.specs.Lines.{ended_lines, lines_of, lines_text, text_lines, whole_lines}
 use Rattle.ext_lines.proofs.SplitLemmas.{first_part, one_part}
-
--- ---- all lines
 
 -- without a newline there is one
 pub last_line : (text : List ℕ) → Lacks 10 text → lines_of text ≡ text ∷ []
@@ -17,8 +16,6 @@ last_line text lacks = one_part 10 text lacks
 pub first_line : (text line after : List ℕ) → IsSplit 10 text line after → (lines_of text ≡ line ∷ lines_of after) × (length after < length text)
 first_line text line after is =
     (first_part 10 text line after is, omega (arith, ap length is.whole, length-append line (10 ∷ after)))
-
--- ---- whole lines
 
 but_last : {X : Type 0} (x : X) (xs : List X) → 0 < length xs → take (length (x ∷ xs) - 1) (x ∷ xs) ≡ x ∷ take (length xs - 1) xs
 but_last x xs some =
@@ -48,7 +45,25 @@ whole_lines-text (l ∷ lines) rest lacks =
     regrouped : lines_text (l ∷ lines) ++ rest ≡ l ++ 10 ∷ (lines_text lines ++ rest)
     regrouped = append_assoc (l ++ 10 ∷ []) (lines_text lines) rest ∙ append_assoc l (10 ∷ []) (lines_text lines ++ rest)
 
--- ---- the text of lines
+ended-more : (line : List ℕ) (lines : List (List ℕ)) → 0 < length lines → ended_lines (line ∷ lines) ≡ line ∷ ended_lines lines
+ended-more line [] some = absurd (omega arith)
+ended-more line (next ∷ lines) some = refl
+
+-- the first line, and those of the shorter rest
+pub text_lines-split : (text line after : List ℕ) → IsSplit 10 text line after → (text_lines text ≡ line ∷ text_lines after) × (length after < length text)
+text_lines-split text line after is =
+    let first = first_line text line after is in
+    (ap ended_lines first.0 ∙ ended-more line (lines_of after) (some_line after), first.1)
+
+-- without a newline the whole text is the only line
+pub text_lines-lacks : (text : List ℕ) → Lacks 10 text → 0 < length text → text_lines text ≡ text ∷ []
+text_lines-lacks [] lacks some = absurd (omega arith)
+text_lines-lacks (b ∷ bs) lacks some = ap ended_lines (last_line (b ∷ bs) lacks)
+
+-- a text that is not empty has bytes
+pub some_bytes : (text : List ℕ) → eqb (length text) 0 ≡ false → 0 < length text
+some_bytes [] empty = absurd (true≢false empty)
+some_bytes (b ∷ bs) some = omega arith
 
 -- one more line
 pub lines_text-push : (lines : List (List ℕ)) (l more : List ℕ) → lines_text (lines ++ l ∷ []) ++ more ≡ lines_text lines ++ (l ++ 10 ∷ more)

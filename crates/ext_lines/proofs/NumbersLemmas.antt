@@ -15,8 +15,6 @@ use Rattle.ext_lines.specs.Numbers.{octal}
 use Rattle.ext_lines.proofs.SplitLemmas.{differs, lacks_cons, lacks_nil}
 use Rattle.ext_lines.proofs.OctalSteps.{octal_digit, octal_step}
 
--- ---- octal digits
-
 -- octal digits are a numeral of the number
 pub octal_is_IsNumeral : (n : ℕ) → n < 8 ^ 64
     → IsNumeral 8 (octal n) × (digits_value 8 (octal n) ≡ n)
@@ -76,8 +74,6 @@ octal_first (suc k) n le some small = ⊎_elim
     (λ l. subst BeginsHigh (sym (octal_step n l small)) (more_begins (octal (n / 8)) ((48 + n % 8) ∷ []) (octal_first k (n / 8) (omega arith) (omega arith) (omega arith))))
     (cases_lt n 8)
 
--- ---- what digits lack
-
 -- digits hold no byte before `0`
 digits_lack : (base byte : ℕ) (ds : List ℕ) → base ≤ 10 → byte < 48 → AllDigits base ds → Lacks byte ds
 digits_lack base byte [] small low d = lacks_nil byte
@@ -92,8 +88,6 @@ decimal_lacks byte n low small = digits_lack 10 byte (decimal n) (omega arith) l
 pub octal_lacks : (byte n : ℕ) → byte < 48 → n < 8 ^ 64 → Lacks byte (octal n)
 octal_lacks byte n low small =
     digits_lack 8 byte (octal n) (omega arith) low (octal_is_IsNumeral n small).0.1
-
--- ---- no leading zeros
 
 -- a text that is not empty, and that only as a single digit begins with a zero
 abbrev pub IsShort : List ℕ → Type 0
@@ -118,8 +112,6 @@ decimal_short n small = ⊎_elim
     (λ l. short_zero n l (λ k. decimal k) (decimal_digit 0 (omega arith)))
     (λ l. short_from_first (decimal n) ((decimal_is_IsNumeral n small).0.0, first_decimal n l small))
     (cases_lt n 1)
-
--- ---- what a reader of numbers rests on
 
 -- each digit of a numeral is one
 pub digit_within : (base : ℕ) (ds : List ℕ) (i : ℕ) → i < length ds → AllDigits base ds

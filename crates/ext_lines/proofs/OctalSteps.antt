@@ -34,11 +34,13 @@ spell_enough (suc j) (suc k) n acc p q = ⊎_elim
 glyph : (n : ℕ) → last_glyph n ≡ 48 + n % 8
 glyph n = grind (arith)
 
+-- a number below 8 is one octal digit
 pub octal_digit : (n : ℕ) → n < 8 → digits 8 false n ≡ (48 + n) ∷ []
 unfolding digits
 octal_digit n small =
     let same : n % 8 ≡ n = omega arith in spell_last 63 n [] small ∙ ap (λ (x : ℕ). x ∷ []) (glyph n ∙ omega arith)
 
+-- the last octal digit of a larger number, after those of its eighth
 pub octal_step : (n : ℕ) → 8 ≤ n → n < 8 ^ 64 → digits 8 false n ≡ digits 8 false (n / 8) ++ (48 + n % 8) ∷ []
 unfolding digits
 octal_step n h small =

@@ -1,30 +1,33 @@
 -- Bytes that a text lacks, and the one way in which a text is split at such a byte.
-use Rattle.std.proofs.Common.{◌≡◌, ℕ, zero, suc, ◌+◌, ◌<◌, Bool, true, false, not, eqb, List, [], ◌∷◌, ◌++◌, length, take, get_or, drop, refl, sym, ap, subst, ◌∙◌, arith, add-one}
+use Rattle.std.proofs.Common.{◌≡◌, ℕ, zero, suc, ◌+◌, ◌<◌, Bool, true, false, cond, not, eqb, List, [], ◌∷◌, ◌++◌, length, length-append, take, get_or, drop, refl, sym, ap, subst, ◌∙◌, arith, add-one}
 use Rattle.std.specs.Prelude.{◌⊎◌, Some, None}
 use mathlib.Core.Logic.{inl, inr}
 use Rattle.std.specs.List.{All, AllByRecursion, slice_split}
 use Rattle.std.specs.Option.{option_map}
 use Rattle.std.proofs.lemmas.Bool.{not-true, ne_eqb, eq-eqb, eqb-true, both_ways, false_from_ne_true}
+use Rattle.std.proofs.lemmas.List.{get_or_push, take_all, take_at, take_more}
 use Rattle.std.proofs.lemmas.List.Elements.{All-nil, All-cons, All-tail, All-append}
 use Rattle.std.proofs.lemmas.List.Splits.{slice_split_none, slice_split_at}
 use Rattle.memchr.specs.Find.{IsFirstByte}
-use Rattle.ext_lines.specs.Split.{IsSplit, IsSplitBy, Lacks, NonePass, split_of}
-
--- ---- what a text lacks
+use Rattle.ext_lines.specs.Split.{IsSplit, IsSplitBy, Lacks, NonePass, before_last, split_of}
 
 -- a byte is another than this one
 abbrev pub Differs : ℕ → ℕ → Type 0
 Differs byte b = not (eqb b byte) ≡ true
 
+-- a byte that is another one differs
 pub differs : (byte b : ℕ) → (b ≡ byte → ⊥) → Differs byte b
 differs byte b ne = ap not (ne_eqb b byte ne)
 
+-- the empty text lacks each byte
 pub lacks_nil : (byte : ℕ) → Lacks byte []
 lacks_nil byte = All-nil (Differs byte)
 
+-- so does a text that begins with another byte
 pub lacks_cons : (byte b : ℕ) (bs : List ℕ) → Differs byte b → Lacks byte bs → Lacks byte (b ∷ bs)
 lacks_cons byte b bs other lacks = All-cons (Differs byte) b bs other lacks
 
+-- so do two texts together
 pub lacks_append : (byte : ℕ) (xs ys : List ℕ) → Lacks byte xs → Lacks byte ys → Lacks byte (xs ++ ys)
 lacks_append byte xs ys p q = All-append (Differs byte) xs ys p q
 
@@ -44,11 +47,10 @@ none_each test [] none = tt
 none_each test (b ∷ bs) none =
     (not-true (test b) (none 0 0 (omega arith)), none_each test bs (All-tail (λ x. not (test x) ≡ true) b bs none))
 
+-- a test that fails at each byte passes none
 pub each_none : (test : ℕ → Bool) (bytes : List ℕ) → AllByRecursion (λ b. test b ≡ false) bytes → NonePass test bytes
 each_none test [] each = All-nil (λ x. not (test x) ≡ true)
 each_none test (b ∷ bs) each = All-cons (λ x. not (test x) ≡ true) b bs (ap not each.0) (each_none test bs each.1)
-
--- ---- splits
 
 split_more : (byte b : ℕ) (bytes : List ℕ) → Differs byte b → (Lacks byte bytes) ⊎ ((prefix : List ℕ) × (rest : List ℕ) × IsSplit byte bytes prefix rest) → (Lacks byte (b ∷ bytes)) ⊎ ((prefix : List ℕ) × (rest : List ℕ) × IsSplit byte (b ∷ bytes) prefix rest)
 split_more byte b bytes other (inl lacks) = inl (lacks_cons byte b bytes other lacks)
@@ -97,8 +99,6 @@ split_same (c ∷ f) (d ∷ g) r s n e =
     let head : c ≡ d = ap (λ (l : List ℕ). get_or l 0 0) e in
     (λ i. head i ∷ rest.0 i, rest.1)
 
--- ---- parts
-
 none_all : (test : ℕ → Bool) (bytes : List ℕ) → NonePass test bytes → All (λ b. test b ≡ false) bytes
 none_all test bytes none = λ k d within. not-true _ (none k d within)
 
@@ -106,6 +106,7 @@ none_all test bytes none = λ k d within. not-true _ (none k d within)
 pub one_part_by : (test : ℕ → Bool) (bytes : List ℕ) → NonePass test bytes → slice_split test bytes ≡ bytes ∷ []
 one_part_by test bytes none = slice_split_none test bytes (none_all test bytes none)
 
+-- a text without the byte is one part
 pub one_part : (byte : ℕ) (bytes : List ℕ) → Lacks byte bytes → slice_split (λ b. eqb b byte) bytes ≡ bytes ∷ []
 one_part byte bytes lacks = one_part_by (λ b. eqb b byte) bytes lacks
 
@@ -114,11 +115,10 @@ pub first_part_by : (test : ℕ → Bool) (bytes prefix : List ℕ) (byte : ℕ)
 first_part_by test bytes prefix byte rest split =
     ap (slice_split test) split.whole ∙ slice_split_at test prefix byte rest (none_all test prefix split.none_before) split.passes
 
+-- what stands before the byte is the first part
 pub first_part : (byte : ℕ) (bytes prefix rest : List ℕ) → IsSplit byte bytes prefix rest → slice_split (λ b. eqb b byte) bytes ≡ prefix ∷ slice_split (λ b. eqb b byte) rest
 first_part byte bytes prefix rest split =
     first_part_by (λ b. eqb b byte) bytes prefix byte rest (record { whole = split.whole; none_before = split.prefix_lacks; passes = eq-eqb byte byte refl })
-
--- ---- splits by the index of a byte
 
 around : (test : ℕ → Bool) (text : List ℕ) (k : ℕ) → k < length text → test (get_or text k 0) ≡ true → ((j : ℕ) → j < k → test (get_or text j 0) ≡ false) → IsSplitBy test text (take k text) (get_or text k 0) (drop (suc k) text)
 around test [] k lt here before = absurd (omega arith)
@@ -162,3 +162,25 @@ split_from_index byte text hay k prefix after same is before follows =
       whole = at.whole ∙ ap (λ (x : ℕ). take k text ++ x ∷ drop (k + 1) text) here ∙ ap (λ (xs : List ℕ). xs ++ byte ∷ drop (k + 1) text) (sym before) ∙ ap (λ (xs : List ℕ). prefix ++ byte ∷ xs) (sym follows);
       prefix_lacks = subst (Lacks byte) (sym before) at.none_before;
     }
+
+-- before a byte that was added at the end
+pub before_last-push : (byte : ℕ) (text : List ℕ) → before_last byte (text ++ byte ∷ []) ≡ Some text
+before_last-push byte [] = rw (eq-eqb byte byte refl) refl
+before_last-push byte (b ∷ bs) =
+    let count : length (b ∷ bs) ≡ length (bs ++ byte ∷ []) = omega (arith, length-append bs (byte ∷ [])) in
+    ap (λ (last : ℕ). cond (eqb last byte) (Some (take (length (bs ++ byte ∷ [])) (b ∷ (bs ++ byte ∷ [])))) None) (get_or_push (b ∷ bs) byte 0 (length (bs ++ byte ∷ [])) count)
+    ∙ ap (λ (test : Bool). cond test (Some (take (length (bs ++ byte ∷ [])) (b ∷ (bs ++ byte ∷ [])))) None) (eq-eqb byte byte refl)
+    ∙ ap Some (take_at (b ∷ bs) (byte ∷ []) (length (bs ++ byte ∷ [])) count)
+
+ends_so : (byte b : ℕ) (bs front : List ℕ) (test : Bool) → eqb (get_or (b ∷ bs) (length bs) 0) byte ≡ test → cond test (Some (take (length bs) (b ∷ bs))) None ≡ Some front → b ∷ bs ≡ front ++ byte ∷ []
+ends_so byte b bs front false is none = absurd (cc)
+ends_so byte b bs front true is some =
+    let last : get_or (b ∷ bs) (length bs) 0 ≡ byte = eqb-true _ _ is in
+    let first : take (length bs) (b ∷ bs) ≡ front = cc in
+    sym (take_all (length bs + 1) (b ∷ bs) (omega arith)) ∙ take_more (b ∷ bs) (length bs) 0 (omega arith)
+    ∙ ap (λ (t : List ℕ). t ++ get_or (b ∷ bs) (length bs) 0 ∷ []) first ∙ ap (λ (last : ℕ). front ++ last ∷ []) last
+
+-- what it gives is followed by the byte and nothing else
+pub before_last-whole : (byte : ℕ) (text front : List ℕ) → before_last byte text ≡ Some front → text ≡ front ++ byte ∷ []
+before_last-whole byte [] front none = absurd (cc)
+before_last-whole byte (b ∷ bs) front some = ends_so byte b bs front (eqb (get_or (b ∷ bs) (length bs) 0) byte) refl some

@@ -15,6 +15,21 @@ lines_of text = slice_split (λ b. b == 10) text
 abbrev pub whole_lines : List ℕ → List (List ℕ)
 whole_lines text = let lines = lines_of text in take (length lines - 1) lines
 
+-- one line, and none where it is empty
+abbrev pub unless_empty : List ℕ → List (List ℕ)
+unless_empty [] = []
+unless_empty (b ∷ line) = (b ∷ line) ∷ []
+
+-- lines without an empty last one
+abbrev pub ended_lines : List (List ℕ) → List (List ℕ)
+ended_lines [] = []
+ended_lines (line ∷ []) = unless_empty line
+ended_lines (line ∷ next ∷ lines) = line ∷ ended_lines (next ∷ lines)
+
+-- the lines of a text whose last line may lack its newline: no line follows a last newline
+abbrev pub text_lines : List ℕ → List (List ℕ)
+text_lines text = ended_lines (lines_of text)
+
 -- the first line of a text, and the text of the other lines, if there are any
 abbrev pub IsNextLine : List ℕ → List ℕ → Option (Bor (List ℕ)) → Type 0
 IsNextLine text line after = MatchOption after (lines_of text ≡ line ∷ []) (λ more. (lines_of text ≡ line ∷ lines_of more.now) × (length more.now < length text))

@@ -1,5 +1,5 @@
 -- Splitting a text at the first of a byte, or at the first byte that passes a test.
-use Rattle.std.specs.Prelude.{◌≡◌, ℕ, Bool, true, not, ◌==◌, if◌then◌else◌, List, [], ◌∷◌, ◌++◌, Option, Some, None}
+use Rattle.std.specs.Prelude.{◌≡◌, ℕ, Bool, true, not, ◌==◌, if◌then◌else◌, List, [], ◌∷◌, ◌++◌, Option, Some, None, length, slice_index, take}
 use Rattle.std.specs.List.{AllPass}
 use Rattle.std.specs.Option.{option_map}
 
@@ -26,3 +26,8 @@ pub record IsSplitBy (test : ℕ → Bool) (bytes prefix : List ℕ) (byte : ℕ
 abbrev pub split_of : ℕ → List ℕ → Option (List ℕ × List ℕ)
 split_of byte [] = None
 split_of byte (b ∷ bs) = if b == byte then Some ([], bs) else option_map (λ parts. (b ∷ parts.0, parts.1)) (split_of byte bs)
+
+-- the text before its last byte, where that is this byte
+abbrev pub before_last : ℕ → List ℕ → Option (List ℕ)
+before_last byte [] = None
+before_last byte (b ∷ bs) = if slice_index (b ∷ bs) (length bs) == byte then Some (take (length bs) (b ∷ bs)) else None

@@ -11,15 +11,48 @@ pub fn is_blank(byte: u8) -> bool
     byte == b' ' || byte == b'\t'
 }
 
-/// The text without the blanks at both ends.
-pub fn trimmed(text: &str) -> &str
+/// The bytes without the blanks at both ends.
+pub fn trimmed(bytes: &[u8]) -> &[u8]
+    ensures { result.now ≡ trimmed bytes.now }
+{
+    before_blanks(after_blanks(bytes))
+}
+
+/// The bytes without the blanks that they begin with.
+pub fn after_blanks(bytes: &[u8]) -> &[u8]
+    ensures { result.now ≡ after_blanks bytes.now }
+{
+    let mut rest = bytes;
+    'blanks: loop {
+        match rest {
+            [first, after @ ..] if is_blank(*first) => rest = after,
+            _ => return rest,
+        }
+    }
+}
+
+/// The bytes without the blanks at their end.
+pub fn before_blanks(bytes: &[u8]) -> &[u8]
+    ensures { result.now ≡ before_blanks bytes.now }
+{
+    let mut rest = bytes;
+    'blanks: loop {
+        match rest {
+            [prefix @ .., last] if is_blank(*last) => rest = prefix,
+            _ => return rest,
+        }
+    }
+}
+
+/// The text without the blanks at both ends, as text.
+pub fn trimmed_str(text: &str) -> &str
     ensures { result.now ≡ trimmed text.now }
 {
-    before_blanks(after_blanks(text))
+    str_before_blanks(str_after_blanks(text))
 }
 
 // The text without the blanks that it begins with.
-fn after_blanks(text: &str) -> &str
+fn str_after_blanks(text: &str) -> &str
     ensures { result.now ≡ after_blanks text.now }
 {
     let mut rest = text;
@@ -32,7 +65,7 @@ fn after_blanks(text: &str) -> &str
 }
 
 // The text without the blanks at its end.
-fn before_blanks(text: &str) -> &str
+fn str_before_blanks(text: &str) -> &str
     ensures { result.now ≡ before_blanks text.now }
 {
     let mut rest = text;

@@ -12,7 +12,8 @@ pub fn a_number_has_its_own_text()
 
 /// No two lists of 32 bytes have the same hexadecimal digits, and no two numbers the same five.
 pub fn hexadecimal_digits_have_one_value()
-    ensures bytes { (bytes others : List ℕ) → Are32Bytes bytes → Are32Bytes others → encode_lower bytes ≡ encode_lower others → bytes ≡ others }
+    ensures bytes { (bytes others : List ℕ) → Are32Bytes bytes → Are32Bytes others → encode_lower bytes
+        ≡ encode_lower others → bytes ≡ others }
     ensures number { (m n : ℕ) → m < 1048576 → n < 1048576 → five_digits m ≡ five_digits n → m ≡ n }
 {}
 

@@ -25,7 +25,7 @@ impl<T: Drop> From<AllocFailed<T>> for OutOfMemory {
 ///
 /// # Errors
 /// `OutOfMemory` exactly where the allocation failed.
-pub fn grown<T, E>(outcome: Result<T, E>) -> Result<T, OutOfMemory>
+pub fn allocated<T, E>(outcome: Result<T, E>) -> Result<T, OutOfMemory>
 where
     OutOfMemory: From<E>,
     ensures { MatchResult result (λ value. outcome ≡ Ok value) (λ _. IsErr outcome) }

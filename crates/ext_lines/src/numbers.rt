@@ -3,7 +3,7 @@ ghost use Rattle.std.specs.Prelude.{◌≡◌, ◌≢◌, ◌+◌, ◌*◌, ◌<
 ghost use Rattle.std.specs.Str.Parse.{AllDigits, digits_value};
 ghost use Rattle.ext_lines.specs.Numbers.{octal};
 
-use crate::memory::{OutOfMemory, grown};
+use crate::memory::{OutOfMemory, allocated};
 use itoa::Buffer;
 
 /// The number that a text writes in decimal digits without leading zeros; `None` exactly where no number up to `most` is
@@ -37,19 +37,19 @@ pub fn read_octal(text: &[u8], most: u64) -> Option<u64>
 /// Adds the decimal digits of a number.
 ///
 /// # Errors
-/// `OutOfMemory`; the text is then as before.
+/// `OutOfMemory`. The text is then as before.
 pub fn append_decimal(text: &mut Vec<u8>, number: u64) -> Result<(), OutOfMemory>
     ensures ok { OnOk result (text.new.items ≡ text.old.items ++ decimal number) }
     ensures err { OnErr result (text.new.items ≡ text.old.items) }
 {
     let mut buffer = Buffer::new();
-    grown(text.extend_from_slice(buffer.format(number).as_bytes()))
+    allocated(text.extend_from_slice(buffer.format(number).as_bytes()))
 }
 
 /// Adds the octal digits of a number.
 ///
 /// # Errors
-/// `OutOfMemory`; the text is then as before.
+/// `OutOfMemory`. The text is then as before.
 pub fn append_octal(text: &mut Vec<u8>, number: u64) -> Result<(), OutOfMemory>
     ensures ok { OnOk result (text.new.items ≡ text.old.items ++ octal number) }
     ensures err { OnErr result (text.new.items ≡ text.old.items) }

@@ -41,7 +41,8 @@ pub fn plain_text(bytes: &[u8]) -> Option<&str>
 
 /// The bytes as text; `None` exactly where they are no UTF-8 or hold a control byte other than a tab.
 pub fn plain_text_with_tabs(bytes: &[u8]) -> Option<&str>
-    ensures { MatchOption result (is_plain_text_with_tabs bytes.now ≡ false) (λ text. (text.now ≡ bytes.now) × (is_plain_text_with_tabs bytes.now ≡ true)) }
+    ensures { MatchOption result (is_plain_text_with_tabs bytes.now ≡ false)
+        (λ text. (text.now ≡ bytes.now) × (is_plain_text_with_tabs bytes.now ≡ true)) }
 {
     if !are_plain_or_tabs(bytes) {
         return None;

@@ -1,8 +1,8 @@
 // Texts are split at the first of some byte.
 ghost use Rattle.std.specs.Prelude.{◌≡◌, ◌+◌, ◌<◌, length, take, drop, slice_index, MatchOption};
-ghost use Rattle.std.specs.Option.{option_map};
+ghost use Rattle.std.specs.Option.{option_copied, option_map};
 ghost use Rattle.memchr.specs.Find.{IsFirstByte, is_byte};
-ghost use Rattle.ext_lines.specs.Split.{IsSplit, Lacks, split_of};
+ghost use Rattle.ext_lines.specs.Split.{IsSplit, Lacks, before_last, split_of};
 
 use memchr::memchr;
 
@@ -40,6 +40,16 @@ pub fn split_around(text: &str, index: usize) -> (&str, &str)
     ensures after { result.1.now ≡ drop (index + 1) text.now }
 {
     (&text[..index], &text[index + 1..])
+}
+
+/// The bytes before the last one, where that is this byte; `None` exactly where they do not end with it.
+pub fn before_last(bytes: &[u8], byte: u8) -> Option<&[u8]>
+    ensures { option_copied result ≡ before_last byte bytes.now }
+{
+    match bytes {
+        [prefix @ .., last] if *last == byte => Some(prefix),
+        _ => None,
+    }
 }
 
 // The bytes before an index, and those after it.

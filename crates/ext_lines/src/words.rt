@@ -51,7 +51,8 @@ fn last_word(text: &[u8]) -> Option<(&[u8], &[u8])>
 fn split_at_blank(text: &[u8]) -> Option<(&[u8], &[u8])>
     ensures { MatchOption result
         (slice_split is_blank text.now ≡ text.now ∷ [])
-        (λ parts. (slice_split is_blank text.now ≡ parts.0.now ∷ slice_split is_blank parts.1.now) × (length parts.1.now < length text.now)) }
+        (λ parts. (slice_split is_blank text.now ≡ parts.0.now ∷ slice_split is_blank parts.1.now)
+        × (length parts.1.now < length text.now)) }
 {
     match index_of_blank(text) {
         None => None,

@@ -9,9 +9,9 @@ use Rattle.std.proofs.lemmas.Bool.Decides.{Decides-and, Decides-or, not_from_Dec
 use Rattle.std.proofs.lemmas.Slice.Eq.{bytes_eq-Decides}
 use Rattle.ext_text.specs.Arch.{arch_name}
 use Rattle.ext_text.specs.declared.arch.Arch.{Arch}
-use Rattle.ext_text.specs.declared.class.Class.{Class}
+use Rattle.ext_text.specs.declared.extension.Extension.{Extension}
 use Rattle.ext_text.specs.declared.scope.Scope.{Scope}
-use Rattle.ext_match.specs.Class.{level_key}
+use Rattle.ext_match.specs.Keys.{level_key}
 use Rattle.ext_match.specs.Rule.{RuleHolds, RuleIsMet, is_built, is_same, is_scoped, is_unset_or_either, is_unset_or_same, rule}
 use Rattle.ext_match.specs.Verdict.{FitsAnyId, FitsArch, FitsId, FitsLevel, FitsVersion, HasId, HasScope, HaveLevels, IsFitting, IsVerdict, OneVerdict, Release}
 use Rattle.ext_match.specs.declared.verdict.Verdict.{Verdict}
@@ -40,7 +40,7 @@ no : {P : Type 0} → (r : Bool) → Decides r P → ¬ P → r ≡ false
 no r is none = false_from_ne_true r (λ e. none (is.0 e))
 
 -- the outcomes of the tests are those of the parts
-record AreOutcomes (host ext : Release) (class : Class) (scope : Scope) (arch : Arch) (s b n a i l t v : Bool) : Type 0 where
+record AreOutcomes (host ext : Release) (class : Extension) (scope : Scope) (arch : Arch) (s b n a i l t v : Bool) : Type 0 where
   scoped : Decides s (HasScope ext class scope)
   built : Decides b (FitsArch ext arch)
   named : Decides n (HasId ext)
@@ -50,7 +50,7 @@ record AreOutcomes (host ext : Release) (class : Class) (scope : Scope) (arch : 
   same_level : Decides t (FitsLevel host ext class)
   versioned : Decides v (FitsVersion host ext)
 
-outcomes : (host ext : Release) (class : Class) (scope : Scope) (arch : Arch) → AreOutcomes host ext class scope arch (is_scoped ext class scope) (is_built ext arch) (is_some (get ext (codes "ID"))) (is_same (get ext (codes "ID")) (Some (codes "_any"))) (is_same (get ext (codes "ID")) (Some (unwrap_or (get host (codes "ID")) (codes "linux")))) (is_some (get host (level_key class)) && is_some (get ext (level_key class))) (is_same (get ext (level_key class)) (get host (level_key class))) (is_unset_or_same (get host (codes "VERSION_ID")) (get ext (codes "VERSION_ID")))
+outcomes : (host ext : Release) (class : Extension) (scope : Scope) (arch : Arch) → AreOutcomes host ext class scope arch (is_scoped ext class scope) (is_built ext arch) (is_some (get ext (codes "ID"))) (is_same (get ext (codes "ID")) (Some (codes "_any"))) (is_same (get ext (codes "ID")) (Some (unwrap_or (get host (codes "ID")) (codes "linux")))) (is_some (get host (level_key class)) && is_some (get ext (level_key class))) (is_same (get ext (level_key class)) (get host (level_key class))) (is_unset_or_same (get host (codes "VERSION_ID")) (get ext (codes "VERSION_ID")))
 outcomes host ext class scope arch = record {
   scoped = (λ e. e, λ e. e);
   built = either-decides (codes "_any") (arch_name arch) (get ext (codes "ARCHITECTURE"));
@@ -62,7 +62,7 @@ outcomes host ext class scope arch = record {
   versioned = unset_or_same-decides (get host (codes "VERSION_ID")) (get ext (codes "VERSION_ID"));
 }
 
-module _ (host ext : Release) (class : Class) (scope : Scope) (arch : Arch) where
+module _ (host ext : Release) (class : Extension) (scope : Scope) (arch : Arch) where
   holds : (f s b n a i l t v : Bool) → AreOutcomes host ext class scope arch s b n a i l t v → IsVerdict host ext class scope arch f (rule f s b n a i l t v)
   holds true s b n a i l t v is = inl refl
   holds false false b n a i l t v is = (refl, not_from_Decides false is.scoped refl)

@@ -1,3 +1,3 @@
-pub mod Class
+pub mod Keys
 pub mod Verdict
 pub mod Rule

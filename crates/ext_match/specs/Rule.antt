@@ -6,10 +6,10 @@ use Rattle.std.specs.Str.{bytes_eq}
 use Rattle.ext_text.specs.Arch.{arch_name}
 use Rattle.ext_text.specs.Scope.{scope_name}
 use Rattle.ext_text.specs.declared.arch.Arch.{Arch}
-use Rattle.ext_text.specs.declared.class.Class.{Class}
+use Rattle.ext_text.specs.declared.extension.Extension.{Extension}
 use Rattle.ext_text.specs.declared.scope.Scope.{Scope}
 use Rattle.ext_lines.specs.Words.{has_word}
-use Rattle.ext_match.specs.Class.{level_key, scope_key}
+use Rattle.ext_match.specs.Keys.{level_key, scope_key}
 use Rattle.ext_match.specs.Verdict.{Release, IsVerdict}
 use Rattle.ext_match.specs.declared.verdict.Verdict.{Verdict}
 use Rattle.ext_match.specs.declared.verdict.Verdict.TheVariants as verdicts
@@ -42,7 +42,7 @@ is_unset_or_same None b = true
 is_unset_or_same (Some value) b = is_same b (Some value)
 
 -- the scope is in the extension's list
-abbrev pub is_scoped : Release → Class → Scope → Bool
+abbrev pub is_scoped : Release → Extension → Scope → Bool
 is_scoped ext class scope = has_word (scope_name scope) (unwrap_or (get ext (scope_key class)) (codes "system portable"))
 
 -- the extension is made for the architecture, for any, or doesn't say
@@ -50,7 +50,7 @@ abbrev pub is_built : Release → Arch → Bool
 is_built ext arch = is_unset_or_either (codes "_any") (arch_name arch) (get ext (codes "ARCHITECTURE"))
 
 -- the verdict of an extension against a host, class, scope and architecture, forced or not
-abbrev pub verdict_of : Release → Release → Class → Scope → Arch → Bool → Verdict
+abbrev pub verdict_of : Release → Release → Extension → Scope → Arch → Bool → Verdict
 verdict_of host ext class scope arch force =
     rule force
     (is_scoped ext class scope)
@@ -65,11 +65,11 @@ verdict_of host ext class scope arch force =
 -- the verdict that is computed holds
 abbrev pub RuleHolds : Type 0
 RuleHolds =
-    (host ext : Release) (class : Class) (scope : Scope) (arch : Arch) (force : Bool) →
+    (host ext : Release) (class : Extension) (scope : Scope) (arch : Arch) (force : Bool) →
     IsVerdict host ext class scope arch force (verdict_of host ext class scope arch force)
 
 -- a verdict that holds is the one that is computed
 abbrev pub RuleIsMet : Type 0
 RuleIsMet =
-    (host ext : Release) (class : Class) (scope : Scope) (arch : Arch) (force : Bool) (v : Verdict) →
+    (host ext : Release) (class : Extension) (scope : Scope) (arch : Arch) (force : Bool) (v : Verdict) →
     IsVerdict host ext class scope arch force v → v ≡ verdict_of host ext class scope arch force

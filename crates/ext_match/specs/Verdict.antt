@@ -8,10 +8,10 @@ use Rattle.ext_text.specs.Arch.{arch_name}
 use Rattle.ext_lines.specs.ByteOrder.{bytes_cmp}
 use Rattle.ext_text.specs.Scope.{scope_name}
 use Rattle.ext_text.specs.declared.arch.Arch.{Arch}
-use Rattle.ext_text.specs.declared.class.Class.{Class}
+use Rattle.ext_text.specs.declared.extension.Extension.{Extension}
 use Rattle.ext_text.specs.declared.scope.Scope.{Scope}
 use Rattle.ext_lines.specs.Words.{has_word}
-use Rattle.ext_match.specs.Class.{level_key, scope_key}
+use Rattle.ext_match.specs.Keys.{level_key, scope_key}
 use Rattle.ext_match.specs.declared.verdict.Verdict.{Verdict}
 use Rattle.ext_match.specs.declared.verdict.Verdict.TheVariants as verdicts
 
@@ -20,7 +20,7 @@ abbrev pub Release : Type 0
 Release = FinMap bytes_cmp (List ℕ)
 
 -- the scope is in the extension's list, or in `system portable` where it has none
-abbrev pub HasScope : Release → Class → Scope → Type 0
+abbrev pub HasScope : Release → Extension → Scope → Type 0
 HasScope ext class scope = has_word (scope_name scope) (unwrap_or (get ext (scope_key class)) (codes "system portable")) ≡ true
 
 -- the extension is made for the architecture, for any, or doesn't say
@@ -40,11 +40,11 @@ abbrev pub FitsId : Release → Release → Type 0
 FitsId host ext = get ext (codes "ID") ≡ Some (unwrap_or (get host (codes "ID")) (codes "linux"))
 
 -- both have a level of the class
-abbrev pub HaveLevels : Release → Release → Class → Type 0
+abbrev pub HaveLevels : Release → Release → Extension → Type 0
 HaveLevels host ext class = IsSome (get host (level_key class)) × IsSome (get ext (level_key class))
 
--- they have the same
-abbrev pub FitsLevel : Release → Release → Class → Type 0
+-- both have the same level
+abbrev pub FitsLevel : Release → Release → Extension → Type 0
 FitsLevel host ext class = get ext (level_key class) ≡ get host (level_key class)
 
 -- the extension has the host's version, where the host has one
@@ -52,18 +52,18 @@ abbrev pub FitsVersion : Release → Release → Type 0
 FitsVersion host ext = IfSome (get host (codes "VERSION_ID")) (λ version. get ext (codes "VERSION_ID") ≡ Some version)
 
 -- the level decides where both have one, else the version
-abbrev pub FitsRelease : Release → Release → Class → Type 0
+abbrev pub FitsRelease : Release → Release → Extension → Type 0
 FitsRelease host ext class = (HaveLevels host ext class × FitsLevel host ext class) ⊎ ((¬ HaveLevels host ext class) × FitsVersion host ext)
 
 -- the extension fits the host
-pub record IsFitting (host ext : Release) (class : Class) (scope : Scope) (arch : Arch) : Type 0 where
+pub record IsFitting (host ext : Release) (class : Extension) (scope : Scope) (arch : Arch) : Type 0 where
   pub scoped : HasScope ext class scope
   pub built : FitsArch ext arch
   pub named : HasId ext
   pub made : FitsAnyId ext ⊎ (FitsId host ext × FitsRelease host ext class)
 
 -- the verdict: it fits, or is forced to; or the first part that fails
-abbrev pub IsVerdict : Release → Release → Class → Scope → Arch → Bool → Verdict → Type 0
+abbrev pub IsVerdict : Release → Release → Extension → Scope → Arch → Bool → Verdict → Type 0
 IsVerdict host ext class scope arch force verdicts.Fits = (force ≡ true) ⊎ IsFitting host ext class scope arch
 IsVerdict host ext class scope arch force verdicts.Scope = (force ≡ false) × (¬ HasScope ext class scope)
 IsVerdict host ext class scope arch force verdicts.Architecture = (force ≡ false) × HasScope ext class scope × (¬ FitsArch ext arch)
@@ -76,7 +76,7 @@ IsVerdict host ext class scope arch force verdicts.Version =
     (force ≡ false) × HasScope ext class scope × FitsArch ext arch × (¬ FitsAnyId ext) × FitsId host ext × (¬ HaveLevels host ext class) × (¬ FitsVersion host ext)
 
 -- what the level decides, or else the version
-abbrev pub JudgesRelease : Release → Release → Class → Verdict → Type 0
+abbrev pub JudgesRelease : Release → Release → Extension → Verdict → Type 0
 JudgesRelease host ext class verdicts.Fits = FitsRelease host ext class
 JudgesRelease host ext class verdicts.Level = HaveLevels host ext class × (¬ FitsLevel host ext class)
 JudgesRelease host ext class verdicts.Version = (¬ HaveLevels host ext class) × (¬ FitsVersion host ext)
@@ -88,5 +88,5 @@ JudgesRelease host ext class verdicts.Id = ⊥
 -- of the same files, class, scope, architecture and force no two verdicts hold
 abbrev pub OneVerdict : Type 0
 OneVerdict =
-    (host ext : Release) (class : Class) (scope : Scope) (arch : Arch) (force : Bool) (v w : Verdict) →
+    (host ext : Release) (class : Extension) (scope : Scope) (arch : Arch) (force : Bool) (v w : Verdict) →
     IsVerdict host ext class scope arch force v → IsVerdict host ext class scope arch force w → v ≡ w

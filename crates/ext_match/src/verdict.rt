@@ -1,11 +1,11 @@
 ghost use Rattle.std.specs.Prelude.{◌≡◌, ◌↔◌, true, IsTrue, codes};
 ghost use Rattle.std.specs.FinMap as map;
-ghost use Rattle.ext_match.specs.Class.{IsExtension, level_key};
+ghost use Rattle.ext_match.specs.Keys.{level_key};
 ghost use Rattle.ext_match.specs.Verdict.{FitsArch, FitsLevel, FitsVersion, HasScope, HaveLevels, IsVerdict, JudgesRelease};
 
-use crate::class::{level_key, scope_key};
+use crate::keys::{level_key, scope_key};
 use ext_release::Release;
-use ext_text::{Arch, Class, Scope};
+use ext_text::{Arch, Extension, Scope};
 
 /// Whether an extension fits a host, or the first reason why it doesn't.
 #[derive(Clone, Copy, Debug, PartialEq, Eq)]
@@ -30,26 +30,25 @@ pub enum Verdict {
 /// these that holds:
 ///
 /// 1. `Fits` where `force` is set.
-/// 2. `Scope` where the list of the class, `SYSEXT_SCOPE` or `CONFEXT_SCOPE`, lacks the host's scope; an extension
+/// 2. `Scope` where the list of the class, `SYSEXT_SCOPE` or `CONFEXT_SCOPE`, lacks the host's scope. An extension
 ///    without a list has `system portable`.
 /// 3. `Architecture` where `ARCHITECTURE` is set, is not `_any` and is not the host's.
 /// 4. `NoId` where the extension has no `ID`.
 /// 5. `Fits` where its `ID` is `_any`.
-/// 6. `Id` where its `ID` is not the host's; a host without one has `linux`.
+/// 6. `Id` where its `ID` is not the host's. A host without one has `linux`.
 /// 7. Where both set the class's level, `SYSEXT_LEVEL` or `CONFEXT_LEVEL`: `Fits` where it is the same, else `Level`.
 /// 8. `Version` where the host sets `VERSION_ID` and the extension doesn't set the same.
 /// 9. `Fits`.
 ///
-/// After systemd-sysext(8) and os-release(5). The class is `Sysext` or `Confext`.
+/// After systemd-sysext(8) and os-release(5).
 pub fn judge(
     host: &Release,
     ext: &Release,
-    class: Class,
+    class: Extension,
     scope: Scope,
     arch: Arch,
     force: bool,
 ) -> Verdict
-    requires { IsExtension class }
     ensures { IsVerdict host.now ext.now class scope arch force result }
 {
     if force {
@@ -70,8 +69,7 @@ pub fn judge(
 }
 
 // Whether the scope is in the extension's list.
-fn has_scope(ext: &Release, class: Class, scope: Scope) -> bool
-    requires { IsExtension class }
+fn has_scope(ext: &Release, class: Extension, scope: Scope) -> bool
     ensures { IsTrue result ↔ HasScope ext.now class scope }
 {
     let key = scope_key(class);
@@ -92,8 +90,7 @@ fn fits_arch(ext: &Release, arch: Arch) -> bool
 }
 
 // What the level decides, or else the version.
-fn judge_release(host: &Release, ext: &Release, class: Class) -> Verdict
-    requires { IsExtension class }
+fn judge_release(host: &Release, ext: &Release, class: Extension) -> Verdict
     ensures { JudgesRelease host.now ext.now class result }
 {
     let key = level_key(class);

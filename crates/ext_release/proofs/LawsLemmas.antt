@@ -17,8 +17,6 @@ use Rattle.ext_release.specs.Laws.{NoFaultInRelease, OneFault, OneRelease, Relea
 use Rattle.ext_release.specs.Line.{ReleaseLine, Faulty, Skipped, Sets, is_faulty, line_of}
 use Rattle.ext_release.specs.Release.{assigned, last_assigned, leaves, some_value}
 
--- ---- what lines make of a map
-
 abbrev followed : FinMap bytes_cmp (List ℕ) → ReleaseLine → FinMap bytes_cmp (List ℕ)
 followed m Faulty = m
 followed m Skipped = m
@@ -64,8 +62,6 @@ from_nothing : (o : Option (List ℕ)) → leaves o None ≡ some_value o
 from_nothing None = refl
 from_nothing (Some value) = refl
 
--- ---- lines are sound, or one is the first that isn't
-
 abbrev Sound : List ℕ → Type 0
 Sound l = is_faulty (line_of l) ≡ false
 
@@ -89,8 +85,6 @@ sound_or_faulty (l ∷ ls) =
         | inr fault ↦ let is = fault.1 in inr (suc fault.0, record { within = omega (arith, is.within); faulty = is.faulty; before = sooner l ls fault.0 sound is })
       ]
     ]
-
--- ---- the laws
 
 pub release_or_fault : ReleaseOrFault
 release_or_fault bytes =

@@ -13,8 +13,6 @@ use Rattle.ext_release.specs.Value.{bare, closed, is_mark, is_special, split_dou
 abbrev Each : (ℕ → Bool) → List ℕ → Type 0
 Each test text = AllByRecursion (λ b. test b ≡ false) text
 
--- ---- in double quotes, piece by piece
-
 -- no prefix changes nothing
 pub no_prefix : (o : Option (List ℕ × List ℕ)) → with_prefix [] o ≡ o
 no_prefix None = refl
@@ -95,8 +93,6 @@ begins text value none = sym (no_prefix (split_double text)) ∙ ap (λ (prefix 
 pub unclosed : (text value after : List ℕ) → split_double text ≡ with_prefix value (split_double (92 ∷ after)) → eqb (length after) 0 ≡ true → None ≡ closed (split_double text)
 unclosed text value [] so none = sym (ap closed so)
 unclosed text value (b ∷ bs) so none = absurd (omega (arith, eqb-true _ _ none))
-
--- ---- without quotes, piece by piece
 
 bare_plain : (b : ℕ) (bs : List ℕ) → eqb b 92 ≡ false → bare (b ∷ bs) ≡ b ∷ bare bs
 bare_plain b [] h = rw h refl

@@ -12,15 +12,6 @@ use Rattle.ext_release.specs.declared.reading.ReleaseErr.{ReleaseErr}
 use Rattle.ext_release.specs.declared.reading.ReleaseErr.TheVariants.{OutOfMemory, BadRelease}
 use Rattle.ext_release.specs.Line.{ReleaseLine, Faulty, Skipped, Sets, is_faulty, line_of}
 
--- the entries as their bytes
-abbrev pub texts : {Z : Type 0} → List (String Z × String Z) → List (List ℕ × List ℕ)
-texts [] = []
-texts (e ∷ es) = (string_bytes e.0, string_bytes e.1) ∷ texts es
-
--- the map of the entries of a map of texts
-abbrev pub map_of : {Z : Type 0} → List (String Z × String Z) → FinMap bytes_cmp (List ℕ)
-map_of es = from_entries (texts es)
-
 -- what one line assigns to a key
 abbrev pub assigned : ReleaseLine → List ℕ → Option (List ℕ)
 assigned Faulty key = None

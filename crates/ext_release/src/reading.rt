@@ -8,7 +8,7 @@ use crate::line::is_key;
 use crate::release::Release;
 use crate::value::unquoted;
 use ext_lines::{
-    next_line, plain_text_with_tabs, split_str_at_byte, strip_carriage_return, trimmed,
+    next_line, plain_text_with_tabs, split_str_at_byte, strip_carriage_return, trimmed_str,
 };
 use ext_text::OutOfMemory;
 use std::alloc::Global;
@@ -39,19 +39,25 @@ impl From<OutOfMemory> for ReleaseErr {
     }
 }
 
-/// What a release file assigns. Its lines end at newlines, the last one perhaps not; one carriage return at the end of
-/// a line and blanks, spaces and tabs, at both ends do not count. A line is skipped where no `=` stands in it, or where
-/// what stands before the first is no key of the form `[A-Z_][A-Z0-9_]*`: an empty line and a comment are such lines. What
-/// stands after it is the value, without blanks at both ends: in double quotes, where a backslash escapes `"`, `$`, a
-/// backquote and a backslash, and before any other byte stands for itself; in single quotes, where nothing is special; or
-/// without quotes, where a backslash escapes any byte, and at the end stands for nothing. What is escaped stands for itself
-/// and its backslash for nothing. The last assignment of a key counts, and an empty value counts as none.
+/// What a release file assigns. Its lines end at newlines, the last one perhaps not. One carriage return at the end of a
+/// line and blanks, spaces and tabs, at both ends do not count. A line is skipped where no `=` stands in it, or where what
+/// stands before the first is no key of the form `[A-Z_][A-Z0-9_]*`: an empty line and a comment are such lines. What
+/// stands after it is the value, without blanks at both ends. It stands there in one of three ways:
 ///
-/// Quotes, comments and empty lines are os-release(5)'s; the rest of the rule is this project's own.
+/// - In double quotes, where a backslash escapes `"`, `$`, a backquote and a backslash, and before any other byte stands
+///   for itself.
+/// - In single quotes, where nothing is special.
+/// - Without quotes, where a backslash escapes any byte, and at the end stands for nothing.
+///
+/// What is escaped stands for itself and its backslash for nothing. The last assignment of a key counts, and an empty value
+/// counts as none.
+///
+/// Quotes, comments and empty lines are os-release(5)'s. The rest of the rule is this project's own.
 ///
 /// # Errors
-/// `BadRelease` with the first line, counted from 1, that is no UTF-8, holds a control byte other than a tab, or assigns
-/// to a key a value whose quote does not close or has text after it; `OutOfMemory`.
+/// - `BadRelease` with the first line, counted from 1, that is no UTF-8, holds a control byte other than a tab, or assigns
+///   to a key a value whose quote does not close or has text after it.
+/// - `OutOfMemory`.
 pub fn read_release(alloc: Global, bytes: &[u8]) -> Result<Release, ReleaseErr>
     ensures { ReadsRelease bytes.now result }
 {
@@ -86,7 +92,7 @@ fn follow_text(release: &mut Release, text: &str) -> Result<bool, OutOfMemory>
     requires { is_plain_text_with_tabs text.now ≡ true }
     ensures { IfOk result (FollowsAs (meaning text.now) release.old release.new) }
 {
-    match split_str_at_byte(trimmed(text), b'=') {
+    match split_str_at_byte(trimmed_str(text), b'=') {
         Some((key, value)) if is_key(key.as_bytes()) => assign(release, key, value),
         _ => Ok(true),
     }
@@ -97,7 +103,7 @@ fn assign(release: &mut Release, key: &str, text: &str) -> Result<bool, OutOfMem
     requires { is_key key.now ≡ true }
     ensures { IfOk result (FollowsAs (assigns key.now text.now) release.old release.new) }
 {
-    match unquoted(release.allocator(), trimmed(text))? {
+    match unquoted(release.allocator(), trimmed_str(text))? {
         None => Ok(false),
         Some(value) => {
             release.set(key, value)?;

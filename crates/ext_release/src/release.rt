@@ -5,7 +5,8 @@ ghost use Rattle.std.specs.Str.{bytes_eq};
 ghost use Rattle.std.specs.String.{string_bytes};
 ghost use Rattle.ext_lines.specs.Words.{has_word, words_of};
 ghost use Rattle.ext_release.specs.Line.{Sets};
-ghost use Rattle.ext_release.specs.Release.{assigned, leaves, map_of};
+ghost use Rattle.ext_text.specs.TextMap.{text_map};
+ghost use Rattle.ext_release.specs.Release.{assigned, leaves};
 
 use ext_lines::{has_word, next_word};
 use ext_text::{Lines, OutOfMemory, Text};
@@ -13,7 +14,7 @@ use std::alloc::Global;
 use std::collections::BTreeMap;
 use std::marker::Model;
 
-/// What a release file assigns. Contracts see it as the map from each key to its value, both as their bytes; a key
+/// What a release file assigns. Contracts see it as the map from each key to its value, both as their bytes. A key
 /// whose last value is empty is not in it.
 #[derive(Debug, Drop)]
 pub struct Release {
@@ -26,13 +27,14 @@ impl Model for Release {
     ghost use Rattle.std.specs.Coded.{coded_list, coded_ℕ};
     ghost use Rattle.std.specs.FinMap as map;
     ghost use Rattle.ext_lines.specs.ByteOrder.{bytes_cmp};
-    ghost use Rattle.ext_release.specs.Release.{map_of};
+    ghost use Rattle.std.specs.String.{string_bytes};
+    ghost use Rattle.ext_text.specs.TextMap.{text_map};
 
     ghost Value = { map.FinMap bytes_cmp (List ℕ) };
 
     ghost coded = { map.code (coded_list coded_ℕ) (coded_list coded_ℕ) };
 
-    ghost view = { λ r. map_of r.values.entries };
+    ghost view = { λ r. text_map string_bytes r.values.entries };
 }
 
 impl Release {
@@ -87,7 +89,8 @@ impl Release {
 
     // Sets a key to a value; to an empty one, the key has none.
     pub(crate) fn set(&mut self, key: &str, value: String) -> Result<(), OutOfMemory>
-        ensures { OnOk result ((q : List ℕ) → map.get self.new q ≡ leaves (assigned (Sets key.now (string_bytes value)) q) (map.get self.old q)) }
+        ensures { OnOk result ((q : List ℕ) → map.get self.new q ≡ leaves (assigned (Sets key.now (string_bytes value))
+            q) (map.get self.old q)) }
     {
         if value.as_str().is_empty() {
             unset(&mut self.values, key);
@@ -120,7 +123,8 @@ fn put(
     key: &str,
     value: String,
 ) -> Result<(), OutOfMemory>
-    ensures { OnOk result ((q : List ℕ) → map.get (map_of values.new.entries) q ≡ (if bytes_eq key.now q then Some (string_bytes value) else map.get (map_of values.old.entries) q)) }
+    ensures { OnOk result ((q : List ℕ) → map.get (text_map string_bytes values.new.entries) q
+        ≡ (if bytes_eq key.now q then Some (string_bytes value) else map.get (text_map string_bytes values.old.entries) q)) }
 {
     match values.get_mut(key) {
         Some(held) => {
@@ -137,7 +141,8 @@ fn put(
 
 // Takes a key out.
 fn unset(values: &mut BTreeMap<String, String>, key: &str)
-    ensures { (q : List ℕ) → map.get (map_of values.new.entries) q ≡ (if bytes_eq key.now q then None else map.get (map_of values.old.entries) q) }
+    ensures { (q : List ℕ) → map.get (text_map string_bytes values.new.entries) q ≡ (if bytes_eq key.now q then None else map.get
+        (text_map string_bytes values.old.entries) q) }
 {
     let _ = values.remove(key);
 }

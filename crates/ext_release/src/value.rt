@@ -62,7 +62,8 @@ fn split_at_mark(text: &str) -> Option<(&str, u8, &str)>
 // backslash escapes it; the text that is left to read.
 fn push_double_escape<'t>(value: &mut String, text: &'t str) -> Result<&'t str, OutOfMemory>
     requires { 0 < length text.now }
-    ensures escaped { IfOk result (λ rest. with_prefix (string_bytes value.new) (split_double rest.now) ≡ with_prefix (string_bytes value.old) (split_double (92 ∷ text.now))) }
+    ensures escaped { IfOk result (λ rest. with_prefix (string_bytes value.new) (split_double rest.now)
+        ≡ with_prefix (string_bytes value.old) (split_double (92 ∷ text.now))) }
     ensures shorter { IfOk result (λ rest. length rest.now ≤ length text.now) }
 {
     let first = text.as_bytes()[0];

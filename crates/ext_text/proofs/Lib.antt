@@ -2,5 +2,9 @@ pub mod ListLemmas
 pub mod OrderLemmas
 pub mod NameLemmas
 pub mod PathLemmas
+pub mod CutLemmas
+pub mod TextOrderLemmas
 pub mod PrefixLemmas
+pub mod SortedPathsLemmas
+pub mod TextMapLemmas
 pub mod ForCallers

@@ -11,14 +11,17 @@ pub true_from_T : (b : Bool) → T b → b ≡ true
 true_from_T true holds = refl
 true_from_T false holds = absurd holds
 
+-- what tests as less is less
 pub is_less : (r : Ordering) → is_lt r ≡ true → r ≡ Less
 is_less Less is = refl
 is_less Equal is = absurd (false≢true is)
 is_less Greater is = absurd (false≢true is)
 
+-- what tests as equal is equal
 pub is_equal : (r : Ordering) → is_eq r ≡ true → r ≡ Equal
 is_equal r is = (Equal-is r).0 is
 
+-- what tests as greater is greater
 pub is_greater : (r : Ordering) → is_gt r ≡ true → r ≡ Greater
 is_greater Less is = absurd (false≢true is)
 is_greater Equal is = absurd (false≢true is)

@@ -1,19 +1,15 @@
 -- The parts of a text between its slashes, and the text of names.
-use Rattle.std.proofs.Common.{◌≡◌, ℕ, suc, Ok, Err, ◌+◌, ◌-◌, ◌<◌, ◌≤◌, List, [], ◌∷◌, ◌++◌, length, take, drop, drop-cons, get_or, refl, sym, ap, subst, ◌∙◌, arith, sum_by, eqb, false, true, length-append}
-use mathlib.Core.Bool.{false≢true}
+use Rattle.std.proofs.Common.{◌≡◌, ℕ, Err, ◌+◌, ◌-◌, ◌<◌, ◌≤◌, List, [], ◌∷◌, ◌++◌, length, take, drop, refl, sym, ap, subst, ◌∙◌, arith, sum_by, eqb, true, length-append}
 use Rattle.std.proofs.lemmas.List.{append-nil, length-drop, length-take, take-append-drop}
-use Rattle.std.specs.List.{flat_map, AllByRecursion, AllPass, slice_split, count_by}
+use Rattle.std.specs.List.{flat_map, AllByRecursion, AllPass, slice_split}
 use Rattle.std.proofs.lemmas.Bool.{and_parts}
 use Rattle.std.proofs.lemmas.List.Elements.{All-weaker}
-use Rattle.std.proofs.lemmas.List.Splits.{join_with_byte-slice_split, length-slice_split}
 use Rattle.std.proofs.lemmas.List.Sums.{sum_by-append, sum_by-cons, sum_by-take-drop}
-use Rattle.std.proofs.lemmas.List.Concat.{flat_map-append}
-use Rattle.ext_lines.specs.Prefix.{AppendsPrefix}
 use Rattle.ext_lines.specs.Plain.{is_plain_byte}
 use Rattle.ext_lines.specs.Split.{Lacks}
-use Rattle.ext_lines.proofs.ForCallers.{Differs, appends_after, appends_more, differs, first_part, lacks_append, lacks_cons, lacks_nil, one_part, plain_lacks}
+use Rattle.ext_lines.proofs.ForCallers.{Differs, differs, first_part, lacks_append, lacks_cons, lacks_nil, one_part, plain_lacks}
 use Rattle.ext_text.specs.Name.{IsName, is_name_byte}
-use Rattle.ext_text.specs.Path.{IsPath, IsPartsErr, ReadsPath, path_text, path_parts}
+use Rattle.ext_text.specs.Path.{IsPath, ReadsPath, path_text, path_parts}
 use Rattle.ext_text.specs.declared.path.PathErr.{PathErr}
 use Rattle.ext_text.specs.declared.path.PathErr.TheVariants.{OutOfMemory, BadName, TooLong, TooDeep}
 use Rattle.ext_text.proofs.ListLemmas.{all_append, all_back, all_prefix}
@@ -22,14 +18,6 @@ use Rattle.ext_text.proofs.ListLemmas.{all_append, all_back, all_prefix}
 pub parts_some : (bytes : List ℕ) → 0 < length bytes → path_parts bytes ≡ slice_split (λ b. eqb b 47) bytes
 parts_some [] some = absurd (omega arith)
 parts_some (b ∷ bytes) some = refl
-
--- as many as there are slashes, and one more
-pub length-parts : (bytes : List ℕ) (n : ℕ) → 0 < length bytes → n ≡ count_by (λ b. eqb b 47) bytes + 1 → length (path_parts bytes) ≡ n
-length-parts bytes n some is = ap length (parts_some bytes some) ∙ length-slice_split (λ b. eqb b 47) bytes ∙ sym is
-
--- the text of the parts is the text
-pub text-parts : (bytes : List ℕ) → path_text (slice_split (λ b. eqb b 47) bytes) ≡ bytes
-text-parts bytes = join_with_byte-slice_split 47 bytes
 
 -- the bytes of the names' text: one less than with a slash after each name
 pub length-path_text : (ns : List (List ℕ)) → length (path_text ns) ≡ sum_by (λ n. length n + 1) ns - 1
@@ -43,20 +31,6 @@ length-path_text (n ∷ m ∷ ns) =
 pub path_text-cons : (n : List ℕ) (ns : List (List ℕ)) → path_text (n ∷ ns) ≡ n ++ flat_map (λ m. 47 ∷ m) ns
 path_text-cons n [] = sym (append-nil n)
 path_text-cons n (m ∷ ns) = ap (λ (r : List ℕ). n ++ 47 ∷ r) (path_text-cons m ns)
-
--- a name that was not added whole, after the names before it
-pub below_stops : (old between new : List ℕ) (ns : List (List ℕ)) (i : ℕ) (n : List ℕ) → i < length ns → n ≡ get_or ns i n → between ≡ old ++ flat_map (λ m. 47 ∷ m) (take i ns) → AppendsPrefix between new (47 ∷ n) → AppendsPrefix old new (flat_map (λ m. 47 ∷ m) ns)
-below_stops old between new ns i n lt is whole part =
-    let below : List (List ℕ) → List ℕ = λ ms. flat_map (λ (m : List ℕ). 47 ∷ m) ms in
-    let here : drop i ns ≡ n ∷ drop (suc i) ns = drop-cons ns i n lt ∙ ap (λ (m : List ℕ). m ∷ drop (suc i) ns) (sym is) in
-    let split : below ns ≡ below (take i ns) ++ ((47 ∷ n) ++ below (drop (suc i) ns)) =
-    ap below (sym (take-append-drop i ns)) ∙ flat_map-append (λ (m : List ℕ). 47 ∷ m) (take i ns) (drop i ns) ∙ ap (λ (ms : List (List ℕ)). below (take i ns) ++ below ms) here in
-    subst (AppendsPrefix old new) (sym split) (appends_after old between new (below (take i ns)) ((47 ∷ n) ++ below (drop (suc i) ns)) whole (appends_more between new (47 ∷ n) (below (drop (suc i) ns)) part))
-
--- names below the first that were not added whole, after the first
-pub first_stops : (old between new name first : List ℕ) (below : List (List ℕ)) → between ≡ old ++ name → name ≡ first → AppendsPrefix between new (flat_map (λ m. 47 ∷ m) below) → AppendsPrefix old new (path_text (first ∷ below))
-first_stops old between new name first below whole same part =
-    subst (AppendsPrefix old new) (sym (path_text-cons first below)) (appends_after old between new first (flat_map (λ m. 47 ∷ m) below) (whole ∙ ap (λ (n : List ℕ). old ++ n) same) part)
 
 -- the path of both lists of names
 pub path_of : (prefix after : List (List ℕ)) → AllByRecursion IsName prefix → AllByRecursion IsName after → length prefix + length after ≤ 64 → sum_by (λ n. length n + 1) prefix + sum_by (λ n. length n + 1) after ≤ 4097 → IsPath (prefix ++ after)
@@ -86,39 +60,6 @@ rest_path k p is = record {
   size = omega (arith, length-path_text (drop k p), length-path_text p, sum_by-take-drop (λ (n : List ℕ). length n + 1) p k, is.size);
 }
 
--- a text whose length is not 0
-some_byte : (bytes : List ℕ) → false ≡ eqb (length bytes) 0 → 0 < length bytes
-some_byte [] e = absurd (false≢true e)
-some_byte (b ∷ bytes) e = omega arith
-
-module _ (bytes : List ℕ) (n : ℕ) (some : false ≡ eqb (length bytes) 0) (short : length bytes ≤ 4096) (count : n ≡ count_by (λ b. eqb b 47) bytes + 1) where
-  pub reads_too_deep : 64 < n → ReadsPath bytes (Err TooDeep)
-  reads_too_deep deep = (short, omega (arith, length-parts bytes n (some_byte bytes some) count))
-
-  module _ (few : n ≤ 64) where
-    -- names that are the parts of the text make its path
-    pub reads_path : (names : List (List ℕ)) → names ≡ slice_split (λ b. eqb b 47) bytes → AllByRecursion IsName (slice_split (λ b. eqb b 47) bytes) → ReadsPath bytes (Ok names)
-    reads_path names are each =
-        let parts = parts_some bytes (some_byte bytes some) in
-        let text : path_text names ≡ bytes = ap path_text are ∙ text-parts bytes in
-        let path : IsPath names = record {
-          each = rw are each;
-          depth = omega (arith, ap length are, length-slice_split (λ b. eqb b 47) bytes);
-          size = omega (arith, ap length text);
-        } in
-        (path, are ∙ sym parts, text)
-
-    -- what speaks against the parts speaks against the text
-    pub reads_parts_err : (e : PathErr) → IsPartsErr (slice_split (λ b. eqb b 47) bytes) e → ReadsPath bytes (Err e)
-    reads_parts_err OutOfMemory bad = tt
-    reads_parts_err TooLong bad = absurd bad
-    reads_parts_err TooDeep bad = absurd bad
-    reads_parts_err BadName bad =
-        let parts = parts_some bytes (some_byte bytes some) in
-        (short, omega (arith, length-parts bytes n (some_byte bytes some) count), λ each. bad (rw parts at each))
-
--- ---- the text of a path reads back as the path
-
 name_plain : (name : List ℕ) → IsName name → AllPass is_plain_byte name
 name_plain name is =
     All-weaker (λ c. is_name_byte c ≡ true) (λ c. is_plain_byte c ≡ true) (λ c both. (and_parts _ _ both).0) name is.plain
@@ -144,7 +85,8 @@ split_text (n ∷ m ∷ p) names some =
     first_part 47 (path_text (n ∷ m ∷ p)) n (path_text (m ∷ p)) (record { whole = refl; prefix_lacks = name_lacks n names.0 })
     ∙ ap (λ (l : List (List ℕ)). n ∷ l) (split_text (m ∷ p) names.1 (omega arith))
 
-path_text_some : (p : List (List ℕ)) → AllByRecursion IsName p → 0 < length p → 0 < length (path_text p)
+-- only the root has the empty text
+pub path_text_some : (p : List (List ℕ)) → AllByRecursion IsName p → 0 < length p → 0 < length (path_text p)
 path_text_some [] names some = absurd (omega arith)
 path_text_some (n ∷ []) names some = names.0.non_empty
 path_text_some (n ∷ m ∷ p) names some = omega (arith, length-append n (47 ∷ path_text (m ∷ p)), names.0.non_empty)

@@ -14,34 +14,37 @@ use Rattle.ext_text.specs.Path.{path_cmp, parent, is_prefix, is_proper_prefix}
 use Rattle.ext_text.specs.Order.{paths_total, paths_exact}
 use Rattle.ext_text.proofs.OrderLemmas.{is_equal}
 
--- ---- what ties is equal, and what is equal ties
-
 names_total : IsTotalOrder bytes_cmp
 names_total = nat_list_cmp_total
 
+-- the order of names is antisymmetric
 pub names_exact : IsAntisymmetric bytes_cmp
 names_exact = slice_cmp-IsAntisymmetric nat_cmp-IsAntisymmetric
 
+-- names that tie are the same
 pub same_name : (n m : List ℕ) → eq_by_cmp bytes_cmp n m ≡ true → n ≡ m
 same_name n m tied = names_exact n m (is_equal _ tied)
 
+-- the same name ties
 pub tied_name : (n m : List ℕ) → n ≡ m → eq_by_cmp bytes_cmp n m ≡ true
 tied_name n m same = subst (λ k. eq_by_cmp bytes_cmp n k ≡ true) same (ap is_eq (tied_itself names_total n))
 
+-- paths that tie are the same
 pub same_path : (p q : List (List ℕ)) → eq_by_cmp path_cmp p q ≡ true → p ≡ q
 same_path p q tied = paths_exact p q (is_equal _ tied)
 
+-- the same path ties
 pub tied_path : (p q : List (List ℕ)) → p ≡ q → eq_by_cmp path_cmp p q ≡ true
 tied_path p q same = subst (λ r. eq_by_cmp path_cmp p r ≡ true) same (ap is_eq (tied_itself paths_total p))
 
+-- a path that is not the root has a name
 pub some_name : (p : List (List ℕ)) → p ≢ [] → 0 < length p
 some_name [] some = absurd (some refl)
 some_name (n ∷ p) some = omega arith
 
+-- a name ties with itself
 pub names_tied : (n : List ℕ) → bytes_cmp n n ≡ Equal
 names_tied n = tied_itself names_total n
-
--- ---- prefixes
 
 -- a prefix is what the list begins with
 pub is_prefix-starts_with : (p q : List (List ℕ)) → pointwise (pointwise nat_eq) p (take (length p) q) ≡ is_prefix p q
@@ -50,10 +53,12 @@ is_prefix-starts_with [] (m ∷ q) = refl
 is_prefix-starts_with (n ∷ p) [] = refl
 is_prefix-starts_with (n ∷ p) (m ∷ q) = λ i. texts_ties n m i && is_prefix-starts_with p q i
 
+-- a path is a prefix of itself
 pub prefix_self : (p : List (List ℕ)) → is_prefix p p ≡ true
 prefix_self [] = refl
 prefix_self (n ∷ p) = and_from _ _ (tied_name n n refl) (prefix_self p)
 
+-- a prefix of a prefix is one
 pub prefix_trans : (p q r : List (List ℕ)) → is_prefix p q ≡ true → is_prefix q r ≡ true → is_prefix p r ≡ true
 prefix_trans [] q r first second = refl
 prefix_trans (n ∷ p) [] r first second = absurd (false≢true first)
@@ -63,6 +68,7 @@ prefix_trans (n ∷ p) (m ∷ q) (k ∷ r) first second =
     let y = and_parts (eq_by_cmp bytes_cmp m k) (is_prefix q r) second in
     and_from _ _ (tied_name n k (same_name n m x.0 ∙ same_name m k y.0)) (prefix_trans p q r x.1 y.1)
 
+-- a prefix is no longer
 pub prefix_short : (p q : List (List ℕ)) → is_prefix p q ≡ true → length p ≤ length q
 prefix_short [] q prefix = omega arith
 prefix_short (n ∷ p) [] prefix = absurd (false≢true prefix)
@@ -105,8 +111,6 @@ pub take_prefix : (k : ℕ) (p : List (List ℕ)) → is_prefix (take k p) p ≡
 take_prefix zero p = refl
 take_prefix (suc k) [] = refl
 take_prefix (suc k) (n ∷ p) = and_from _ _ (tied_name n n refl) (take_prefix k p)
-
--- ---- prefixes in path order
 
 -- a proper prefix comes before the whole
 pub prefix_less : (p q : List (List ℕ)) → is_prefix p q ≡ true → length p < length q → path_cmp p q ≡ Less
@@ -156,22 +160,21 @@ convex (n ∷ p) (m ∷ q) (l ∷ r) low high prefix =
     (sym (ap (λ x. is_gt (ordering_then x (path_cmp q r))) tied_end) ∙ high)
     parts.1)
 
--- ---- parents
-
+-- a parent has one name less
 pub length-parent : (p : List (List ℕ)) → 0 < length p → length (parent p) + 1 ≡ length p
 length-parent p some = omega (arith, length-take (length p - 1) p)
 
+-- a parent is a prefix
 pub parent_prefix : (p : List (List ℕ)) → is_prefix (parent p) p ≡ true
 parent_prefix p = take_prefix (length p - 1) p
 
+-- a parent comes before its path
 pub parent_less : (p : List (List ℕ)) → 0 < length p → path_cmp (parent p) p ≡ Less
 parent_less p some = prefix_less (parent p) p (parent_prefix p) (omega (arith, length-parent p some))
 
 -- only the root is its own parent
 pub parent_other : (p : List (List ℕ)) → 0 < length p → parent p ≢ p
 parent_other p some same = absurd (omega (arith, length-parent p some, ap length same))
-
--- ---- prefixes as the first names
 
 prefix_is_first : (p q : List (List ℕ)) → is_prefix p q ≡ true → p ≡ take (length p) q
 prefix_is_first p q prefix =
@@ -181,6 +184,7 @@ prefix_is_first p q prefix =
 first_is_prefix : (p q : List (List ℕ)) → p ≡ take (length p) q → is_prefix p q ≡ true
 first_is_prefix p q first = subst (λ r. is_prefix r q ≡ true) (sym first) (take_prefix (length p) q)
 
+-- a prefix is the first names of a path
 pub prefix_first : (p q : List (List ℕ)) → (is_prefix p q ≡ true) ↔ (p ≡ take (length p) q)
 prefix_first p q = (prefix_is_first p q, first_is_prefix p q)
 

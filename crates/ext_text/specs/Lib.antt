@@ -2,8 +2,13 @@ pub mod Causes
 pub mod Name
 pub mod Prefix
 pub mod Path
+pub mod PathText
 pub mod Digest
 pub mod Order
+pub mod Absolute
+pub mod SortedPaths
+pub mod TextMap
 pub mod Arch
 pub mod Scope
 pub mod Class
+pub mod Extension

@@ -35,13 +35,6 @@ ReadsPath bytes (Err TooLong) = 4096 < length bytes
 ReadsPath bytes (Err TooDeep) = (length bytes ≤ 4096) × (64 < length (path_parts bytes))
 ReadsPath bytes (Err BadName) = (length bytes ≤ 4096) × (length (path_parts bytes) ≤ 64) × ¬ (AllByRecursion IsName (path_parts bytes))
 
--- why the parts of a text are not the names of a path
-abbrev pub IsPartsErr : List (List ℕ) → PathErr → Type 0
-IsPartsErr parts OutOfMemory = Unit {0}
-IsPartsErr parts BadName = ¬ (AllByRecursion IsName parts)
-IsPartsErr parts TooLong = ⊥
-IsPartsErr parts TooDeep = ⊥
-
 -- what `child` and `join` give for the longer path: it is within the limits, or the first limit that it passes
 abbrev pub Lengthens : List (List ℕ) → Result (List (List ℕ)) PathErr → Type 0
 Lengthens longer (Ok path) = IsPath path × (path ≡ longer)

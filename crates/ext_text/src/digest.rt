@@ -2,6 +2,7 @@ ghost use Rattle.std.specs.Prelude.{◌≡◌, ◌↔◌, length, IsSome, IfSome
 ghost use Rattle.std.specs.List.{AllPass};
 ghost use Rattle.hex.specs.Hex.{decode_of, encode_lower, is_hex_digit};
 ghost use Rattle.sha2.specs.Sha256.{sha256};
+ghost use Rattle.ext_text.specs.Digest.{IsDigest};
 
 use ext_lines::hex_digits;
 use hex::FromHex;
@@ -30,10 +31,27 @@ impl Digest {
         }
     }
 
+    /// The bytes, of which there are 32.
+    pub fn bytes(&self) -> &[u8; 32]
+        ensures same { result.now ≡ self.now.0 }
+        ensures digest { IsDigest self.now.0 }
+    {
+        look_at(&self.0);
+        &self.0
+    }
+
     /// The 64 hexadecimal digits that write it, the letters in lower case.
     pub fn digits(&self) -> [u8; 64]
         ensures { result ≡ encode_lower self.now.0 }
     {
         hex_digits(&self.0)
     }
+}
+
+// Says of 32 bytes what a proof knows of a byte that it has seen.
+fn look_at(bytes: &[u8])
+    requires { length bytes.now ≡ 32 }
+    ensures { IsDigest bytes.now }
+{
+    let _count = bytes.len();
 }

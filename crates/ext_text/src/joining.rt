@@ -1,12 +1,14 @@
 // Longer paths: a name, or another path, below a path.
-ghost use Rattle.std.specs.Prelude.{◌≡◌, ◌+◌, ◌≤◌, [], ◌∷◌, ◌++◌, length, IfOk};
-ghost use Rattle.std.specs.List.{AllByRecursion, sum_by};
+ghost use Rattle.std.specs.Prelude.{◌≡◌, ◌+◌, ◌<◌, ◌≤◌, [], ◌∷◌, ◌++◌, length, IfOk};
 ghost use Rattle.ext_text.specs.Name.{IsName};
 ghost use Rattle.ext_text.specs.Path.{IsPath, Lengthens};
+ghost use Rattle.ext_text.specs.PathText.{text_of_both};
 
 use crate::name::Name;
-use crate::path::{MOST_BYTES, MOST_NAMES, Path, PathErr, append_copies};
+use crate::path::{INLINE_BYTES, MOST_BYTES, MOST_NAMES, Path, PathErr};
+use crate::path_ref::PathRef;
 use ext_lines::OutOfMemory;
+use smallvec::SmallVec;
 use std::alloc::Global;
 
 impl Path {
@@ -14,11 +16,22 @@ impl Path {
     ///
     /// # Errors
     /// `TooLong` exactly where the longer path's text has more than 4,096 bytes, else `TooDeep` exactly where it has
-    /// more than 64 names; never `BadName`. `OutOfMemory` may come at any time.
+    /// more than 64 names. `BadName` never comes. `OutOfMemory` may come at any time.
     pub fn child(&self, name: &Name) -> Result<Path, PathErr>
         ensures { Lengthens (self.now ++ name.now ∷ []) result }
     {
-        lengthened(self.allocator(), self.names(), name)
+        self.child_of(name.bytes())
+    }
+
+    /// The path of the name of these bytes below this one.
+    ///
+    /// # Errors
+    /// As for `child`.
+    pub fn child_of(&self, name: &[u8]) -> Result<Path, PathErr>
+        requires { IsName name.now }
+        ensures { Lengthens (self.now ++ name.now ∷ []) result }
+    {
+        self.names().join(self.allocator(), &PathRef::of_name(name))
     }
 
     /// The other path below this one. At the root no `/` counts.
@@ -28,70 +41,60 @@ impl Path {
     pub fn join(&self, other: &Path) -> Result<Path, PathErr>
         ensures { Lengthens (self.now ++ other.now) result }
     {
-        joined(self.allocator(), self.names(), other.names())
+        self.names().join(self.allocator(), &other.names())
     }
 }
 
-// The bytes of the names' text, which are counted with a slash after each name.
-fn text_len(names: &[Name]) -> usize
-    requires few { length names.now ≤ 64 }
-    requires names { AllByRecursion IsName names.now }
-    ensures { result ≡ sum_by (λ n. length n + 1) names.now }
-{
-    let mut bytes = 0;
-    for name in names {
-        bytes += name.bytes().len() + 1;
+impl<'a> PathRef<'a> {
+    /// The path of the other names below these. Each of both are the names of a path.
+    ///
+    /// # Errors
+    /// As for `Path::child`.
+    pub fn join(&self, alloc: Global, other: &PathRef) -> Result<Path, PathErr>
+        requires upper { IsPath self.now }
+        requires lower { IsPath other.now }
+        ensures { Lengthens (self.now ++ other.now) result }
+    {
+        let upper = self.text();
+        let lower = other.text();
+        if len_of_both(upper, lower) > MOST_BYTES {
+            return Err(PathErr::TooLong);
+        }
+        if self.depth() + other.depth() > MOST_NAMES {
+            return Err(PathErr::TooDeep);
+        }
+        Ok(Path::of_text(both(alloc, upper, lower)?))
     }
-    bytes
 }
 
-// The path of the names and one more.
-fn lengthened(alloc: Global, prefix: &[Name], name: &Name) -> Result<Path, PathErr>
-    requires { IsPath prefix.now }
-    ensures { Lengthens (prefix.now ++ name.now ∷ []) result }
+// How many bytes both texts have, one below the other.
+fn len_of_both(upper: &[u8], lower: &[u8]) -> usize
+    requires upper { length upper.now ≤ 4096 }
+    requires lower { length lower.now ≤ 4096 }
+    ensures { result ≡ length (text_of_both upper.now lower.now) }
 {
-    if text_len(prefix) + name.bytes().len() > MOST_BYTES {
-        return Err(PathErr::TooLong);
+    match (upper, lower) {
+        ([], _) => lower.len(),
+        ([_, ..], []) => upper.len(),
+        ([_, ..], [_, ..]) => upper.len() + 1 + lower.len(),
     }
-    if prefix.len() >= MOST_NAMES {
-        return Err(PathErr::TooDeep);
-    }
-    Ok(with_one_more(alloc, prefix, name)?)
 }
 
-// The path of both lists of names, one after the other.
-fn joined(alloc: Global, prefix: &[Name], after: &[Name]) -> Result<Path, PathErr>
-    requires prefix { IsPath prefix.now }
-    requires after { IsPath after.now }
-    ensures { Lengthens (prefix.now ++ after.now) result }
+// Both texts, one below the other.
+fn both(
+    alloc: Global,
+    upper: &[u8],
+    lower: &[u8],
+) -> Result<SmallVec<u8, INLINE_BYTES>, OutOfMemory>
+    requires upper { length upper.now ≤ 4096 }
+    requires lower { length lower.now ≤ 4096 }
+    ensures { IfOk result (λ text. text.items ≡ text_of_both upper.now lower.now) }
 {
-    if text_len(prefix) + text_len(after) > MOST_BYTES + 1 {
-        return Err(PathErr::TooLong);
+    let mut text = SmallVec::with_capacity(alloc, upper.len() + 1 + lower.len())?;
+    text.extend_from_slice(upper)?;
+    if !upper.is_empty() && !lower.is_empty() {
+        text.push(b'/')?;
     }
-    if prefix.len() + after.len() > MOST_NAMES {
-        return Err(PathErr::TooDeep);
-    }
-    Ok(of_both(alloc, prefix, after)?)
-}
-
-// The path of the names and one more, which is within the limits.
-fn with_one_more(alloc: Global, prefix: &[Name], name: &Name) -> Result<Path, OutOfMemory>
-    requires { IsPath (prefix.now ++ name.now ∷ []) }
-    ensures { IfOk result (λ path. path ≡ prefix.now ++ name.now ∷ []) }
-{
-    let mut names = Vec::with_capacity(alloc, prefix.len() + 1)?;
-    append_copies(&mut names, prefix)?;
-    names.push(name.copy()?)?;
-    Ok(Path::from_names(names))
-}
-
-// The path of both lists of names, which is within the limits.
-fn of_both(alloc: Global, prefix: &[Name], after: &[Name]) -> Result<Path, OutOfMemory>
-    requires { IsPath (prefix.now ++ after.now) }
-    ensures { IfOk result (λ path. path ≡ prefix.now ++ after.now) }
-{
-    let mut names = Vec::with_capacity(alloc, prefix.len() + after.len())?;
-    append_copies(&mut names, prefix)?;
-    append_copies(&mut names, after)?;
-    Ok(Path::from_names(names))
+    text.extend_from_slice(lower)?;
+    Ok(text)
 }

@@ -79,7 +79,7 @@ impl<T: Drop> ListOf<T> {
     /// Adds an item at the end.
     ///
     /// # Errors
-    /// `OutOfMemory` alone; the list is then as before.
+    /// `OutOfMemory` alone. The list is then as before.
     pub fn push(&mut self, item: T) -> Result<(), OutOfMemory>
         ensures ok { OnOk result (self.new ≡ self.old ++ item ∷ []) }
         ensures err { OnErr result (self.new ≡ self.old) }

@@ -1,8 +1,9 @@
-ghost use Rattle.std.specs.Prelude.{◌≡◌, ◌↔◌, ◌&&◌, nat_lt, IsTrue, IsUtf8, IfOk};
+ghost use Rattle.std.specs.Prelude.{◌≡◌, ◌↔◌, IsTrue, IsUtf8, IfOk};
 ghost use Rattle.std.specs.List.{AllPass};
-ghost use Rattle.ext_text.specs.Name.{IsName, ReadsName, is_name_byte};
+ghost use Rattle.ext_text.specs.Name.{HasNameShape, IsName, ReadsName, is_name_byte};
 
-use ext_lines::{OutOfMemory, grown, is_plain_byte};
+use crate::plain::are_plain_ascii;
+use ext_lines::{OutOfMemory, allocated, is_plain_byte};
 use smallvec::SmallVec;
 use std::alloc::Global;
 use std::marker::Model;
@@ -63,14 +64,20 @@ fn is_name_byte(byte: u8) -> bool
 }
 
 // The rule of names.
-fn is_name(bytes: &[u8]) -> bool
+pub(crate) fn is_name(bytes: &[u8]) -> bool
     ensures { IsTrue result ↔ IsName bytes.now }
+{
+    has_name_shape(bytes) && is_name_text(bytes)
+}
+
+// What the rule says of a name's length and of its dots.
+pub(crate) fn has_name_shape(bytes: &[u8]) -> bool
+    ensures { IsTrue result ↔ HasNameShape bytes.now }
 {
     !bytes.is_empty()
         && bytes.len() <= MOST_BYTES
         && bytes != b".".as_slice()
         && bytes != b"..".as_slice()
-        && is_name_text(bytes)
 }
 
 // Text of name bytes. Most names are ASCII, which is text by its bytes alone.
@@ -83,24 +90,18 @@ fn is_name_text(bytes: &[u8]) -> bool
 
 // Name bytes of ASCII alone.
 fn is_ascii_name_text(bytes: &[u8]) -> bool
-    ensures { IsTrue result ↔ AllPass (λ b. is_name_byte b && nat_lt b 128) bytes.now }
+    ensures { IsTrue result → (AllPass is_name_byte bytes.now × IsUtf8 bytes.now) }
 {
-    bytes.iter().all(|byte| is_ascii_name_byte(*byte))
-}
-
-// A name byte of ASCII.
-fn is_ascii_name_byte(byte: u8) -> bool
-    ensures { result ≡ (is_name_byte byte && nat_lt byte 128) }
-{
-    byte >= b' ' && byte < 0x7F && byte != b'/'
+    are_plain_ascii(bytes) && !bytes.contains(&b'/')
 }
 
 impl Name {
     /// The name of these bytes.
     ///
     /// # Errors
-    /// `BadName` exactly where the bytes are empty, more than 255, `.` or `..`, hold a `/`, a byte below 0x20 or 0x7F,
-    /// or are no UTF-8; `OutOfMemory`.
+    /// - `BadName` exactly where the bytes are empty, more than 255, `.` or `..`, hold a `/`, a byte below 0x20 or
+    ///   0x7F, or are no UTF-8.
+    /// - `OutOfMemory`.
     pub fn read(alloc: Global, bytes: &[u8]) -> Result<Name, NameErr>
         ensures { ReadsName bytes.now result }
     {
@@ -108,7 +109,20 @@ impl Name {
             return Err(NameErr::BadName);
         }
         Ok(Name {
-            bytes: grown(SmallVec::from_slice(alloc, bytes))?,
+            bytes: allocated(SmallVec::from_slice(alloc, bytes))?,
+        })
+    }
+
+    /// The name of these bytes, which are one.
+    ///
+    /// # Errors
+    /// `OutOfMemory` alone.
+    pub fn of_bytes(alloc: Global, bytes: &[u8]) -> Result<Name, OutOfMemory>
+        requires { IsName bytes.now }
+        ensures { IfOk result (λ name. name ≡ bytes.now) }
+    {
+        Ok(Name {
+            bytes: SmallVec::from_slice(alloc, bytes)?,
         })
     }
 

@@ -7,11 +7,14 @@ ghost use Rattle.std.specs.Hash as fed;
 ghost use Rattle.std.proofs.Common.{rules, refl};
 ghost use Rattle.ext_lines.specs.ByteOrder.{bytes_cmp};
 ghost use Rattle.ext_text.specs.Path.{path_cmp};
+ghost use Rattle.std.specs.List.{flat_map, fold};
 ghost use Rattle.ext_text.specs.Order.{paths_alike, paths_po};
 
 use crate::name::Name;
 use crate::path::Path;
+use crate::path_ref::PathRef;
 use crate::text::Text;
+use crate::text_order::cmp_text;
 use std::cmp::Ordering;
 use std::hash::{Hash, Hasher};
 
@@ -117,7 +120,7 @@ impl PartialEq for Path {
     ghost laws = { partial_equiv_from_equiv (lists_equiv nat_list_eq_equiv) };
 
     fn eq(&self, other: &Path) -> bool {
-        self.names() == other.names()
+        self.text() == other.text()
     }
 }
 
@@ -145,7 +148,7 @@ impl Ord for Path {
     ghost matches_eq = { lists_ties bytes_cmp texts_ties };
 
     fn cmp(&self, other: &Path) -> Ordering {
-        self.names().cmp(other.names())
+        cmp_text(self.text(), other.text())
     }
 }
 
@@ -155,6 +158,59 @@ impl Hash for Path {
     ghost respects_eq = { paths_alike.fed };
 
     fn hash<H: Hasher>(&self, state: &mut H) {
-        self.names().hash(state);
+        let names = self.names();
+        state.write_usize(names.depth());
+        hash_each(&names, state);
+    }
+}
+
+// Feeds each of the names.
+fn hash_each<H: Hasher>(names: &PathRef, state: &mut H)
+    ensures { state.new ≡ fold H.write state.old (flat_map (fed.slice fed.u8) names.now) }
+{
+    match names.split_first() {
+        None => {}
+        Some((first, below)) => {
+            first.hash(state);
+            hash_each(&below, state);
+        }
+    }
+}
+
+impl<'a> PartialEq for PathRef<'a> {
+    ghost eq = { pointwise (pointwise nat_eq) };
+
+    ghost laws = { partial_equiv_from_equiv (lists_equiv nat_list_eq_equiv) };
+
+    fn eq(&self, other: &PathRef<'a>) -> bool {
+        self.text() == other.text()
+    }
+}
+
+impl<'a> Eq for PathRef<'a> {
+    ghost laws = { lists_equiv nat_list_eq_equiv };
+}
+
+impl<'a> PartialOrd for PathRef<'a> {
+    ghost partial_cmp = { λ x y. Some (path_cmp x y) };
+
+    ghost laws = { paths_po };
+
+    fn partial_cmp(&self, other: &PathRef<'a>) -> Option<Ordering> {
+        Some(self.cmp(other))
+    }
+}
+
+impl<'a> Ord for PathRef<'a> {
+    ghost cmp = { path_cmp };
+
+    ghost total = { lists_total nat_list_cmp_total };
+
+    ghost matches_partial_cmp = { λ x y. refl };
+
+    ghost matches_eq = { lists_ties bytes_cmp texts_ties };
+
+    fn cmp(&self, other: &PathRef<'a>) -> Ordering {
+        cmp_text(self.text(), other.text())
     }
 }

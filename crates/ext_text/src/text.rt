@@ -50,7 +50,7 @@ impl Text {
     /// Adds bytes at the end.
     ///
     /// # Errors
-    /// `OutOfMemory` alone; the text is then as before.
+    /// `OutOfMemory` alone. The text is then as before.
     pub fn append(&mut self, bytes: &[u8]) -> Result<(), OutOfMemory>
         ensures ok { OnOk result (self.new ≡ self.old ++ bytes.now) }
         ensures err { OnErr result (self.new ≡ self.old) }

@@ -15,9 +15,9 @@ use Rattle.ext_cmd.specs.declared.answer.Answer.TheVariants.{Order, Tree}
 use Rattle.ext_cmd.specs.declared.command.Command.{Command}
 use Rattle.ext_cmd.specs.declared.command.Command.TheVariants.{Compare, Layer}
 use Rattle.ext_cmd.specs.declared.refusal.Refusal.TheVariants.{BadTree, Limit}
-use Rattle.ext_step.specs.Layer.{LayersWant, LayerWants}
-use Rattle.ext_step.specs.declared.intent.Intent.{Intent}
-use Rattle.ext_step.specs.declared.intent.Intent.TheVariants.{Changes, Answers, Checks, Shows, Refuses}
+use Rattle.ext_intents.specs.Layer.{LayersWant, LayerWants}
+use Rattle.ext_intents.specs.declared.intent.Intent.{Intent}
+use Rattle.ext_intents.specs.declared.intent.Intent.TheVariants.{Changes, Answers, Checks, Shows, Refuses}
 use Rattle.ext_top.specs.Alone.{AloneWants, ComesAlone, Says}
 use Rattle.ext_top.specs.Machine.{Outcome, gives}
 

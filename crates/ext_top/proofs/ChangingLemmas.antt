@@ -1,7 +1,7 @@
 -- A command that may change nothing wants no other host, so a run of it leaves the disk as it was.
 use Rattle.std.proofs.Common.{◌≡◌, ℕ, Bool, true, false, List, [], ◌∷◌, ◌⊎◌, inl, inr, Option, Some, None, refl, sym, ◌∙◌, ap, subst, if◌then◌else◌, arith}
-use Rattle.ext_text.specs.declared.class.Class.{Class}
-use Rattle.ext_text.specs.declared.class.Class.TheVariants as classes
+use Rattle.ext_text.specs.declared.extension.Extension.{Extension}
+use Rattle.ext_text.specs.declared.extension.Extension.TheVariants as extensions
 use Rattle.ext_tree.specs.Tree.{is_directory, lookup}
 use Rattle.ext_tree.specs.declared.entry.Entry.{Entry}
 use Rattle.ext_tree.specs.declared.entry.Entry.TheVariants.{Dir, Opaque, File, Link, Hide}
@@ -10,7 +10,7 @@ use Rattle.ext_depot.specs.Depot.{DepotState}
 use Rattle.ext_host.specs.Held.{HeldFile}
 use Rattle.ext_host.specs.Shelf.{Told as ToldFile}
 use Rattle.ext_host.specs.declared.host.Host.{Host}
-use Rattle.ext_store.proofs.ForCallers.{told_map}
+use Rattle.ext_store_files.proofs.ForCallers.{told_map}
 use Rattle.ext_gen.specs.Opened.{Generation}
 use Rattle.ext_cmd.proofs.ForCallers.{one_command}
 use Rattle.ext_cmd.specs.Words.{IsWellFormed, command_words}
@@ -20,21 +20,19 @@ use Rattle.ext_cmd.specs.declared.command.ViewCommand.{ViewCommand}
 use Rattle.ext_cmd.specs.declared.command.ViewCommand.TheVariants as views
 use Rattle.ext_cmd.specs.declared.answer.Answer.TheVariants as answers
 use Rattle.ext_cmd.specs.declared.refusal.Refusal.TheVariants as refusals
-use Rattle.ext_step.specs.Cat.{cat_at, cat_intent}
-use Rattle.ext_step.specs.Intents.{Seen}
-use Rattle.ext_step.specs.Step.{Wants, WantsFirst, WantsOf, is_of_store}
-use Rattle.ext_step.specs.Tree.{meant_path, text_below, tree_at, tree_intent}
-use Rattle.ext_step.specs.Views.{ListWants, ViewWants}
-use Rattle.ext_step.specs.declared.intent.Intent.{Intent}
-use Rattle.ext_step.specs.declared.intent.Intent.TheVariants.{Answers, Refuses}
+use Rattle.ext_intents.specs.Cat.{cat_at, cat_intent}
+use Rattle.ext_intents.specs.Intents.{Seen}
+use Rattle.ext_intents.specs.Step.{Wants, WantsFirst, WantsOf, is_of_store}
+use Rattle.ext_intents.specs.Tree.{meant_path, text_below, tree_at, tree_intent}
+use Rattle.ext_intents.specs.Views.{ListWants, ViewWants}
+use Rattle.ext_intents.specs.declared.intent.Intent.{Intent}
+use Rattle.ext_intents.specs.declared.intent.Intent.TheVariants.{Answers, Refuses}
 use Rattle.ext_top.specs.Applying.{seen_on}
 use Rattle.ext_top.specs.Changing.{StaysUnlessChanging, may_change, may_view_change}
 use Rattle.ext_top.specs.Running.{Devices, RunWorks, Runs, RunsCommand, RunsKind}
-use Rattle.ext_top.specs.Working.{StaysTold, WantsOn, WorksFor, WorksTold, next_of}
+use Rattle.ext_top.specs.Working.{StaysTold, WantsOn, WorksFor, WorksAsWanted, next_of}
 use Rattle.ext_top.specs.declared.status.Status.{Status}
 use Rattle.ext_top.specs.declared.status.Status.TheVariants.{Done, Refused, Usage, ReadFault, WriteFault, DiskFault, DepotFault, OutOfMemory, BadStore, Unfinished, TooLong}
-
--- ---- what is wanted
 
 no_next_below : (host : Host) (path : List (List ℕ)) (directory : Bool) → next_of (if directory then Answers (answers.Tree (text_below host path)) else Refuses (refusals.NotDirectory path)) ≡ None
 no_next_below host path true = refl
@@ -56,11 +54,11 @@ no_next_of_cat path (Some (File mode held)) = refl
 no_next_of_cat path (Some (Link target)) = refl
 no_next_of_cat path (Some Hide) = refl
 
-no_next_of_list : (host : Host) (told : HeldFile → ToldFile) (class : Class) (intent : Intent) → ListWants host told class intent → next_of intent ≡ None
+no_next_of_list : (host : Host) (told : HeldFile → ToldFile) (class : Extension) (intent : Intent) → ListWants host told class intent → next_of intent ≡ None
 no_next_of_list host told class intent (base, is, inl (items, survey, same)) = ap next_of same
 no_next_of_list host told class intent (base, is, inr (refusal, why, same)) = ap next_of same
 
-no_next_of_view : (host : Host) (told : HeldFile → ToldFile) (class : Class) (view : ViewCommand) (intent : Intent) → may_view_change view ≡ false → ViewWants host told class view intent → next_of intent ≡ None
+no_next_of_view : (host : Host) (told : HeldFile → ToldFile) (class : Extension) (view : ViewCommand) (intent : Intent) → may_view_change view ≡ false → ViewWants host told class view intent → next_of intent ≡ None
 no_next_of_view host told class views.List intent reads wants = no_next_of_list host told class intent wants
 no_next_of_view host told class views.Status intent reads wants = ap next_of wants
 no_next_of_view host told class (views.Merge force) intent reads wants = cc
@@ -71,8 +69,8 @@ no_next_seen : (seen : Seen) (depot : DepotState) (command : Command) (intent : 
 no_next_seen seen depot (Init arch scope hierarchies) intent reads wants = cc
 no_next_seen seen depot (ImportFs resource path) intent reads wants = cc
 no_next_seen seen depot (Remove path) intent reads wants = cc
-no_next_seen seen depot (Sysext view) intent reads wants = no_next_of_view seen.host seen.told classes.Sysext view intent reads wants
-no_next_seen seen depot (Confext view) intent reads wants = no_next_of_view seen.host seen.told classes.Confext view intent reads wants
+no_next_seen seen depot (Sysext view) intent reads wants = no_next_of_view seen.host seen.told extensions.Sysext view intent reads wants
+no_next_seen seen depot (Confext view) intent reads wants = no_next_of_view seen.host seen.told extensions.Confext view intent reads wants
 no_next_seen seen depot (Tree path) intent reads wants = ap next_of wants ∙ no_next_of_tree seen.host (meant_path path)
 no_next_seen seen depot (Cat path) intent reads wants = ap next_of wants ∙ no_next_of_cat path (lookup seen.host.root path)
 no_next_seen seen depot (Compare a b) intent reads wants = absurd wants
@@ -97,11 +95,9 @@ no_next : (seen : Option Seen) (depot : DepotState) (command : Command) (intent 
 no_next None depot command intent reads wants = no_next_first command intent reads wants
 no_next (Some seen) depot command intent reads wants = no_next_seen seen depot command intent reads wants
 
--- ---- what is done
-
 works_stay : (W : Intent → Type 0) (from : Option Generation) (d e : Told) → ((intent : Intent) → W intent → next_of intent ≡ None) → WorksFor W from d e → StaysTold d e
 works_stay W from d e none (inl still) = still
-works_stay W from d e none (inr (intent, wants, works)) = subst (λ next. WorksTold from next d e) (none intent wants) works
+works_stay W from d e none (inr (intent, wants, works)) = subst (λ next. WorksAsWanted from next d e) (none intent wants) works
 
 run_stays : (command : Command) (disk : DiskState) (depot : DepotState) (d e : Told) → may_change command ≡ false → RunWorks command disk depot d e → StaysTold d e
 run_stays command disk depot d e reads (inl still) = still

@@ -25,9 +25,7 @@ use Rattle.ext_index.specs.ValidIndex.{IsWellFormed, IsWellFormedTree}
 use Rattle.ext_gen.specs.Checking as gen
 use Rattle.ext_gen.specs.Checking.{files_of, files_of_both, files_of_host, files_of_past, sizes_of}
 use Rattle.ext_gen.specs.Preparing.{trees_of_pasts}
-use Rattle.ext_step.specs.Check.{files_in, host_bytes, host_files}
-
--- ---- each file of a host is one of its trees
+use Rattle.ext_intents.specs.Check.{files_in, host_bytes, host_files}
 
 -- what holds at each index holds of each
 by_index : {X : Type 0} (P : X → Type 0) (xs : List X) → ((i : ℕ) (x : X) → slice_get xs i ≡ Some x → P x) → AllByRecursion P xs
@@ -89,8 +87,6 @@ file_of_host host before after held formed is =
 pub kept_is_listed : (trees : List (Entries HeldFile)) (held : HeldFile) (home : Home) (listed : Stamp) → IsKeptAs held home listed → IsFileOf trees held → lists_kept trees listed home
 kept_is_listed trees held home listed kept file =
     subst (IsFileOf trees) (λ i. record { stamp = kept.stamp i; body = kept.body i }) file
-
--- ---- how many they are, and how many bytes they have
 
 -- a measure of files that adds up, and the same measure of trees
 record Measure : Type 1 where

@@ -12,19 +12,17 @@ use Rattle.ext_cmd.specs.Words.{IsCommand}
 use Rattle.ext_cmd.specs.declared.command.Command.{Command}
 use Rattle.ext_cmd.specs.declared.refusal.Refusal.{Refusal}
 use Rattle.ext_cmd.proofs.ForCallers.{no_fault, one_command}
-use Rattle.ext_step.specs.Step.{is_of_store}
+use Rattle.ext_intents.specs.Step.{is_of_store}
 use Rattle.ext_top.specs.Alone.{reads_source}
 use Rattle.ext_top.specs.Completing.{Completes, IsAnswered, NoneRose, TellsSound, TellsWithin}
-use Rattle.ext_top.specs.Exits.{Ends, Line, Standing, StopsAt, does}
+use Rattle.ext_top.specs.Exits.{EndsLines, Line, Standing, StopsWith, does}
 use Rattle.ext_top.specs.Machine.{refusal_of}
-use Rattle.ext_top.specs.Running.{Devices, EndsAlone, IsCrowdedNow, Runs, RunsClosed, RunsCommand, RunsKind, RunsOpened, RunsSound, RunsStore, StoreSide, TakesSome, most_source, status_of, store_side, streams}
+use Rattle.ext_top.specs.Running.{Devices, EndsAlone, HasTooManyLeftOversNow, Runs, RunsClosed, RunsCommand, RunsKind, RunsOpened, RunsSound, RunsStore, StoreSide, TakesSome, most_source, status_of, store_side, streams}
 use Rattle.ext_top.specs.declared.bad_store.BadStore as reasons
 use Rattle.ext_top.specs.declared.status.Status.{Status}
 use Rattle.ext_top.specs.declared.status.Status.TheVariants.{Done, Refused, Usage, ReadFault, WriteFault, DiskFault, DepotFault, OutOfMemory, BadStore, Unfinished, TooLong}
 use Rattle.ext_top.specs.declared.stop.Stop.{Stop}
 use Rattle.ext_top.specs.declared.stop.Stop.TheVariants as stops
-
--- ---- commands that look at no store
 
 -- a source can't give more than it has
 not_too_long : (reads : Bool) (old new : SourceState) → reads ≡ true → TellsWithin reads old → ¬ TakesSome reads old new (λ n. n ≡ most_source + 1)
@@ -44,10 +42,8 @@ alone_answered command old new (BadStore why) ends tells none = absurd ends
 alone_answered command old new Unfinished ends tells none = absurd ends
 alone_answered command old new TooLong ends tells none = absurd (not_too_long (reads_source command) old.source new.source ends.0 tells ends.1.source)
 
--- ---- commands over a store
-
 -- the status of a bad store is that of no line that the table of exits has
-no_bad_stop : (stop : Stop) (why : reasons.BadStore) (s : State) (depot : DepotState) (line : Line) (standing : Standing) (part : List ℕ) → BadStore why ≡ status_of false (Err stop) → ¬ StopsAt stop s depot line standing part
+no_bad_stop : (stop : Stop) (why : reasons.BadStore) (s : State) (depot : DepotState) (line : Line) (standing : Standing) (part : List ℕ) → BadStore why ≡ status_of false (Err stop) → ¬ StopsWith stop s depot line standing part
 no_bad_stop stops.WriteFault why s depot line standing part is stops = cc
 no_bad_stop stops.DiskFault why s depot line standing part is stops = cc
 no_bad_stop stops.DepotFault why s depot line standing part is stops = cc
@@ -56,12 +52,12 @@ no_bad_stop (stops.BadStore other) why s depot line standing part is stops = sto
 no_bad_stop stops.Unfinished why s depot line standing part is stops = cc
 
 no_bad_end : (result : Result (Option Refusal) Stop) (why : reasons.BadStore) (s : State) (depot : DepotState) (line : Line) (standing : Standing) (bytes : List ℕ) → BadStore why ≡ status_of false result
-    → ¬ Ends None s depot (line ∷ []) result standing bytes
+    → ¬ EndsLines None s depot (line ∷ []) result standing bytes
 no_bad_end (Ok None) why s depot line standing bytes is ends = cc
 no_bad_end (Ok (Some refusal)) why s depot line standing bytes is ends = cc
 no_bad_end (Err stop) why s depot line standing bytes is (inl (other, same, stops)) =
     let one : other ≡ stop = cc in
-    no_bad_stop stop why s depot line standing bytes is (subst (λ x. StopsAt x s depot line standing bytes) one stops)
+    no_bad_stop stop why s depot line standing bytes is (subst (λ x. StopsWith x s depot line standing bytes) one stops)
 no_bad_end (Err stop) why s depot line standing bytes is (inr (outcome, more, comes, parts, ends)) = let never : Err stop ≡ Ok (refusal_of outcome) = ends.0 in cc
 
 not_closed : (why : reasons.BadStore) → ¬ ((BadStore why ≡ DiskFault) ⊎ (BadStore why ≡ OutOfMemory))
@@ -76,7 +72,7 @@ not_bad : (line : Line) (depot : DepotState) (k l : SinkState) (why : reasons.Ba
 not_bad line depot k l why d None sound runs = runs
 not_bad line depot k l why d (Some e) sound runs = no_bad_run line depot k l why d e (runs sound).1
 
-store_answered : (line : Line) (old new : StoreSide) (status : Status) (d : Told) → old.disk.told ≡ Some d → IsSound d.places → ¬ IsCrowdedNow d → ¬ Rose old.sink.faults new.sink.faults → ¬ Rose old.disk.faults new.disk.faults
+store_answered : (line : Line) (old new : StoreSide) (status : Status) (d : Told) → old.disk.told ≡ Some d → IsSound d.places → ¬ HasTooManyLeftOversNow d → ¬ Rose old.sink.faults new.sink.faults → ¬ Rose old.disk.faults new.disk.faults
     → ¬ Rose old.depot.faults new.depot.faults → RunsStore false (line ∷ []) old new status → IsAnswered status
 store_answered line old new Done d told sound few sink disk depot runs = tt
 store_answered line old new (Refused refusal) d told sound few sink disk depot runs = tt
@@ -88,10 +84,8 @@ store_answered line old new DepotFault d told sound few sink disk depot runs = a
 store_answered line old new OutOfMemory d told sound few sink disk depot runs = tt
 store_answered line old new (BadStore why) d told sound few sink disk depot runs =
     absurd (not_bad line old.depot old.sink new.sink why d new.disk.told sound (subst (λ x. BothTold (RunsSound false (line ∷ []) old.depot old.sink new.sink (BadStore why)) x new.disk.told) told runs.sound))
-store_answered line old new Unfinished d told sound few sink disk depot runs = absurd (few (subst (λ x. IfSome x IsCrowdedNow) told runs.cause))
+store_answered line old new Unfinished d told sound few sink disk depot runs = absurd (few (subst (λ x. IfSome x HasTooManyLeftOversNow) told runs.cause))
 store_answered line old new TooLong d told sound few sink disk depot runs = absurd runs.cause
-
--- ---- both
 
 kind_answered : (of_store : Bool) (command : Command) (old new : Devices) (status : Status) → RunsKind of_store command old new status → TellsWithin (reads_source command) old.source → TellsSound of_store old.disk → NoneRose old new → IsAnswered status
 kind_answered true command old new status runs within (d, told, sound, few) none =

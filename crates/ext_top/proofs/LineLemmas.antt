@@ -12,25 +12,26 @@ use Rattle.ext_host.specs.Shelf.{IsFound, stored}
 use Rattle.ext_host.specs.declared.body.Body.{Body}
 use Rattle.ext_host.specs.declared.body.Body.TheVariants.{Here, Kept, Depot}
 use Rattle.ext_host.specs.declared.home.Home.{Home}
-use Rattle.ext_store.specs.HeldFiles.{body_told, told_at}
-use Rattle.ext_store.specs.Names.{home_path}
+use Rattle.ext_store_files.specs.HeldFiles.{body_told, told_at}
+use Rattle.ext_store_files.specs.Names.{home_path}
 use Rattle.ext_homes.specs.Giving.{trees_before}
 use Rattle.ext_index.specs.ValidIndex.{IsKeptUpTo}
 use Rattle.ext_gen.specs.Opened.{Generation}
 use Rattle.ext_gen.specs.Preparing.{host_before}
 use Rattle.ext_gen.specs.Store.{State, none, at, Stands, generation_in}
-use Rattle.ext_gen.specs.Sound.{IsFirmly, StandsSince}
+use Rattle.ext_gen.specs.Sound.{IsDurably, StandsSince}
 use Rattle.ext_gen.proofs.ForCallers.{current_is_opened, opened_is_valid_for, stands_since_wider}
 use Rattle.ext_cmd.specs.declared.command.Command.{Command}
 use Rattle.ext_cmd.specs.declared.refusal.Refusal.{Refusal}
 use Rattle.ext_top.specs.Applying.{AppliesEnds, AppliesTold, ApplyCause, IsPassed, IsReply, IsServedReply, IsShownReply}
-use Rattle.ext_top.specs.Exits.{IsOnTheWay, Standing, StandsAs, StopsAt, between, does, firm}
+use Rattle.ext_top.specs.Exits.{IsOnTheWay, Standing, StandsAs, StopsWith, between, does, durable}
 use Rattle.ext_top.specs.Lines.{LineCause, LineEnds, LineStops, LineTold, stop_of_apply}
 use Rattle.ext_top.specs.Machine.{Outcome, Step, bytes_at, gives, refuses, shows, state_after, trees_in}
 use Rattle.ext_top.specs.Replying.{FileCause, ReplyCause, TextCause, WritesPartly, WritesRefusal, WritesReply, WritesText}
 use Rattle.ext_top.specs.declared.applied.Reply.{Reply}
 use Rattle.ext_top.specs.declared.applied.Reply.TheVariants.{Text, File, Refused}
 use Rattle.ext_top.specs.declared.apply_err.ApplyErr.{ApplyErr}
+use Rattle.ext_store_files.specs.declared.fault.StoreFault.TheVariants as store_faults
 use Rattle.ext_top.specs.declared.apply_err.ApplyErr.TheVariants as apply_errors
 use Rattle.ext_top.specs.declared.bad_store.BadStore.TheVariants.{Broken, Damaged}
 use Rattle.ext_top.specs.declared.lines.Written.{Written}
@@ -47,20 +48,18 @@ adds_nothing (Some xs) = sym (append-nil xs)
 same_sink : (k l : SinkState) → l ≡ k → Appends k.written l.written []
 same_sink k l same = subst (λ (m : SinkState). Appends k.written m.written []) (sym same) (adds_nothing k.written)
 
--- ---- a command that was not carried out
-
-stopped : (s : State) (depot : DepotState) (command : Command) (k : SinkState) (e : Places) (stop : Stop) (standing : Standing) → StopsAt stop s depot (does command) standing [] → StandsAs standing e
+stopped : (s : State) (depot : DepotState) (command : Command) (k : SinkState) (e : Places) (stop : Stop) (standing : Standing) → StopsWith stop s depot (does command) standing [] → StandsAs standing e
     → LineStops (does command) s depot k k e stop
 stopped s depot command k e stop standing stops stands = record { standing = standing; part = []; stops = stops; appends = adds_nothing k.written; stands = stands }
 
 undone_ends : (s : State) (depot : DepotState) (command : Command) (k : SinkState) (error : ApplyErr) (e : Places) → AppliesEnds (Step s depot command) s (Err error) e → LineStops (does command) s depot k k e (stop_of_apply error)
-undone_ends s depot command k apply_errors.DiskFault e (inl firmly) = stopped s depot command k e DiskFault (firm s) (inl (refl, refl)) firmly
-undone_ends s depot command k apply_errors.DiskFault e (inr (outcome, step, either)) =
+undone_ends s depot command k (apply_errors.Fault store_faults.DiskFault) e (inl durably) = stopped s depot command k e DiskFault (durable s) (inl (refl, refl)) durably
+undone_ends s depot command k (apply_errors.Fault store_faults.DiskFault) e (inr (outcome, step, either)) =
     stopped s depot command k e DiskFault (between s (state_after s outcome)) (inr (inl (record { outcome = outcome; comes = step; stands = refl; nothing = refl }))) either
-undone_ends s depot command k apply_errors.DepotFault e firmly = stopped s depot command k e DepotFault (firm s) (refl, refl) firmly
-undone_ends s depot command k (apply_errors.Damaged home listed found) e never = absurd never
-undone_ends s depot command k apply_errors.Unfinished e firmly = stopped s depot command k e Unfinished (firm s) (refl, refl) firmly
-undone_ends s depot command k apply_errors.OutOfMemory e firmly = stopped s depot command k e OutOfMemory (firm s) (inl (refl, refl)) firmly
+undone_ends s depot command k (apply_errors.Fault store_faults.DepotFault) e durably = stopped s depot command k e DepotFault (durable s) (refl, refl) durably
+undone_ends s depot command k (apply_errors.Fault (store_faults.Damaged damage)) e never = absurd never
+undone_ends s depot command k apply_errors.Unfinished e durably = stopped s depot command k e Unfinished (durable s) (refl, refl) durably
+undone_ends s depot command k (apply_errors.Fault store_faults.OutOfMemory) e durably = stopped s depot command k e OutOfMemory (durable s) (inl (refl, refl)) durably
 
 on_the_way : (s x : State) (depot : DepotState) (command : Command) → IsPassed (Step s depot command) s x → IsOnTheWay s depot (does command ∷ []) x
 on_the_way s x depot command (inl is) = inl is
@@ -71,8 +70,8 @@ line_since s depot command e m since = stands_since_wider (IsPassed (Step s depo
 
 undone_told : (depot : DepotState) (command : Command) (opened : Option Generation) (k : SinkState) (error : ApplyErr) (d e : Told) → AppliesTold (λ s. Step s depot command) opened (Err error) d e
     → LineTold (does command) opened depot k k (Err (stop_of_apply error)) d e
-undone_told depot command opened k error d e applies = λ s is firmly.
-    let of = applies s is firmly in
+undone_told depot command opened k error d e applies = λ s is durably.
+    let of = applies s is durably in
     record { ends = undone_ends s depot command k error e.places of.ends; since = line_since s depot command e d.clock of.since }
 
 pub undone_line : (depot : DepotState) (command : Command) (opened : Option Generation) (k : SinkState) (error : ApplyErr) (x y : Option Told) → BothTold (AppliesTold (λ s. Step s depot command) opened (Err error)) x y
@@ -83,13 +82,11 @@ undone_line depot command opened k error (Some d) None applies = absurd applies
 undone_line depot command opened k error (Some d) (Some e) applies = undone_told depot command opened k error d e applies
 
 pub undone_cause : (opened : Option Generation) (k l : SinkState) (d e : DiskState) (before after : DepotState) (error : ApplyErr) → ApplyCause opened d e before after error → LineCause opened k l d e before after (stop_of_apply error)
-undone_cause opened k l d e before after apply_errors.DiskFault cause = cause
-undone_cause opened k l d e before after apply_errors.DepotFault cause = cause
-undone_cause opened k l d e before after (apply_errors.Damaged home listed found) cause = cause
+undone_cause opened k l d e before after (apply_errors.Fault store_faults.DiskFault) cause = cause
+undone_cause opened k l d e before after (apply_errors.Fault store_faults.DepotFault) cause = cause
+undone_cause opened k l d e before after (apply_errors.Fault (store_faults.Damaged damage)) cause = cause
 undone_cause opened k l d e before after apply_errors.Unfinished cause = cause
-undone_cause opened k l d e before after apply_errors.OutOfMemory cause = tt
-
--- ---- a reply that was written, or not
+undone_cause opened k l d e before after (apply_errors.Fault store_faults.OutOfMemory) cause = tt
 
 kept_in : (g : Generation) (d : Told) (held : HeldFile) (contents : Home → List ℕ) → Stands (now d.places) (at g contents) → IsFileOf (trees_in (at g contents)) held → IsKeptUpTo g.number held.body
 kept_in g d held contents stands file = (opened_is_valid_for g (current_is_opened g (now d.places) stands.0)).kept held file
@@ -111,80 +108,80 @@ abbrev pub written_of : Option Generation → Result (Option Refusal) Stop → R
 written_of opened (Ok last) = Ok (record { opened = opened; refusal = last })
 written_of opened (Err stop) = Err stop
 
-shown_ends : (s : State) (depot : DepotState) (command : Command) (k l : SinkState) (e : Places) (bytes : List ℕ) (opened : Option Generation) (result : Result (Option Refusal) Stop) → Step s depot command (shows bytes) → opened ≡ generation_in s → IsFirmly s e
+shown_ends : (s : State) (depot : DepotState) (command : Command) (k l : SinkState) (e : Places) (bytes : List ℕ) (opened : Option Generation) (result : Result (Option Refusal) Stop) → Step s depot command (shows bytes) → opened ≡ generation_in s → IsDurably s e
     → WritesPartly bytes k l result → IfOk result (λ last. last ≡ None) → LineEnds (does command) s depot k l e (written_of opened result)
-shown_ends s depot command k l e bytes opened (Ok last) step is firmly writes nothing = record { outcome = shows bytes; comes = step; opened = is; refusal = nothing; appends = writes; firmly = firmly }
-shown_ends s depot command k l e bytes opened (Err WriteFault) step is firmly (prefix, proper, appends) nothing = record {
-  standing = firm s;
+shown_ends s depot command k l e bytes opened (Ok last) step is durably writes nothing = record { outcome = shows bytes; comes = step; opened = is; refusal = nothing; appends = writes; durably = durably }
+shown_ends s depot command k l e bytes opened (Err WriteFault) step is durably (prefix, proper, appends) nothing = record {
+  standing = durable s;
   part = prefix;
   stops = record { outcome = shows bytes; comes = step; stands = refl; rest = proper.0; reply = proper.1; not_all = proper.2 };
   appends = appends;
-  stands = firmly;
+  stands = durably;
 }
-shown_ends s depot command k l e bytes opened (Err DiskFault) step is firmly (prefix, partly, appends) nothing = record {
-  standing = firm s;
+shown_ends s depot command k l e bytes opened (Err DiskFault) step is durably (prefix, partly, appends) nothing = record {
+  standing = durable s;
   part = prefix;
   stops = inr (inr (record { bytes = bytes; comes = step; stands = refl; rest = partly.0; reply = partly.1 }));
   appends = appends;
-  stands = firmly;
+  stands = durably;
 }
-shown_ends s depot command k l e bytes opened (Err DepotFault) step is firmly writes nothing = absurd writes
-shown_ends s depot command k l e bytes opened (Err OutOfMemory) step is firmly (prefix, partly, appends) nothing = record {
-  standing = firm s;
+shown_ends s depot command k l e bytes opened (Err DepotFault) step is durably writes nothing = absurd writes
+shown_ends s depot command k l e bytes opened (Err OutOfMemory) step is durably (prefix, partly, appends) nothing = record {
+  standing = durable s;
   part = prefix;
   stops = inr (record { bytes = bytes; comes = step; stands = refl; rest = partly.0; reply = partly.1 });
   appends = appends;
-  stands = firmly;
+  stands = durably;
 }
-shown_ends s depot command k l e bytes opened (Err (BadStore why)) step is firmly writes nothing = absurd writes
-shown_ends s depot command k l e bytes opened (Err Unfinished) step is firmly writes nothing = absurd writes
+shown_ends s depot command k l e bytes opened (Err (BadStore why)) step is durably writes nothing = absurd writes
+shown_ends s depot command k l e bytes opened (Err Unfinished) step is durably writes nothing = absurd writes
 
-given_ends : (s u : State) (depot : DepotState) (command : Command) (k l : SinkState) (e : Places) (text : List ℕ) (opened : Option Generation) (result : Result (Option Refusal) Stop) → Step s depot command (gives u text) → opened ≡ generation_in u → IsFirmly u e
+given_ends : (s u : State) (depot : DepotState) (command : Command) (k l : SinkState) (e : Places) (text : List ℕ) (opened : Option Generation) (result : Result (Option Refusal) Stop) → Step s depot command (gives u text) → opened ≡ generation_in u → IsDurably u e
     → WritesText text k l result → LineEnds (does command) s depot k l e (written_of opened result)
-given_ends s u depot command k l e text opened (Ok last) step is firmly (nothing, appends) = record { outcome = gives u text; comes = step; opened = is; refusal = nothing; appends = appends; firmly = firmly }
-given_ends s u depot command k l e text opened (Err WriteFault) step is firmly (prefix, proper, appends) = record {
-  standing = firm u;
+given_ends s u depot command k l e text opened (Ok last) step is durably (nothing, appends) = record { outcome = gives u text; comes = step; opened = is; refusal = nothing; appends = appends; durably = durably }
+given_ends s u depot command k l e text opened (Err WriteFault) step is durably (prefix, proper, appends) = record {
+  standing = durable u;
   part = prefix;
   stops = record { outcome = gives u text; comes = step; stands = refl; rest = proper.0; reply = proper.1; not_all = proper.2 };
   appends = appends;
-  stands = firmly;
+  stands = durably;
 }
-given_ends s u depot command k l e text opened (Err DiskFault) step is firmly writes = absurd writes
-given_ends s u depot command k l e text opened (Err DepotFault) step is firmly writes = absurd writes
-given_ends s u depot command k l e text opened (Err OutOfMemory) step is firmly writes = absurd writes
-given_ends s u depot command k l e text opened (Err (BadStore why)) step is firmly writes = absurd writes
-given_ends s u depot command k l e text opened (Err Unfinished) step is firmly writes = absurd writes
+given_ends s u depot command k l e text opened (Err DiskFault) step is durably writes = absurd writes
+given_ends s u depot command k l e text opened (Err DepotFault) step is durably writes = absurd writes
+given_ends s u depot command k l e text opened (Err OutOfMemory) step is durably writes = absurd writes
+given_ends s u depot command k l e text opened (Err (BadStore why)) step is durably writes = absurd writes
+given_ends s u depot command k l e text opened (Err Unfinished) step is durably writes = absurd writes
 
-refused_ends : (s : State) (depot : DepotState) (command : Command) (k l : SinkState) (e : Places) (refusal : Refusal) (opened : Option Generation) (result : Result (Option Refusal) Stop) → Step s depot command (refuses refusal) → opened ≡ generation_in s → IsFirmly s e
+refused_ends : (s : State) (depot : DepotState) (command : Command) (k l : SinkState) (e : Places) (refusal : Refusal) (opened : Option Generation) (result : Result (Option Refusal) Stop) → Step s depot command (refuses refusal) → opened ≡ generation_in s → IsDurably s e
     → WritesRefusal refusal k l result → LineEnds (does command) s depot k l e (written_of opened result)
-refused_ends s depot command k l e refusal opened (Ok last) step is firmly (some, appends) = record { outcome = refuses refusal; comes = step; opened = is; refusal = some; appends = appends; firmly = firmly }
-refused_ends s depot command k l e refusal opened (Err WriteFault) step is firmly (prefix, proper, appends) = record {
-  standing = firm s;
+refused_ends s depot command k l e refusal opened (Ok last) step is durably (some, appends) = record { outcome = refuses refusal; comes = step; opened = is; refusal = some; appends = appends; durably = durably }
+refused_ends s depot command k l e refusal opened (Err WriteFault) step is durably (prefix, proper, appends) = record {
+  standing = durable s;
   part = prefix;
   stops = record { outcome = refuses refusal; comes = step; stands = refl; rest = proper.0; reply = proper.1; not_all = proper.2 };
   appends = appends;
-  stands = firmly;
+  stands = durably;
 }
-refused_ends s depot command k l e refusal opened (Err DiskFault) step is firmly writes = absurd writes
-refused_ends s depot command k l e refusal opened (Err DepotFault) step is firmly writes = absurd writes
-refused_ends s depot command k l e refusal opened (Err OutOfMemory) step is firmly same = record { standing = firm s; part = []; stops = inl (refl, refl); appends = same_sink k l same; stands = firmly }
-refused_ends s depot command k l e refusal opened (Err (BadStore why)) step is firmly writes = absurd writes
-refused_ends s depot command k l e refusal opened (Err Unfinished) step is firmly writes = absurd writes
+refused_ends s depot command k l e refusal opened (Err DiskFault) step is durably writes = absurd writes
+refused_ends s depot command k l e refusal opened (Err DepotFault) step is durably writes = absurd writes
+refused_ends s depot command k l e refusal opened (Err OutOfMemory) step is durably same = record { standing = durable s; part = []; stops = inl (refl, refl); appends = same_sink k l same; stands = durably }
+refused_ends s depot command k l e refusal opened (Err (BadStore why)) step is durably writes = absurd writes
+refused_ends s depot command k l e refusal opened (Err Unfinished) step is durably writes = absurd writes
 
 reply_ends : (s : State) (depot : DepotState) (command : Command) (k l : SinkState) (mid : DiskState) (e : Told) (opened : Option Generation) (reply : Reply) (outcome : Outcome) (result : Result (Option Refusal) Stop)
-    → mid.told ≡ Some e → Step s depot command outcome → opened ≡ generation_in (state_after s outcome) → IsReply s reply outcome → IsFirmly (state_after s outcome) e.places → WritesReply reply mid k l result
+    → mid.told ≡ Some e → Step s depot command outcome → opened ≡ generation_in (state_after s outcome) → IsReply s reply outcome → IsDurably (state_after s outcome) e.places → WritesReply reply mid k l result
     → LineEnds (does command) s depot k l e.places (written_of opened result)
-reply_ends s depot command k l mid e opened (Text text) outcome result told step is of firmly writes =
+reply_ends s depot command k l mid e opened (Text text) outcome result told step is of durably writes =
     given_ends s of.0 depot command k l e.places text opened result (subst (Step s depot command) of.1 step) (is ∙ ap (λ o. generation_in (state_after s o)) of.1)
-    (subst (λ o. IsFirmly (state_after s o) e.places) of.1 firmly) writes
-reply_ends s depot command k l mid e opened (File held) outcome result told step is of firmly writes =
-    let still = subst (λ o. IsFirmly (state_after s o) e.places) of.0 firmly in
+    (subst (λ o. IsDurably (state_after s o) e.places) of.1 durably) writes
+reply_ends s depot command k l mid e opened (File held) outcome result told step is of durably writes =
+    let still = subst (λ o. IsDurably (state_after s o) e.places) of.0 durably in
     let there = shown_told s e mid held held.body refl told still.stands of.1 in
     shown_ends s depot command k l e.places (bytes_at s held.body) opened result (subst (Step s depot command) of.0 step) (is ∙ ap (λ o. generation_in (state_after s o)) of.0)
     still (writes.0 (bytes_at s held.body) there.0 there.1) writes.1
-reply_ends s depot command k l mid e opened (Refused refusal) outcome result told step is of firmly writes =
+reply_ends s depot command k l mid e opened (Refused refusal) outcome result told step is of durably writes =
     refused_ends s depot command k l e.places refusal opened result (subst (Step s depot command) of step) (is ∙ ap (λ o. generation_in (state_after s o)) of)
-    (subst (λ o. IsFirmly (state_after s o) e.places) of firmly) writes
+    (subst (λ o. IsDurably (state_after s o) e.places) of durably) writes
 
 written_told : (depot : DepotState) (command : Command) (from : Option Generation) (k l : SinkState) (mid : DiskState) (opened : Option Generation) (reply : Reply) (result : Result (Option Refusal) Stop) (x y z : Option Told)
     → mid.told ≡ y → z ≡ y → WritesReply reply mid k l result → BothTold (AppliesTold (λ s. Step s depot command) from (Ok (record { opened = opened; reply = reply }))) x y
@@ -193,8 +190,8 @@ written_told depot command from k l mid opened reply result None None z told sam
 written_told depot command from k l mid opened reply result None (Some e) z told same writes applies = absurd applies
 written_told depot command from k l mid opened reply result (Some d) None z told same writes applies = absurd applies
 written_told depot command from k l mid opened reply result (Some d) (Some e) z told same writes applies =
-    subst (λ o. BothTold (LineTold (does command) from depot k l (written_of opened result)) (Some d) o) (sym same) (λ s is firmly.
-    let of = applies s is firmly in
+    subst (λ o. BothTold (LineTold (does command) from depot k l (written_of opened result)) (Some d) o) (sym same) (λ s is durably.
+    let of = applies s is durably in
     record {
       ends = reply_ends s depot command k l mid e opened reply of.ends.0 result told of.ends.1 of.ends.2.opened of.ends.2.reply of.ends.3 writes;
       since = line_since s depot command e d.clock of.since;
@@ -205,8 +202,6 @@ pub written_line : (depot : DepotState) (command : Command) (from : Option Gener
     → BothTold (LineTold (does command) from depot k l (written_of opened result)) old.told new.told
 written_line depot command from k l old mid new opened reply result rests writes applies =
     written_told depot command from k l mid opened reply result old.told mid.told new.told refl rests.told writes applies
-
--- ---- why a reply was not written
 
 rose_from : (a b c : ℕ) → a ≤ b → Rose b c → Rose a c
 rose_from a b c le (inl more) = inl (omega arith)
@@ -219,9 +214,9 @@ shown_cause opened k l old mid new before after held DiskFault le shown cause = 
 shown_cause opened k l old mid new before after held DepotFault le shown cause = absurd cause
 shown_cause opened k l old mid new before after held OutOfMemory le shown cause = tt
 shown_cause opened k l old mid new before after held (BadStore (Broken line)) le shown cause = absurd cause
-shown_cause opened k l old mid new before after held (BadStore (Damaged home listed found)) le shown cause = record {
-  lists = kept_is_listed (trees_before (host_before opened)) held home listed cause.0 shown.1;
-  differs = subst (λ t. IsFound listed t found) (ap (body_told mid) cause.0.body ∙ ap (λ o. told_at o (home_path home.generation home.file)) shown.2.told) cause.1;
+shown_cause opened k l old mid new before after held (BadStore (Damaged damage)) le shown cause = record {
+  lists = kept_is_listed (trees_before (host_before opened)) held damage.home damage.listed cause.0 shown.1;
+  differs = subst (λ t. IsFound damage.listed t damage.found) (ap (body_told mid) cause.0.body ∙ ap (λ o. told_at o (home_path damage.home.generation damage.home.file)) shown.2.told) cause.1;
 }
 shown_cause opened k l old mid new before after held Unfinished le shown cause = absurd cause
 
@@ -231,7 +226,7 @@ text_cause opened k l d e before after DiskFault cause = absurd cause
 text_cause opened k l d e before after DepotFault cause = absurd cause
 text_cause opened k l d e before after OutOfMemory cause = tt
 text_cause opened k l d e before after (BadStore (Broken line)) cause = absurd cause
-text_cause opened k l d e before after (BadStore (Damaged home listed found)) cause = absurd cause
+text_cause opened k l d e before after (BadStore (Damaged damage)) cause = absurd cause
 text_cause opened k l d e before after Unfinished cause = absurd cause
 
 pub unwritten_cause : (opened : Option Generation) (k l : SinkState) (old mid new : DiskState) (before after : DepotState) (reply : Reply) (stop : Stop) → old.faults ≤ mid.faults → IsShownReply opened old mid reply

@@ -12,14 +12,12 @@ use Rattle.ext_host.specs.declared.body.Body.{Body}
 use Rattle.ext_host.specs.declared.body.Body.TheVariants.{Here, Kept, Depot}
 use Rattle.ext_host.specs.declared.shelf.ShelfErr.{ShelfErr}
 use Rattle.ext_host.specs.declared.shelf.ShelfErr.TheVariants as shelf_errors
-use Rattle.ext_store.specs.HeldFiles.{EndsBy, IsNext, PieceCause, body_told, told_at}
-use Rattle.ext_store.specs.Names.{home_path}
+use Rattle.ext_store_files.specs.HeldFiles.{EndsBy, IsNextPiece, PieceCause, body_told, told_at}
+use Rattle.ext_store_files.specs.Names.{home_path}
 use Rattle.ext_top.specs.Replying.{FileCause, WritesBytes, WritesPiece, stop_of_shelf}
 use Rattle.ext_top.specs.declared.bad_store.BadStore.TheVariants.{Broken, Damaged}
 use Rattle.ext_top.specs.declared.stop.Stop.{Stop}
 use Rattle.ext_top.specs.declared.stop.Stop.TheVariants.{WriteFault, DiskFault, DepotFault, OutOfMemory, BadStore, Unfinished}
-
--- ---- a piece that was not read
 
 -- a file that ends before its listed size is none of that size
 ends_found : (listed : Stamp) (told : shelf.Told) (at : ℕ) → at < listed.size → EndsBy told at → IsFound listed told None
@@ -30,26 +28,24 @@ ends_found listed (stored bytes) at below ends = λ is. omega arith
 pub piece_cause : (held : HeldFile) (k l : SinkState) (d e : DiskState) (at : ℕ) (error : ShelfErr) → at < held.stamp.size → PieceCause d.faults e.faults (body_told d held.body) held at error → FileCause held k l d e (stop_of_shelf error)
 piece_cause held k l d e at shelf_errors.OutOfMemory below cause = tt
 piece_cause held k l d e at shelf_errors.Fault below cause = cause
-piece_cause held k l d e at (shelf_errors.Damaged home listed found) below cause = (
+piece_cause held k l d e at (shelf_errors.Damaged damage) below cause = (
   cause.0,
-  subst (IsFound listed (body_told d held.body)) (sym cause.1)
-      (ends_found listed (body_told d held.body) at (subst (λ (stamp : Stamp). at < stamp.size) cause.0.stamp below) cause.2),
+  subst (IsFound damage.listed (body_told d held.body)) (sym cause.1)
+      (ends_found damage.listed (body_told d held.body) at (subst (λ (stamp : Stamp). at < stamp.size) cause.0.stamp below) cause.2),
 )
 
 pub piece_unread : (held : HeldFile) (k : SinkState) (d : DiskState) (old new at : ℕ) (error : ShelfErr) → at < held.stamp.size → PieceCause old new (body_told d held.body) held at error
     → WritesPiece (body_told d held.body) held.stamp.size at k k (Err (stop_of_shelf error))
 piece_unread held k d old new at shelf_errors.OutOfMemory below cause = λ bytes is long. refl
 piece_unread held k d old new at shelf_errors.Fault below cause = λ bytes is long. refl
-piece_unread held k d old new at (shelf_errors.Damaged home listed found) below cause = λ bytes is long.
+piece_unread held k d old new at (shelf_errors.Damaged damage) below cause = λ bytes is long.
     let ends : length bytes ≤ at = subst (λ t. EndsBy t at) is cause.2 in omega arith
 
--- ---- a piece that was not written whole
-
-pub piece_cut : (T : Type 0) (told : shelf.Told) (size at : ℕ) (piece : List ℕ) (k l : SinkState) (stop : Stop) → IsNext told at piece → WritesBytes {T = T} piece k l (Err stop) → WritesPiece told size at k l (Err stop)
+pub piece_cut : (T : Type 0) (told : shelf.Told) (size at : ℕ) (piece : List ℕ) (k l : SinkState) (stop : Stop) → IsNextPiece told at piece → WritesBytes {T = T} piece k l (Err stop) → WritesPiece told size at k l (Err stop)
 piece_cut T told size at piece k l WriteFault next writes = λ bytes is long.
     let (prefix, (rest, parts, some), appends) = writes.0 in
     let more = drop (at + length piece) bytes in
-    let whole : drop at bytes ≡ piece ++ more = subst (λ t. IsNext t at piece) is next in
+    let whole : drop at bytes ≡ piece ++ more = subst (λ t. IsNextPiece t at piece) is next in
     let longer = length-append rest more in
     (prefix, (rest ++ more, whole ∙ (ap (λ xs. xs ++ more) parts ∙ append_assoc prefix rest more), omega arith), appends)
 piece_cut T told size at piece k l DiskFault next never = absurd never
@@ -66,14 +62,10 @@ piece_cut_cause T held piece k l d e OutOfMemory never = absurd never
 piece_cut_cause T held piece k l d e (BadStore why) never = absurd never
 piece_cut_cause T held piece k l d e Unfinished never = absurd never
 
--- ---- a piece that was written
-
-pub piece_done : (told : shelf.Told) (size at count : ℕ) (piece : List ℕ) (k l : SinkState) → IsNext told at piece → length piece ≡ count → WritesBytes {T = Unit {0}} piece k l (Ok tt) → WritesPiece told size at k l (Ok count)
+pub piece_done : (told : shelf.Told) (size at count : ℕ) (piece : List ℕ) (k l : SinkState) → IsNextPiece told at piece → length piece ≡ count → WritesBytes {T = Unit {0}} piece k l (Ok tt) → WritesPiece told size at k l (Ok count)
 piece_done told size at count piece k l next is_count writes = λ bytes is long.
-    let whole : drop at bytes ≡ piece ++ drop (at + length piece) bytes = subst (λ t. IsNext t at piece) is next in
+    let whole : drop at bytes ≡ piece ++ drop (at + length piece) bytes = subst (λ t. IsNextPiece t at piece) is next in
     (piece, whole ∙ ap (λ n. piece ++ drop (at + n) bytes) is_count, is_count, writes)
-
--- ---- pieces one after another
 
 -- what a disk tells of a file stays while it rests
 pub told_rests : (d e : DiskState) (body : Body) → Rests d e → body_told e body ≡ body_told d body
@@ -97,5 +89,5 @@ cause_from held j k l d e f DiskFault le rests cause = rose_from d.faults e.faul
 cause_from held j k l d e f DepotFault le rests cause = cause
 cause_from held j k l d e f OutOfMemory le rests cause = tt
 cause_from held j k l d e f (BadStore (Broken line)) le rests cause = cause
-cause_from held j k l d e f (BadStore (Damaged home listed found)) le rests cause = (cause.0, subst (λ t. IsFound listed t found) (told_rests d e held.body rests) cause.1)
+cause_from held j k l d e f (BadStore (Damaged damage)) le rests cause = (cause.0, subst (λ t. IsFound damage.listed t damage.found) (told_rests d e held.body rests) cause.1)
 cause_from held j k l d e f Unfinished le rests cause = cause

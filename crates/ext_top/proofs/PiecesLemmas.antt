@@ -30,8 +30,6 @@ first_more bytes piece at count is long =
     let next : take count (drop at bytes) ≡ piece = ap (take count) is ∙ (ap (λ n. take n (piece ++ drop (at + count) bytes)) (sym long) ∙ take-append_seam piece (drop (at + count) bytes)) in
     sym (take-add at count bytes ∙ ap (λ xs. take at bytes ++ xs) next)
 
--- ---- the loop
-
 pub first_none : (told : shelf.Told) (size : ℕ) (k : SinkState) → WritesFirst told size 0 k k
 first_none told size k = λ bytes is long. adds_nothing k.written
 

@@ -12,7 +12,7 @@ use Rattle.ext_host.specs.declared.body.Body.{Body}
 use Rattle.ext_host.specs.declared.body.Body.TheVariants.{Here, Kept, Depot}
 use Rattle.ext_host.specs.declared.home.Home.{Home}
 use Rattle.ext_host.specs.declared.host.Host.{Host}
-use Rattle.ext_store.specs.Comparing.{IsCompared}
+use Rattle.ext_store_files.specs.Comparing.{IsCompared}
 use Rattle.ext_homes.specs.Placed.{Stored, ArePlaced, DifferBefore, IsBodyPlaced, IsBroughtTo, IsEntryPlaced, IsHostPlaced, TakesHome, brought_told}
 use Rattle.ext_homes.specs.Refused.{StopsAt}
 

@@ -10,39 +10,39 @@ use Rattle.ext_host.specs.declared.home.Home.{Home}
 use Rattle.ext_host.specs.declared.host.Host.{Host}
 use Rattle.ext_host.specs.declared.shelf.ShelfErr.{ShelfErr}
 use Rattle.ext_host.specs.declared.shelf.ShelfErr.TheVariants as shelf_errors
-use Rattle.ext_store.specs.HeldFiles.{body_told, is_served}
+use Rattle.ext_host.specs.declared.damage.Damage.{Damage}
+use Rattle.ext_store_files.specs.HeldFiles.{body_told, is_served}
 use Rattle.ext_homes.specs.Giving.{lists_kept, trees_before}
 use Rattle.ext_gen.specs.Checking as gen
 use Rattle.ext_gen.specs.Checking.{AreChecked, files_of_host, sizes_of}
 use Rattle.ext_gen.specs.Opened.{Generation, IsOpened}
 use Rattle.ext_gen.specs.Preparing.{host_before}
 use Rattle.ext_gen.specs.Store.{State, none, at, Stands, generation_in}
-use Rattle.ext_gen.specs.Sound.{IsFirmly}
+use Rattle.ext_gen.specs.Sound.{IsDurably}
 use Rattle.ext_gen.proofs.ForCallers.{opened_is_served, opened_is_well_formed}
 use Rattle.ext_cmd.specs.Replies.{answer_text}
 use Rattle.ext_cmd.specs.declared.answer.Answer.{Answer}
 use Rattle.ext_cmd.specs.declared.answer.Answer.TheVariants.{Checked}
 use Rattle.ext_cmd.specs.declared.refusal.Refusal.{Refusal}
-use Rattle.ext_step.specs.Check.{host_files}
-use Rattle.ext_step.specs.Intents.{trees_seen}
-use Rattle.ext_step.specs.declared.intent.Intent.TheVariants.{Answers, Refuses}
-use Rattle.ext_top.specs.Applying.{AppliesEnds, AppliesTold, ApplyCause, IsApplied, IsDamage, RestCause, of_shelf}
+use Rattle.ext_intents.specs.Check.{host_files}
+use Rattle.ext_intents.specs.Intents.{trees_seen}
+use Rattle.ext_intents.specs.declared.intent.Intent.TheVariants.{Answers, Refuses}
+use Rattle.ext_top.specs.Applying.{AppliesEnds, AppliesTold, ApplyCause, IsApplied, IsDamage, RestCause, apply_err_of_shelf}
 use Rattle.ext_top.specs.Machine.{Comes, Counts, Outcome, bytes_at, checked_text, gives, refuses, shows, state_after}
 use Rattle.ext_top.specs.declared.applied.Applied.{Applied}
 use Rattle.ext_top.specs.declared.applied.Reply.TheVariants.{Text, File, Refused}
 use Rattle.ext_top.specs.declared.apply_err.ApplyErr.{ApplyErr}
-use Rattle.ext_top.specs.declared.apply_err.ApplyErr.TheVariants.{DiskFault, DepotFault, Damaged, Unfinished, OutOfMemory}
+use Rattle.ext_store_files.specs.declared.fault.StoreFault.TheVariants.{OutOfMemory, DiskFault, DepotFault, Damaged}
+use Rattle.ext_top.specs.declared.apply_err.ApplyErr.TheVariants.{Fault, Unfinished}
 use Rattle.ext_top.proofs.ApplyingLemmas.{rested_told, trees_alike}
 use Rattle.ext_top.proofs.CheckLemmas.{file_of_host, kept_is_listed, number_of_host, size_of_host}
 use Rattle.ext_top.proofs.StoredLemmas.{none_damaged, of_no_tree}
 
--- ---- an outcome that leaves the state
-
 pub answered : (P : State → Outcome → Type 0) (from : Option Generation) (old new : DiskState) (applied : Applied) (outcome : State → Outcome) → new.told ≡ old.told → IfSome old.told IsDisk
     → ((s : State) → generation_in s ≡ from → P s (outcome s) × IsApplied s (outcome s) applied × (state_after s (outcome s) ≡ s)) → BothTold (AppliesTold P from (Ok applied)) old.told new.told
-answered P from old new applied outcome same disk says = rested_told P from (Ok applied) old.told new.told same disk (λ d told s is firmly.
+answered P from old new applied outcome same disk says = rested_told P from (Ok applied) old.told new.told same disk (λ d told s is durably.
     let of = says s is in
-    (outcome s, of.0, of.1, subst (λ t. IsFirmly t d.places) (sym of.2) firmly))
+    (outcome s, of.0, of.1, subst (λ t. IsDurably t d.places) (sym of.2) durably))
 
 -- an answer
 pub answers_applied : (answer : Answer) (text : List ℕ) (from : Option Generation) (depot : DepotState) (old new : DiskState) → text ≡ answer_text answer → new.told ≡ old.told → IfSome old.told IsDisk
@@ -56,52 +56,46 @@ pub refusal_applied : (refusal : Refusal) (from : Option Generation) (depot : De
 refusal_applied refusal from depot old new same disk = answered (λ s. Comes s depot (Refuses refusal)) from old new (record { opened = from; reply = Refused refusal }) (λ s. refuses refusal) same disk
     (λ s here. (refl, record { opened = sym here; reply = refl }, refl))
 
--- ---- an error that leaves the state
-
 -- no store that stands for a state is damaged
-pub no_damage : (s : State) (from : Option Generation) (d : Told) (disk : DiskState) (home : Home) (listed : Stamp) (found : Option Stamp) → generation_in s ≡ from → disk.told ≡ Some d → Stands (now d.places) s
-    → ¬ IsDamage from disk home listed found
-no_damage s from d disk home listed found is told stands damage =
-    none_damaged s d disk told stands listed home found (subst (λ o. lists_kept (trees_before (host_before o)) listed home) (sym is) damage.lists) damage.differs
+pub no_damage : (s : State) (from : Option Generation) (d : Told) (disk : DiskState) (damage : Damage) → generation_in s ≡ from → disk.told ≡ Some d → Stands (now d.places) s
+    → ¬ IsDamage from disk damage
+no_damage s from d disk damage is told stands differs =
+    none_damaged s d disk told stands damage.listed damage.home damage.found (subst (λ o. lists_kept (trees_before (host_before o)) damage.listed damage.home) (sym is) differs.lists) differs.differs
 
-unread_ends : (P : Outcome → Type 0) (from : Option Generation) (old new : DiskState) (error : ApplyErr) (s : State) (d : Told) → generation_in s ≡ from → old.told ≡ Some d → IsFirmly s d.places → RestCause from old new error
+unread_ends : (P : Outcome → Type 0) (from : Option Generation) (old new : DiskState) (error : ApplyErr) (s : State) (d : Told) → generation_in s ≡ from → old.told ≡ Some d → IsDurably s d.places → RestCause from old new error
     → AppliesEnds P s (Err error) d.places
-unread_ends P from old new DiskFault s d is told firmly cause = inl firmly
-unread_ends P from old new DepotFault s d is told firmly cause = absurd cause
-unread_ends P from old new (Damaged home listed found) s d is told firmly cause = absurd (no_damage s from d old home listed found is told firmly.stands cause)
-unread_ends P from old new Unfinished s d is told firmly cause = absurd cause
-unread_ends P from old new OutOfMemory s d is told firmly cause = firmly
+unread_ends P from old new (Fault DiskFault) s d is told durably cause = inl durably
+unread_ends P from old new (Fault DepotFault) s d is told durably cause = absurd cause
+unread_ends P from old new (Fault (Damaged damage)) s d is told durably cause = absurd (no_damage s from d old damage is told durably.stands cause)
+unread_ends P from old new Unfinished s d is told durably cause = absurd cause
+unread_ends P from old new (Fault OutOfMemory) s d is told durably cause = durably
 
 pub unread_applies : (P : State → Outcome → Type 0) (from : Option Generation) (old new : DiskState) (error : ApplyErr) → new.told ≡ old.told → IfSome old.told IsDisk → RestCause from old new error
     → BothTold (AppliesTold P from (Err error)) old.told new.told
-unread_applies P from old new error same disk cause = rested_told P from (Err error) old.told new.told same disk (λ d told s is firmly. unread_ends (P s) from old new error s d is told firmly cause)
+unread_applies P from old new error same disk cause = rested_told P from (Err error) old.told new.told same disk (λ d told s is durably. unread_ends (P s) from old new error s d is told durably cause)
 
 -- a cause of a command that only reads the store is one of a command that may do more
 pub rest_cause : (from : Option Generation) (old new : DiskState) (before after : DepotState) (error : ApplyErr) → RestCause from old new error → ApplyCause from old new before after error
-rest_cause from old new before after DiskFault cause = cause
-rest_cause from old new before after DepotFault cause = absurd cause
-rest_cause from old new before after (Damaged home listed found) cause = cause
+rest_cause from old new before after (Fault DiskFault) cause = cause
+rest_cause from old new before after (Fault DepotFault) cause = absurd cause
+rest_cause from old new before after (Fault (Damaged damage)) cause = cause
 rest_cause from old new before after Unfinished cause = absurd cause
-rest_cause from old new before after OutOfMemory cause = tt
-
--- ---- a file that was not read
+rest_cause from old new before after (Fault OutOfMemory) cause = tt
 
 -- it is a file of the host that the store has
 pub file_cause : (from : Option Generation) (old new : DiskState) (held : HeldFile) (error : ShelfErr) → IsFileOf (trees_before (host_before from)) held → ShelfCause old.faults new.faults (body_told old held.body) held error
-    → RestCause from old new (of_shelf error)
+    → RestCause from old new (apply_err_of_shelf error)
 file_cause from old new held shelf_errors.OutOfMemory file cause = tt
 file_cause from old new held shelf_errors.Fault file cause = cause
-file_cause from old new held (shelf_errors.Damaged home listed found) file cause = record {
-  lists = kept_is_listed (trees_before (host_before from)) held home listed cause.0 file;
-  differs = subst (λ t. IsFound listed t found) (ap (body_told old) cause.0.body) cause.1;
+file_cause from old new held (shelf_errors.Damaged damage) file cause = record {
+  lists = kept_is_listed (trees_before (host_before from)) held damage.home damage.listed cause.0 file;
+  differs = subst (λ t. IsFound damage.listed t damage.found) (ap (body_told old) cause.0.body) cause.1;
 }
 
 -- the first of the host's files that was not
-pub check_cause : (g : Generation) (old new : DiskState) (error : ShelfErr) → IsOpened g → gen.StopsAt old new (files_of_host g.host) error → RestCause (Some g) old new (of_shelf error)
+pub check_cause : (g : Generation) (old new : DiskState) (error : ShelfErr) → IsOpened g → gen.StopsAtFile old new (files_of_host g.host) error → RestCause (Some g) old new (apply_err_of_shelf error)
 check_cause g old new error opened stops =
     file_cause (Some g) old new stops.held error (file_of_host g.host stops.before stops.after stops.held (opened_is_well_formed g opened) stops.is) stops.cause
-
--- ---- files that were checked
 
 checked_is : (disk : DiskState) (host : Host) (counts : ℕ × ℕ) (text : List ℕ) → AreChecked disk (files_of_host host) counts → text ≡ answer_text (Checked counts.0 counts.1) → text ≡ checked_text host
 checked_is disk host counts text checked is =
@@ -115,8 +109,6 @@ pub checked_applied : (g : Generation) (counts : ℕ × ℕ) (text : List ℕ) (
     → BothTold (AppliesTold (λ s. Counts s) (Some g) (Ok (record { opened = Some g; reply = Text text }))) old.told new.told
 checked_applied g counts text old new checked is same disk = answered (λ s. Counts s) (Some g) old new (record { opened = Some g; reply = Text text }) (λ s. gives s text) same disk
     (λ s here. (counts_of g text s (checked_is old g.host counts text checked is) here, record { opened = sym here; reply = (s, refl) }, refl))
-
--- ---- a file that is shown
 
 pub seen_is_before : (from : Option Generation) (held : HeldFile) → IsFileOf (trees_seen (host_before from)) held → IsFileOf (trees_before (host_before from)) held
 seen_is_before from held file = subst (λ trees. IsFileOf trees held) (trees_alike from) file

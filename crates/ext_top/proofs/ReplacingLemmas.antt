@@ -13,33 +13,34 @@ use Rattle.ext_host.specs.declared.body.Body.{Body}
 use Rattle.ext_host.specs.declared.body.Body.TheVariants.{Here, Kept, Depot}
 use Rattle.ext_host.specs.declared.host.Host.{Host}
 use Rattle.ext_host.specs.declared.past.Past.{Past}
-use Rattle.ext_store.specs.Removal.{MoreThan}
+use Rattle.ext_store_files.specs.Removal.{MoreThan}
 use Rattle.ext_homes.specs.Brought.{is_brought}
 use Rattle.ext_homes.specs.Giving.{lists_kept, stored_by, trees_before}
 use Rattle.ext_homes.specs.Refused.{StopsAt}
 use Rattle.ext_index.specs.ValidIndex.{IsKeptUpTo}
 use Rattle.ext_gen.specs.Opened.{Generation, IsOpened}
 use Rattle.ext_gen.specs.Committing.{CommitEnds, CommitsTold, IsOneOf, IsPrepared, MayCommit}
-use Rattle.ext_gen.specs.Preparing.{AreBefore, BringNone, LimitSays, PrepareCause, Prepares, PreparesTold, coming_number, contents_after, host_before, is_left, limit_of, trees_of_pasts}
+use Rattle.ext_gen.specs.Preparing.{ArePastBefore, BringNone, LimitSays, PrepareCause, Prepares, PreparesTold, coming_number, contents_after, host_before, is_left, limit_of, trees_of_pasts}
 use Rattle.ext_gen.specs.PreparingPaths.{Cleans, CleansSays}
 use Rattle.ext_gen.specs.Store.{State, at, Stands, generation_in}
-use Rattle.ext_gen.specs.Sound.{IsFirmly, KeepsFirmly}
+use Rattle.ext_gen.specs.Sound.{IsDurably, KeepsDurably}
 use Rattle.ext_gen.specs.declared.errors.StoreErr.{StoreErr}
+use Rattle.ext_store_files.specs.declared.fault.StoreFault.TheVariants as store_faults
 use Rattle.ext_gen.specs.declared.errors.StoreErr.TheVariants as store_errors
 use Rattle.ext_gen.proofs.ForCallers.{opened_is_valid_for, stands_since_then, stands_since_wider}
 use Rattle.ext_cmd.specs.declared.refusal.Refusal.{Refusal}
-use Rattle.ext_step.specs.Intents.{IsPlanned, past_seen}
+use Rattle.ext_intents.specs.Intents.{IsPlanned, past_seen}
 use Rattle.ext_top.specs.Applying.{AppliesEnds, AppliesTold, ApplyCause, IsOfPreparing, IsPassed, refusal_from}
-use Rattle.ext_top.specs.Machine.{IsMismatch, IsNext, IsNotThere, Outcome, Replaces, RefusesNext, gives, refuses, state_after, stored_in}
+use Rattle.ext_top.specs.Machine.{IsMismatch, IsNextState, IsNotThere, Outcome, Replaces, RefusesNext, gives, refuses, state_after, stored_of}
 use Rattle.ext_top.specs.declared.applied.Applied.{Applied}
 use Rattle.ext_top.specs.declared.applied.Reply.TheVariants.{Text, Refused}
 use Rattle.ext_top.specs.declared.apply_err.ApplyErr.{ApplyErr}
-use Rattle.ext_top.specs.declared.apply_err.ApplyErr.TheVariants.{DiskFault, DepotFault, Damaged, Unfinished, OutOfMemory}
+use Rattle.ext_store_files.specs.declared.fault.StoreFault.TheVariants.{OutOfMemory, DiskFault, DepotFault, Damaged}
+use Rattle.ext_store_files.specs.LeftOvers.{most_left_overs}
+use Rattle.ext_top.specs.declared.apply_err.ApplyErr.TheVariants.{Fault, Unfinished}
 use Rattle.ext_top.proofs.ApplyingLemmas.{trees_alike}
 use Rattle.ext_top.proofs.PlacedLemmas.{host_alike, stops_alike}
 use Rattle.ext_top.proofs.StoredLemmas.{alike_stored, none_damaged, of_no_tree}
-
--- ---- the conditions of a preparation
 
 -- the plan is drawn from the host before
 pub planned_is_drawn : (from : Option Generation) (next : Host) → IsPlanned (host_before from) next → AreDrawnFrom (trees_before (host_before from)) (trees_of next)
@@ -67,12 +68,12 @@ all_before : (n : ℕ) (past : List Past) → AllByRecursion (λ p. (0 < p.gener
 all_before n [] all = tt
 all_before n (p ∷ past) all = let one = all.0.1 in ((all.0.0, omega arith), all_before n past all.1)
 
-past_is_before : (from : Option Generation) → IfSome from IsOpened → AreBefore (coming_number from) (past_seen (host_before from))
+past_is_before : (from : Option Generation) → IfSome from IsOpened → ArePastBefore (coming_number from) (past_seen (host_before from))
 past_is_before None opened = tt
 past_is_before (Some g) opened = all_before g.number g.host.past (opened_is_valid_for g opened).past
 
-pub planned_is_before : (from : Option Generation) (next : Host) → IfSome from IsOpened → IsPlanned (host_before from) next → AreBefore (coming_number from) next.past
-planned_is_before from next opened planned = subst (AreBefore (coming_number from)) (sym planned.past) (past_is_before from opened)
+pub planned_is_before : (from : Option Generation) (next : Host) → IfSome from IsOpened → IsPlanned (host_before from) next → ArePastBefore (coming_number from) next.past
+planned_is_before from next opened planned = subst (ArePastBefore (coming_number from)) (sym planned.past) (past_is_before from opened)
 
 -- what is prepared may be switched to
 prepared_told : (from : Option Generation) (coming : Generation) (written : List (List ℕ)) (x y : Option Told) → BothTold (PreparesTold from coming written) x y → IfSome y (λ d. IsPrepared coming d.places)
@@ -84,63 +85,59 @@ prepared_told from coming written (Some d) (Some e) told = told.prepared
 pub prepared_may_commit : (from : Option Generation) (next : Host) (old new : DiskState) (depot : DepotState) (coming : Generation) → Prepares from next old new depot coming → MayCommit coming new
 prepared_may_commit from next old new depot coming prepares = prepared_told from coming prepares.written old.told new.told prepares.told
 
--- ---- prepared and switched
-
 -- the answer, by how the switch ended
 abbrev pub switched : Generation → List ℕ → Result Generation Failed → Result Applied ApplyErr
 switched coming reply (Ok done) = Ok (record { opened = Some coming; reply = Text reply })
-switched coming reply (Err failed) = Err DiskFault
+switched coming reply (Err failed) = Err (Fault DiskFault)
 
 one_passed : (P : Outcome → Type 0) (s u x : State) (outcome : Outcome) → P outcome → u ≡ state_after s outcome → IsOneOf s u x → IsPassed P s x
 one_passed P s u x outcome of is (inl before) = inl before
 one_passed P s u x outcome of is (inr after) = inr (outcome, of, after ∙ is)
 
 next_of : (s : State) (from : Option Generation) (next : Host) (d : Told) (old new : DiskState) (depot : DepotState) (coming : Generation) → generation_in s ≡ from → old.told ≡ Some d → Stands (now d.places) s
-    → (prepares : Prepares from next old new depot coming) → IsNext s depot next (at coming (contents_after coming.number prepares.written s))
+    → (prepares : Prepares from next old new depot coming) → IsNextState s depot next (at coming (contents_after coming.number prepares.written s))
 next_of s from next d old new depot coming is told stands prepares = record {
   coming = coming;
   number = prepares.number ∙ ap coming_number (sym is);
   text = prepares.text;
   written = prepares.written;
-  homes = host_alike (stored_by (host_before from) old) (stored_in s) depot depot (alike_stored s from d old depot is told stands) coming.number next coming.host prepares.written prepares.homes;
+  homes = host_alike (stored_by (host_before from) old) (stored_of s) depot depot (alike_stored s from d old depot is told stands) coming.number next coming.host prepares.written prepares.homes;
   is = refl;
 }
 
 switched_ends : (P : Outcome → Type 0) (s u : State) (coming : Generation) (reply : List ℕ) (result : Result Generation Failed) (e : Places) → generation_in u ≡ Some coming → P (gives u reply) → CommitEnds result s u e
     → AppliesEnds P s (switched coming reply result) e
-switched_ends P s u coming reply (Ok done) e is of firmly = (gives u reply, of, record { opened = sym is; reply = (u, refl) }, firmly)
+switched_ends P s u coming reply (Ok done) e is of durably = (gives u reply, of, record { opened = sym is; reply = (u, refl) }, durably)
 switched_ends P s u coming reply (Err failed) e is of either = inr (gives u reply, of, either)
 
 switched_told : (next : Host) (reply : List ℕ) (from : Option Generation) (coming : Generation) (depot : DepotState) (old mid : DiskState) (result : Result Generation Failed) (x y z : Option Told)
-    → limit_of from next ≡ None → old.told ≡ x → (prepares : Prepares from next old mid depot coming) → BothTold (PreparesTold from coming prepares.written) x y → BothTold KeepsFirmly x y
+    → limit_of from next ≡ None → old.told ≡ x → (prepares : Prepares from next old mid depot coming) → BothTold (PreparesTold from coming prepares.written) x y → BothTold KeepsDurably x y
     → BothTold IsLater y z → BothTold (CommitsTold result) y z → BothTold (AppliesTold (λ s. Replaces s depot next reply) from (switched coming reply result)) x z
 switched_told next reply from coming depot old mid result None None None few told prepares prepared kept later commits = tt
 switched_told next reply from coming depot old mid result None None (Some f) few told prepares prepared kept later commits = absurd later
 switched_told next reply from coming depot old mid result None (Some e) z few told prepares prepared kept later commits = absurd kept
 switched_told next reply from coming depot old mid result (Some d) None z few told prepares prepared kept later commits = absurd kept
 switched_told next reply from coming depot old mid result (Some d) (Some e) None few told prepares prepared kept later commits = absurd later
-switched_told next reply from coming depot old mid result (Some d) (Some e) (Some f) few told prepares prepared kept later commits = λ s is firmly.
+switched_told next reply from coming depot old mid result (Some d) (Some e) (Some f) few told prepares prepared kept later commits = λ s is durably.
     let P = Replaces s depot next reply in
     let u = at coming (contents_after coming.number prepares.written s) in
     let outcome = gives u reply in
-    let of : P outcome = inl (u, ap (λ o. limit_of o next) is ∙ few, next_of s from next d old mid depot coming is told firmly.stands prepares, refl) in
-    let ends = commits s u (prepared.ready s firmly) in
+    let of : P outcome = inl (u, ap (λ o. limit_of o next) is ∙ few, next_of s from next d old mid depot coming is told durably.stands prepares, refl) in
+    let ends = commits s u (prepared.ready s durably) in
     record {
       ends = switched_ends P s u coming reply result f.places refl of ends.0;
       since = stands_since_then (IsPassed P s) e f d.clock later
-          (stands_since_wider (λ x. x ≡ s) (IsPassed P s) e d.clock (λ x same. inl same) (kept s firmly).1)
+          (stands_since_wider (λ x. x ≡ s) (IsPassed P s) e d.clock (λ x same. inl same) (kept s durably).1)
           (stands_since_wider (IsOneOf s u) (IsPassed P s) f e.clock (λ x one. one_passed P s u x outcome of refl one) ends.1);
     }
 
 pub switched_applies : (next : Host) (reply : List ℕ) (from : Option Generation) (coming : Generation) (depot : DepotState) (old mid new : DiskState) (result : Result Generation Failed)
-    → limit_of from next ≡ None → Prepares from next old mid depot coming → BothTold KeepsFirmly old.told mid.told
+    → limit_of from next ≡ None → Prepares from next old mid depot coming → BothTold KeepsDurably old.told mid.told
     → BothTold IsLater mid.told new.told → BothTold (CommitsTold result) mid.told new.told → BothTold (AppliesTold (λ s. Replaces s depot next reply) from (switched coming reply result)) old.told new.told
 switched_applies next reply from coming depot old mid new result few prepares kept later commits =
     switched_told next reply from coming depot old mid result old.told mid.told new.told few refl prepares prepares.told kept later commits
 
--- ---- not prepared
-
--- the answer, by what an error of the preparation comes to
+-- the answer, by the error of the preparation
 abbrev pub unprepared : Option Generation → Result Refusal ApplyErr → Result Applied ApplyErr
 unprepared from (Ok refusal) = Ok (record { opened = from; reply = Refused refusal })
 unprepared from (Err e) = Err e
@@ -148,81 +145,81 @@ unprepared from (Err e) = Err e
 -- why a refusal is one of the machine's
 abbrev Refuted : State → DepotState → Host → Result Refusal ApplyErr → Type 0
 Refuted s depot next (Ok refusal) = RefusesNext s depot next refusal
-Refuted s depot next (Err DiskFault) = Unit {0}
-Refuted s depot next (Err DepotFault) = Unit {0}
-Refuted s depot next (Err (Damaged home listed found)) = ⊥
+Refuted s depot next (Err (Fault DiskFault)) = Unit {0}
+Refuted s depot next (Err (Fault DepotFault)) = Unit {0}
+Refuted s depot next (Err (Fault (Damaged damage))) = ⊥
 Refuted s depot next (Err Unfinished) = Unit {0}
-Refuted s depot next (Err OutOfMemory) = Unit {0}
+Refuted s depot next (Err (Fault OutOfMemory)) = Unit {0}
 
 refuted : (s : State) (from : Option Generation) (next : Host) (d : Told) (old new : DiskState) (depot after : DepotState) (error : StoreErr) → generation_in s ≡ from → old.told ≡ Some d → Stands (now d.places) s
     → LimitSays {T = Generation} (limit_of from next) (Err error) → PrepareCause from next old new depot after error → Refuted s depot next (refusal_from error)
-refuted s from next d old new depot after store_errors.OutOfMemory is told stands limit cause = tt
-refuted s from next d old new depot after store_errors.DiskFault is told stands limit cause = tt
-refuted s from next d old new depot after store_errors.DepotFault is told stands limit cause = tt
+refuted s from next d old new depot after (store_errors.Fault store_faults.OutOfMemory) is told stands limit cause = tt
+refuted s from next d old new depot after (store_errors.Fault store_faults.DiskFault) is told stands limit cause = tt
+refuted s from next d old new depot after (store_errors.Fault store_faults.DepotFault) is told stands limit cause = tt
 refuted s from next d old new depot after (store_errors.Broken line) is told stands limit cause = tt
-refuted s from next d old new depot after (store_errors.Damaged home listed found) is told stands limit cause =
+refuted s from next d old new depot after (store_errors.Fault (store_faults.Damaged damage)) is told stands limit cause =
     let trees : trees_before (host_before from) ≡ trees_before (host_before (generation_in s)) = ap (λ o. trees_before (host_before o)) (sym is) in
-    none_damaged s d old told stands listed home found (subst (λ ts. lists_kept ts listed home) trees cause.why.2.listed) cause.why.2.differs
+    none_damaged s d old told stands damage.listed damage.home damage.found (subst (λ ts. lists_kept ts damage.listed damage.home) trees cause.why.2.listed) cause.why.2.differs
 refuted s from next d old new depot after (store_errors.Mismatch path listed found) is told stands limit cause = (
   ap (λ o. limit_of o next) is ∙ limit,
-  subst (λ n. StopsAt (stored_in s) depot n (next.root ++ next.lower) 0 (IsMismatch depot path listed found)) (ap coming_number (sym is))
-      (stops_alike (stored_by (host_before from) old) (stored_in s) depot depot (alike_stored s from d old depot is told stands) (coming_number from) (next.root ++ next.lower) _ (IsMismatch depot path listed found)
+  subst (λ n. StopsAt (stored_of s) depot n (next.root ++ next.lower) 0 (IsMismatch depot path listed found)) (ap coming_number (sym is))
+      (stops_alike (stored_by (host_before from) old) (stored_of s) depot depot (alike_stored s from d old depot is told stands) (coming_number from) (next.root ++ next.lower) _ (IsMismatch depot path listed found)
       (λ held why. record { body = why.0; stamp = why.1; read = why.3 }) cause),
 )
 refuted s from next d old new depot after (store_errors.NotInDepot path) is told stands limit cause = (
   ap (λ o. limit_of o next) is ∙ limit,
-  subst (λ n. StopsAt (stored_in s) depot n (next.root ++ next.lower) 0 (IsNotThere depot path)) (ap coming_number (sym is))
-      (stops_alike (stored_by (host_before from) old) (stored_in s) depot depot (alike_stored s from d old depot is told stands) (coming_number from) (next.root ++ next.lower) _ (IsNotThere depot path)
+  subst (λ n. StopsAt (stored_of s) depot n (next.root ++ next.lower) 0 (IsNotThere depot path)) (ap coming_number (sym is))
+      (stops_alike (stored_by (host_before from) old) (stored_of s) depot depot (alike_stored s from d old depot is told stands) (coming_number from) (next.root ++ next.lower) _ (IsNotThere depot path)
       (λ held why. record { body = why.0; missing = why.2 }) cause),
 )
 refuted s from next d old new depot after store_errors.Unfinished is told stands limit cause = tt
 refuted s from next d old new depot after (store_errors.Limit which) is told stands limit cause = ap (λ o. limit_of o next) is ∙ limit
 
-unprepared_ends : (s : State) (from : Option Generation) (next : Host) (depot : DepotState) (reply : List ℕ) (result : Result Refusal ApplyErr) (e : Places) → generation_in s ≡ from → Refuted s depot next result → IsFirmly s e
+unprepared_ends : (s : State) (from : Option Generation) (next : Host) (depot : DepotState) (reply : List ℕ) (result : Result Refusal ApplyErr) (e : Places) → generation_in s ≡ from → Refuted s depot next result → IsDurably s e
     → AppliesEnds (Replaces s depot next reply) s (unprepared from result) e
-unprepared_ends s from next depot reply (Ok refusal) e is why firmly = (refuses refusal, inr (refusal, why, refl), record { opened = sym is; reply = refl }, firmly)
-unprepared_ends s from next depot reply (Err DiskFault) e is why firmly = inl firmly
-unprepared_ends s from next depot reply (Err DepotFault) e is why firmly = firmly
-unprepared_ends s from next depot reply (Err (Damaged home listed found)) e is why firmly = absurd why
-unprepared_ends s from next depot reply (Err Unfinished) e is why firmly = firmly
-unprepared_ends s from next depot reply (Err OutOfMemory) e is why firmly = firmly
+unprepared_ends s from next depot reply (Ok refusal) e is why durably = (refuses refusal, inr (refusal, why, refl), record { opened = sym is; reply = refl }, durably)
+unprepared_ends s from next depot reply (Err (Fault DiskFault)) e is why durably = inl durably
+unprepared_ends s from next depot reply (Err (Fault DepotFault)) e is why durably = durably
+unprepared_ends s from next depot reply (Err (Fault (Damaged damage))) e is why durably = absurd why
+unprepared_ends s from next depot reply (Err Unfinished) e is why durably = durably
+unprepared_ends s from next depot reply (Err (Fault OutOfMemory)) e is why durably = durably
 
 unprepared_told : (next : Host) (reply : List ℕ) (from : Option Generation) (depot after : DepotState) (old new : DiskState) (error : StoreErr) (x y : Option Told) → old.told ≡ x
-    → LimitSays {T = Generation} (limit_of from next) (Err error) → PrepareCause from next old new depot after error → BothTold KeepsFirmly x y
+    → LimitSays {T = Generation} (limit_of from next) (Err error) → PrepareCause from next old new depot after error → BothTold KeepsDurably x y
     → BothTold (AppliesTold (λ s. Replaces s depot next reply) from (unprepared from (refusal_from error))) x y
 unprepared_told next reply from depot after old new error None None told limit cause kept = tt
 unprepared_told next reply from depot after old new error None (Some e) told limit cause kept = absurd kept
 unprepared_told next reply from depot after old new error (Some d) None told limit cause kept = absurd kept
-unprepared_told next reply from depot after old new error (Some d) (Some e) told limit cause kept = λ s is firmly.
+unprepared_told next reply from depot after old new error (Some d) (Some e) told limit cause kept = λ s is durably.
     let P = Replaces s depot next reply in
-    let still = kept s firmly in
+    let still = kept s durably in
     record {
-      ends = unprepared_ends s from next depot reply (refusal_from error) e.places is (refuted s from next d old new depot after error is told firmly.stands limit cause) still.0;
+      ends = unprepared_ends s from next depot reply (refusal_from error) e.places is (refuted s from next d old new depot after error is told durably.stands limit cause) still.0;
       since = stands_since_wider (λ x. x ≡ s) (IsPassed P s) e d.clock (λ x same. inl same) still.1;
     }
 
 pub unprepared_applies : (next : Host) (reply : List ℕ) (from : Option Generation) (depot after : DepotState) (old new : DiskState) (error : StoreErr)
-    → LimitSays {T = Generation} (limit_of from next) (Err error) → PrepareCause from next old new depot after error → BothTold KeepsFirmly old.told new.told
+    → LimitSays {T = Generation} (limit_of from next) (Err error) → PrepareCause from next old new depot after error → BothTold KeepsDurably old.told new.told
     → BothTold (AppliesTold (λ s. Replaces s depot next reply) from (unprepared from (refusal_from error))) old.told new.told
 unprepared_applies next reply from depot after old new error limit cause kept = unprepared_told next reply from depot after old new error old.told new.told refl limit cause kept
 
 -- an error of a preparation
 pub is_of_preparing : (from : Option Generation) (next : Host) (old new : DiskState) (depot after : DepotState) (error : StoreErr) → PrepareCause from next old new depot after error → IsOfPreparing error
-is_of_preparing from next old new depot after store_errors.OutOfMemory cause = tt
-is_of_preparing from next old new depot after store_errors.DiskFault cause = tt
-is_of_preparing from next old new depot after store_errors.DepotFault cause = tt
+is_of_preparing from next old new depot after (store_errors.Fault store_faults.OutOfMemory) cause = tt
+is_of_preparing from next old new depot after (store_errors.Fault store_faults.DiskFault) cause = tt
+is_of_preparing from next old new depot after (store_errors.Fault store_faults.DepotFault) cause = tt
 is_of_preparing from next old new depot after (store_errors.Broken line) cause = cause
-is_of_preparing from next old new depot after (store_errors.Damaged home listed found) cause = tt
+is_of_preparing from next old new depot after (store_errors.Fault (store_faults.Damaged damage)) cause = tt
 is_of_preparing from next old new depot after (store_errors.Mismatch path listed found) cause = tt
 is_of_preparing from next old new depot after (store_errors.NotInDepot path) cause = tt
 is_of_preparing from next old new depot after store_errors.Unfinished cause = tt
 is_of_preparing from next old new depot after (store_errors.Limit which) cause = tt
 
-crowded : (from : Option Generation) (x y : Option Told) → BothTold (λ d e. CleansSays {T = Generation} (is_left from) (Err store_errors.Unfinished) d.places e.places) x y → IfSome x (λ d. MoreThan 1048576 (is_left from) d.places)
-crowded from None None cleans = tt
-crowded from None (Some e) cleans = absurd cleans
-crowded from (Some d) None cleans = absurd cleans
-crowded from (Some d) (Some e) cleans = cleans.0
+too_many_left_overs : (from : Option Generation) (x y : Option Told) → BothTold (λ d e. CleansSays {T = Generation} (is_left from) (Err store_errors.Unfinished) d.places e.places) x y → IfSome x (λ d. MoreThan most_left_overs (is_left from) d.places)
+too_many_left_overs from None None cleans = tt
+too_many_left_overs from None (Some e) cleans = absurd cleans
+too_many_left_overs from (Some d) None cleans = absurd cleans
+too_many_left_overs from (Some d) (Some e) cleans = cleans.0
 
 abbrev pub CauseOf : Option Generation → DiskState → DiskState → DepotState → DepotState → Result Refusal ApplyErr → Type 0
 CauseOf from old new depot after (Ok refusal) = Unit {0}
@@ -231,12 +228,12 @@ CauseOf from old new depot after (Err e) = ApplyCause from old new depot after e
 -- why it was not carried out
 pub unprepared_cause : (from : Option Generation) (next : Host) (old new : DiskState) (depot after : DepotState) (error : StoreErr) → Cleans {T = Generation} (is_left from) (Err error) old new → PrepareCause from next old new depot after error
     → CauseOf from old new depot after (refusal_from error)
-unprepared_cause from next old new depot after store_errors.OutOfMemory cleans cause = tt
-unprepared_cause from next old new depot after store_errors.DiskFault cleans cause = cause
-unprepared_cause from next old new depot after store_errors.DepotFault cleans cause = cause
+unprepared_cause from next old new depot after (store_errors.Fault store_faults.OutOfMemory) cleans cause = tt
+unprepared_cause from next old new depot after (store_errors.Fault store_faults.DiskFault) cleans cause = cause
+unprepared_cause from next old new depot after (store_errors.Fault store_faults.DepotFault) cleans cause = cause
 unprepared_cause from next old new depot after (store_errors.Broken line) cleans cause = tt
-unprepared_cause from next old new depot after (store_errors.Damaged home listed found) cleans cause = record { lists = cause.why.2.listed; differs = cause.why.2.differs }
+unprepared_cause from next old new depot after (store_errors.Fault (store_faults.Damaged damage)) cleans cause = record { lists = cause.why.2.listed; differs = cause.why.2.differs }
 unprepared_cause from next old new depot after (store_errors.Mismatch path listed found) cleans cause = tt
 unprepared_cause from next old new depot after (store_errors.NotInDepot path) cleans cause = tt
-unprepared_cause from next old new depot after store_errors.Unfinished cleans cause = crowded from old.told new.told cleans
+unprepared_cause from next old new depot after store_errors.Unfinished cleans cause = too_many_left_overs from old.told new.told cleans
 unprepared_cause from next old new depot after (store_errors.Limit which) cleans cause = tt

@@ -8,32 +8,33 @@ use Rattle.ext_disk.specs.Disk.{Places, Told, DiskState, BothTold, now}
 use Rattle.ext_disk.specs.Since.{IsLater}
 use Rattle.ext_host.specs.Shelf.{IsFound}
 use Rattle.ext_host.specs.declared.home.Home.{Home}
-use Rattle.ext_store.specs.HeldFiles.{node_told, told_at}
-use Rattle.ext_store.specs.Names.{home_path}
-use Rattle.ext_store.specs.Removal.{AllStand, MoreThan}
+use Rattle.ext_host.specs.declared.damage.Damage.{Damage}
+use Rattle.ext_store_files.specs.HeldFiles.{node_told, told_at}
+use Rattle.ext_store_files.specs.Names.{home_path}
+use Rattle.ext_store_files.specs.Removal.{AllStand, MoreThan}
 use Rattle.ext_gen.specs.Opened.{Generation}
 use Rattle.ext_gen.specs.Opening.{KeepsNow, OpenCause, OpenSays, OpensTold}
 use Rattle.ext_gen.specs.Preparing.{is_left}
 use Rattle.ext_gen.specs.Store.{State, Points, Stands}
-use Rattle.ext_gen.specs.Sound.{IsFirmly, IsMember, IsSound}
+use Rattle.ext_gen.specs.Sound.{IsDurably, IsMember, IsSound}
 use Rattle.ext_gen.specs.declared.errors.StoreErr.{StoreErr}
+use Rattle.ext_store_files.specs.declared.fault.StoreFault.TheVariants as store_faults
+use Rattle.ext_store_files.specs.LeftOvers.{most_left_overs}
 use Rattle.ext_gen.specs.declared.errors.StoreErr.TheVariants as store_errors
-use Rattle.ext_gen.proofs.ForCallers.{either_is_sound, firmly_is_sound, sound_is_not_broken, stands_since_then, stands_since_wider}
+use Rattle.ext_gen.proofs.ForCallers.{either_is_sound, durably_is_sound, sound_is_not_broken, stands_since_then, stands_since_wider}
 use Rattle.ext_cmd.specs.declared.refusal.Refusal.{Refusal}
 use Rattle.ext_top.specs.Alone.{status_of_refusal}
 use Rattle.ext_top.specs.Applying.{IsDamage, PointsAs}
-use Rattle.ext_top.specs.Exits.{IsOnTheWay, Line, Standing, StandsAs, between, firm}
+use Rattle.ext_top.specs.Exits.{IsOnTheWay, Line, Standing, StandsAs, between, durable}
 use Rattle.ext_top.specs.Lines.{LineCause, LineRuns, LineTold}
 use Rattle.ext_top.specs.Machine.{reply_of, state_after}
-use Rattle.ext_top.specs.Running.{IsClosed, IsCrowdedNow, IsDamagedNow, IsOfOpening, OpenedCause, RunsFrom, RunsSound, RunsTold, StoreCause, StoreSide, status_of, status_of_closed, status_of_stop, store_side}
+use Rattle.ext_top.specs.Running.{IsClosed, HasTooManyLeftOversNow, IsDamagedNow, IsOfOpening, OpenedCause, RunsFrom, RunsSound, RunsTold, StoreCause, StoreSide, status_of, status_of_closed, status_of_stop, store_side}
 use Rattle.ext_top.specs.declared.bad_store.BadStore.TheVariants as bad
 use Rattle.ext_top.specs.declared.lines.Written.{Written}
 use Rattle.ext_top.specs.declared.status.Status.{Status}
 use Rattle.ext_top.specs.declared.status.Status.TheVariants.{Done, Refused, Usage, ReadFault, WriteFault, DiskFault, DepotFault, OutOfMemory, BadStore, Unfinished, TooLong}
 use Rattle.ext_top.specs.declared.stop.Stop.{Stop}
 use Rattle.ext_top.specs.declared.stop.Stop.TheVariants as stops
-
--- ---- one line
 
 -- the result of lines, of which the last one is done or stopped so
 abbrev pub last_of : Result Written Stop → Result (Option Refusal) Stop
@@ -48,8 +49,8 @@ line_runs line depot k l (Ok written) s d e runs =
       status_is = refl;
       bytes = reply_of done.outcome;
       written = done.appends;
-      standing = firm (state_after s done.outcome);
-      stands = done.firmly;
+      standing = durable (state_after s done.outcome);
+      stands = done.durably;
       ends = inr (done.outcome, [], done.comes, sym (append-nil (reply_of done.outcome)), (ap Ok done.refusal, refl, refl));
       since = runs.since;
     }
@@ -71,7 +72,7 @@ pub line_is_run : (line : Line) (opened : Option Generation) (depot : DepotState
 line_is_run line opened depot k l result None None runs = tt
 line_is_run line opened depot k l result None (Some e) runs = absurd runs
 line_is_run line opened depot k l result (Some d) None runs = absurd runs
-line_is_run line opened depot k l result (Some d) (Some e) runs = λ s is firmly. line_runs line depot k l result s d e (runs s is firmly)
+line_is_run line opened depot k l result (Some d) (Some e) runs = λ s is durably. line_runs line depot k l result s d e (runs s is durably)
 
 -- a line that was done or refused blames nothing
 pub no_cause : (opened : Option Generation) (old new : StoreSide) (refusal : Option Refusal) → OpenedCause opened old new (status_of_refusal refusal)
@@ -84,10 +85,8 @@ stop_cause opened old new stops.DiskFault cause = cause
 stop_cause opened old new stops.DepotFault cause = cause
 stop_cause opened old new stops.OutOfMemory cause = tt
 stop_cause opened old new (stops.BadStore (bad.Broken line)) cause = absurd cause
-stop_cause opened old new (stops.BadStore (bad.Damaged home listed found)) cause = cause
+stop_cause opened old new (stops.BadStore (bad.Damaged damage)) cause = cause
 stop_cause opened old new stops.Unfinished cause = cause
-
--- ---- the same stands after opening
 
 same_now : (d e : Told) → KeepsNow d e → now e.places ≡ now d.places
 same_now d e keeps = λ i p. keeps.now p refl i
@@ -101,17 +100,15 @@ points_now opened (Some d) (Some e) keeps points = subst (λ t. Points t opened)
 pub opened_points : (opened : Option Generation) (old new : DiskState) → BothTold KeepsNow old.told new.told → IfSome old.told (λ d. OpenSays (Ok opened) (now d.places)) → PointsAs new opened
 opened_points opened old new keeps says = points_now opened old.told new.told keeps says
 
--- ---- opened
-
 standing_is_sound : (standing : Standing) (d : Places) → StandsAs standing d → IsSound d
-standing_is_sound (firm s) d firmly = firmly_is_sound s d firmly
+standing_is_sound (durable s) d durably = durably_is_sound s d durably
 standing_is_sound (between s u) d either = either_is_sound s u d either
 
 runs_opened : (lines : List Line) (depot : DepotState) (k l : SinkState) (status : Status) (opened : Option Generation) (d e f : Told) → IsLater e f → OpensTold (Ok opened) d e → RunsTold false lines opened depot k l status e f
     → RunsSound false lines depot k l status d f
 runs_opened lines depot k l status opened d e f later opens runs = λ sound.
-    let (s, is, stood, firmly) = (opens sound).ends in
-    let from = runs s is firmly in
+    let (s, is, stood, durably) = (opens sound).ends in
+    let from = runs s is durably in
     let P : State → Type 0 = λ x. IsMember d.places x ⊎ IsOnTheWay s depot lines x in (
       standing_is_sound from.standing f.places from.stands,
       inl (record {
@@ -139,34 +136,32 @@ opened_runs lines depot k l status opened (Some d) None z later opens runs = abs
 opened_runs lines depot k l status opened (Some d) (Some e) None later opens runs = absurd later
 opened_runs lines depot k l status opened (Some d) (Some e) (Some f) later opens runs = runs_opened lines depot k l status opened d e f later opens runs
 
--- ---- causes, from before opening
-
 rose_from : (a b c : ℕ) → a ≤ b → Rose b c → Rose a c
 rose_from a b c le (inl more) = inl (omega arith)
 rose_from a b c le (inr most) = inr most
 
-damaged_before : (opened : Option Generation) (home : Home) (listed : Stamp) (found : Option Stamp) (old mid : DiskState) (x y : Option Told) → mid.told ≡ y → BothTold KeepsNow x y → IfSome x (λ d. Points (now d.places) opened) → IsDamage opened mid home listed found
-    → IfSome x (λ d. IsDamagedNow d home listed found)
-damaged_before opened home listed found old mid None y told keeps points damage = tt
-damaged_before opened home listed found old mid (Some d) None told keeps points damage = absurd keeps
-damaged_before opened home listed found old mid (Some d) (Some e) told keeps points damage = record {
+damaged_before : (opened : Option Generation) (damage : Damage) (old mid : DiskState) (x y : Option Told) → mid.told ≡ y → BothTold KeepsNow x y → IfSome x (λ d. Points (now d.places) opened) → IsDamage opened mid damage
+    → IfSome x (λ d. IsDamagedNow d damage)
+damaged_before opened damage old mid None y told keeps points is = tt
+damaged_before opened damage old mid (Some d) None told keeps points is = absurd keeps
+damaged_before opened damage old mid (Some d) (Some e) told keeps points is = record {
   opened = opened;
   points = points;
-  lists = damage.lists;
-  differs = subst (λ t. IsFound listed t found) (ap (λ o. told_at o (home_path home.generation home.file)) told ∙ ap node_told (keeps.now (home_path home.generation home.file) refl)) damage.differs;
+  lists = is.lists;
+  differs = subst (λ t. IsFound damage.listed t damage.found) (ap (λ o. told_at o (home_path damage.home.generation damage.home.file)) told ∙ ap node_told (keeps.now (home_path damage.home.generation damage.home.file) refl)) is.differs;
 }
 
 all_stand_before : (left : List (List ℕ) → Bool) (d e : Told) (ps : List (List (List ℕ))) → KeepsNow d e → AllStand left e.places ps → AllStand left d.places ps
 all_stand_before left d e [] keeps all = tt
 all_stand_before left d e (p ∷ ps) keeps (reached, stands, rest) = (reached, ap is_some (sym (keeps.now p refl)) ∙ stands, all_stand_before left d e ps keeps rest)
 
-stand_before : (left : List (List ℕ) → Bool) (d e : Told) → KeepsNow d e → MoreThan 1048576 left e.places → MoreThan 1048576 left d.places
+stand_before : (left : List (List ℕ) → Bool) (d e : Told) → KeepsNow d e → MoreThan most_left_overs left e.places → MoreThan most_left_overs left d.places
 stand_before left d e keeps (ps, stand, long) = (ps, record { distinct = stand.distinct; all = all_stand_before left d e ps keeps stand.all }, long)
 
-crowded_before : (opened : Option Generation) (x y : Option Told) → BothTold KeepsNow x y → IfSome x (λ d. Points (now d.places) opened) → IfSome y (λ e. MoreThan 1048576 (is_left opened) e.places) → IfSome x IsCrowdedNow
-crowded_before opened None y keeps points more = tt
-crowded_before opened (Some d) None keeps points more = absurd keeps
-crowded_before opened (Some d) (Some e) keeps points more = record { opened = opened; points = points; more = stand_before (is_left opened) d e keeps more }
+too_many_before : (opened : Option Generation) (x y : Option Told) → BothTold KeepsNow x y → IfSome x (λ d. Points (now d.places) opened) → IfSome y (λ e. MoreThan most_left_overs (is_left opened) e.places) → IfSome x HasTooManyLeftOversNow
+too_many_before opened None y keeps points more = tt
+too_many_before opened (Some d) None keeps points more = absurd keeps
+too_many_before opened (Some d) (Some e) keeps points more = record { opened = opened; points = points; more = stand_before (is_left opened) d e keeps more }
 
 pub opened_cause : (opened : Option Generation) (k l : SinkState) (old mid new : DiskState) (before after : DepotState) (status : Status) → old.faults ≤ mid.faults → BothTold KeepsNow old.told mid.told → IfSome old.told (λ d. OpenSays (Ok opened) (now d.places))
     → OpenedCause opened (store_side k mid before) (store_side l new after) status → StoreCause (store_side k old before) (store_side l new after) status
@@ -179,18 +174,16 @@ opened_cause opened k l old mid new before after DiskFault le keeps says cause =
 opened_cause opened k l old mid new before after DepotFault le keeps says cause = cause
 opened_cause opened k l old mid new before after OutOfMemory le keeps says cause = tt
 opened_cause opened k l old mid new before after (BadStore (bad.Broken line)) le keeps says cause = absurd cause
-opened_cause opened k l old mid new before after (BadStore (bad.Damaged home listed found)) le keeps says cause = damaged_before opened home listed found old mid old.told mid.told refl keeps says cause
-opened_cause opened k l old mid new before after Unfinished le keeps says cause = crowded_before opened old.told mid.told keeps says cause
+opened_cause opened k l old mid new before after (BadStore (bad.Damaged damage)) le keeps says cause = damaged_before opened damage old mid old.told mid.told refl keeps says cause
+opened_cause opened k l old mid new before after Unfinished le keeps says cause = too_many_before opened old.told mid.told keeps says cause
 opened_cause opened k l old mid new before after TooLong le keeps says cause = absurd cause
 
--- ---- not opened
-
 pub is_of_opening : (old new : ℕ) (error : StoreErr) → OpenCause old new error → IsOfOpening error
-is_of_opening old new store_errors.OutOfMemory cause = tt
-is_of_opening old new store_errors.DiskFault cause = tt
-is_of_opening old new store_errors.DepotFault cause = cause
+is_of_opening old new (store_errors.Fault store_faults.OutOfMemory) cause = tt
+is_of_opening old new (store_errors.Fault store_faults.DiskFault) cause = tt
+is_of_opening old new (store_errors.Fault store_faults.DepotFault) cause = cause
 is_of_opening old new (store_errors.Broken line) cause = tt
-is_of_opening old new (store_errors.Damaged home listed found) cause = cause
+is_of_opening old new (store_errors.Fault (store_faults.Damaged damage)) cause = cause
 is_of_opening old new (store_errors.Mismatch path listed found) cause = cause
 is_of_opening old new (store_errors.NotInDepot path) cause = cause
 is_of_opening old new store_errors.Unfinished cause = cause
@@ -198,30 +191,30 @@ is_of_opening old new (store_errors.Limit which) cause = cause
 
 pub closed_cause : (k l : SinkState) (old new : DiskState) (before after : DepotState) (error : StoreErr) → IfSome old.told (λ d. OpenSays (Err error) (now d.places)) → OpenCause old.faults new.faults error
     → StoreCause (store_side k old before) (store_side l new after) (status_of_closed error)
-closed_cause k l old new before after store_errors.OutOfMemory says cause = tt
-closed_cause k l old new before after store_errors.DiskFault says cause = cause
-closed_cause k l old new before after store_errors.DepotFault says cause = absurd cause
+closed_cause k l old new before after (store_errors.Fault store_faults.OutOfMemory) says cause = tt
+closed_cause k l old new before after (store_errors.Fault store_faults.DiskFault) says cause = cause
+closed_cause k l old new before after (store_errors.Fault store_faults.DepotFault) says cause = absurd cause
 closed_cause k l old new before after (store_errors.Broken line) says cause = says
-closed_cause k l old new before after (store_errors.Damaged home listed found) says cause = absurd cause
+closed_cause k l old new before after (store_errors.Fault (store_faults.Damaged damage)) says cause = absurd cause
 closed_cause k l old new before after (store_errors.Mismatch path listed found) says cause = tt
 closed_cause k l old new before after (store_errors.NotInDepot path) says cause = tt
 closed_cause k l old new before after store_errors.Unfinished says cause = absurd cause
 closed_cause k l old new before after (store_errors.Limit which) says cause = tt
 
 closed_status : (d : Told) (old new : ℕ) (error : StoreErr) → IsSound d.places → OpenSays (Err error) (now d.places) → OpenCause old new error → IsClosed (status_of_closed error)
-closed_status d old new store_errors.OutOfMemory sound says cause = inr refl
-closed_status d old new store_errors.DiskFault sound says cause = inl refl
-closed_status d old new store_errors.DepotFault sound says cause = absurd cause
+closed_status d old new (store_errors.Fault store_faults.OutOfMemory) sound says cause = inr refl
+closed_status d old new (store_errors.Fault store_faults.DiskFault) sound says cause = inl refl
+closed_status d old new (store_errors.Fault store_faults.DepotFault) sound says cause = absurd cause
 closed_status d old new (store_errors.Broken line) sound says cause = absurd (sound_is_not_broken d.places line sound says)
-closed_status d old new (store_errors.Damaged home listed found) sound says cause = absurd cause
+closed_status d old new (store_errors.Fault (store_faults.Damaged damage)) sound says cause = absurd cause
 closed_status d old new (store_errors.Mismatch path listed found) sound says cause = absurd cause
 closed_status d old new (store_errors.NotInDepot path) sound says cause = absurd cause
 closed_status d old new store_errors.Unfinished sound says cause = absurd cause
 closed_status d old new (store_errors.Limit which) sound says cause = absurd cause
 
-closed_is_sound : (d e : Told) → IsSound d.places → ((e ≡ d) ⊎ ((s : State) × Stands (now d.places) s × IsFirmly s e.places)) → IsSound e.places
+closed_is_sound : (d e : Told) → IsSound d.places → ((e ≡ d) ⊎ ((s : State) × Stands (now d.places) s × IsDurably s e.places)) → IsSound e.places
 closed_is_sound d e sound (inl same) = subst (λ (t : Told). IsSound t.places) (sym same) sound
-closed_is_sound d e sound (inr (s, stood, firmly)) = firmly_is_sound s e.places firmly
+closed_is_sound d e sound (inr (s, stood, durably)) = durably_is_sound s e.places durably
 
 pub closed_runs : (lines : List Line) (depot : DepotState) (k : SinkState) (old new : ℕ) (error : StoreErr) (x y : Option Told) → IfSome x (λ d. OpenSays (Err error) (now d.places)) → OpenCause old new error → BothTold (OpensTold (Err error)) x y
     → BothTold (RunsSound false lines depot k k (status_of_closed error)) x y

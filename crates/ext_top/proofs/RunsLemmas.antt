@@ -12,18 +12,16 @@ use Rattle.ext_cmd.specs.Words.{IsWellFormed, command_words}
 use Rattle.ext_cmd.specs.declared.answer.Answer.{Answer}
 use Rattle.ext_cmd.specs.declared.command.Command.{Command}
 use Rattle.ext_cmd.specs.declared.refusal.Refusal.{Refusal}
-use Rattle.ext_step.specs.Layer.{LayersWant, LayerWants}
-use Rattle.ext_step.specs.Step.{is_of_store}
-use Rattle.ext_step.specs.declared.intent.Intent.{Intent}
-use Rattle.ext_step.specs.declared.intent.Intent.TheVariants.{Answers, Refuses}
+use Rattle.ext_intents.specs.Layer.{LayersWant, LayerWants}
+use Rattle.ext_intents.specs.Step.{is_of_store}
+use Rattle.ext_intents.specs.declared.intent.Intent.{Intent}
+use Rattle.ext_intents.specs.declared.intent.Intent.TheVariants.{Answers, Refuses}
 use Rattle.ext_gen.specs.Store.{none}
 use Rattle.ext_top.specs.Alone.{AloneWants, IsAlone, reads_source, status_of_refusal}
 use Rattle.ext_top.specs.Machine.{Outcome, gives, refuses, refusal_of, reply_of}
 use Rattle.ext_top.specs.Running.{CameTo, Devices, EndsAlone, Runs, RunsKind, TakesAll, TakesSome, WritesIntent, WritesLast, WritesOutcome, most_source, streams}
 use Rattle.ext_top.specs.declared.status.Status.{Status}
 use Rattle.ext_top.specs.declared.status.Status.TheVariants.{Done, Refused, Usage, ReadFault, WriteFault, DiskFault, DepotFault, OutOfMemory, BadStore, Unfinished, TooLong}
-
--- ---- what was come to is written
 
 pub answer_written : (answer : Answer) (text : List ℕ) (k l : SinkState) (status : Status) → text ≡ answer_text answer → WritesLast Done text k l status → WritesIntent (Answers answer) k l status
 answer_written answer text k l status is writes = (gives none (answer_text answer), refl, inl (subst (λ t. WritesLast Done t k l status) is writes))
@@ -45,8 +43,6 @@ layers_are_alone layers intent (layered, of, inr (many, is)) = subst IsAlone (sy
 pub layer_is_alone : (bytes : List ℕ) (intent : Intent) → LayerWants bytes intent → IsAlone intent
 layer_is_alone bytes intent (inl (trees, is, wants)) = layers_are_alone (reverse trees) intent wants
 layer_is_alone bytes intent (inr (line, fault, is)) = subst IsAlone (sym is) tt
-
--- ---- the end of a command that looks at no store
 
 whole_ends : (command : Command) (s s' : SourceState) (k k' : SinkState) (outcome : Outcome) (refusal : Option Refusal) → refusal_of outcome ≡ refusal → CameTo command s s' outcome → Appends k.written k'.written (reply_of outcome)
     → EndsAlone command (streams s k) (streams s' k') (status_of_refusal refusal)
@@ -75,8 +71,6 @@ pub intent_ends : (command : Command) (bytes : List ℕ) (s s' : SourceState) (k
     → EndsAlone command (streams s k) (streams s' k') status
 intent_ends command bytes s s' k k' intent status takes wants (outcome, says, writes) =
     outcome_ends command s s' k k' outcome status (record { bytes = bytes; takes = takes; comes = record { intent = intent; wants = wants; says = says } }) writes
-
--- ---- the words
 
 no_usage : (of_store : Bool) (command : Command) (old new : Devices) (place : ℕ) → ¬ RunsKind of_store command old new (Usage place)
 no_usage true command old new place runs = runs.store.cause

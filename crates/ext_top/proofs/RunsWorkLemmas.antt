@@ -2,10 +2,11 @@
 use Rattle.std.proofs.Common.{inl, inr, Option, Some, None, IfSome, Ok, refl}
 use Rattle.ext_depot.specs.Depot.{DepotState}
 use Rattle.ext_disk.specs.Disk.{Told, DiskState, BothTold, now}
-use Rattle.ext_store.proofs.ForCallers.{told_map}
+use Rattle.ext_store_files.proofs.ForCallers.{told_map}
 use Rattle.ext_gen.specs.Opened.{Generation}
 use Rattle.ext_gen.specs.Opening.{KeepsNow, OpenSays}
 use Rattle.ext_gen.specs.declared.errors.StoreErr.{StoreErr}
+use Rattle.ext_store_files.specs.declared.fault.StoreFault.TheVariants as store_faults
 use Rattle.ext_gen.specs.declared.errors.StoreErr.TheVariants as store_errors
 use Rattle.ext_cmd.specs.declared.command.Command.{Command}
 use Rattle.ext_cmd.specs.declared.refusal.Refusal.{Refusal}
@@ -17,8 +18,6 @@ use Rattle.ext_top.specs.declared.status.Status.TheVariants.{Done, Refused, Usag
 use Rattle.ext_top.specs.declared.stop.Stop.{Stop}
 use Rattle.ext_top.specs.declared.stop.Stop.TheVariants as stops
 use Rattle.ext_top.proofs.WorkingLemmas.{has_met_since, stays_told, wants_kept, works_through}
-
--- ---- by the status
 
 pub done_met : (M : Option Refusal → Option Generation → Type 0) (refusal : Option Refusal) (after : Option Generation) → M refusal after → StatusMet M (status_of_refusal refusal)
 done_met M None after met = (after, met)
@@ -45,8 +44,6 @@ met_wider M N wider (BadStore why) met = tt
 met_wider M N wider Unfinished met = tt
 met_wider M N wider TooLong met = tt
 
--- ---- over a store that was opened
-
 works_opened : (command : Command) (opened : Option Generation) (old : DiskState) (depot : DepotState) (x y : Option Told) → IfSome x (λ d. OpenSays (Ok opened) (now d.places)) → BothTold (WorksFor (WantsOn opened old depot command) opened) x y
     → BothTold (RunWorks command old depot) x y
 works_opened command opened old depot None None says works = tt
@@ -66,17 +63,15 @@ run_met command opened old mid new depot status keeps says met =
     met_wider (HasMet (WantsOn opened mid depot command) opened mid new depot) (OpenedMet command old new depot)
     (λ refusal after has. (opened, says, has_met_since (WantsOn opened mid depot command) (WantsOn opened old depot command) opened old mid new depot depot refusal after keeps refl (λ intent wants. wants_kept old mid keeps opened depot command intent wants) has)) status met
 
--- ---- over one that was not
-
 pub closed_works : (command : Command) (old : DiskState) (depot : DepotState) (x y : Option Told) → BothTold KeepsNow x y → BothTold (RunWorks command old depot) x y
 closed_works command old depot x y keeps = told_map StaysTold (RunWorks command old depot) (λ d e still. inl still) x y (stays_told x y keeps)
 
 pub closed_met : (command : Command) (old new : DiskState) (depot : DepotState) (error : StoreErr) → RunMet command old new depot (status_of_closed error)
-closed_met command old new depot store_errors.OutOfMemory = tt
-closed_met command old new depot store_errors.DiskFault = tt
-closed_met command old new depot store_errors.DepotFault = tt
+closed_met command old new depot (store_errors.Fault store_faults.OutOfMemory) = tt
+closed_met command old new depot (store_errors.Fault store_faults.DiskFault) = tt
+closed_met command old new depot (store_errors.Fault store_faults.DepotFault) = tt
 closed_met command old new depot (store_errors.Broken line) = tt
-closed_met command old new depot (store_errors.Damaged home listed found) = tt
+closed_met command old new depot (store_errors.Fault (store_faults.Damaged damage)) = tt
 closed_met command old new depot (store_errors.Mismatch path listed found) = tt
 closed_met command old new depot (store_errors.NotInDepot path) = tt
 closed_met command old new depot store_errors.Unfinished = tt

@@ -16,36 +16,36 @@ use Rattle.ext_host.specs.declared.host.Host.{Host}
 use Rattle.ext_host.specs.declared.shelf.ShelfErr.{ShelfErr}
 use Rattle.ext_host.specs.declared.shelf.ShelfErr.TheVariants as shelf_errors
 use Rattle.ext_find.specs.HostRelease.{ShelfFault}
-use Rattle.ext_store.specs.HeldFiles.{IsListed, body_told, is_served, told_at}
-use Rattle.ext_store.specs.Names.{home_path}
-use Rattle.ext_store.specs.Removal.{MoreThan}
+use Rattle.ext_store_files.specs.HeldFiles.{IsListed, body_told, is_served, told_at}
+use Rattle.ext_store_files.specs.Names.{home_path}
+use Rattle.ext_store_files.specs.Removal.{MoreThan}
 use Rattle.ext_gen.specs.Opened.{Generation, IsOpened}
 use Rattle.ext_gen.specs.Preparing.{is_left}
 use Rattle.ext_gen.specs.Store.{Points, State, none, at, Stands, generation_in}
-use Rattle.ext_gen.specs.Sound.{IsFirmly}
+use Rattle.ext_gen.specs.Sound.{IsDurably}
 use Rattle.ext_gen.proofs.ForCallers.{opened_is_served, opened_is_valid, stands_since_wider}
 use Rattle.ext_cmd.specs.declared.command.Command.{Command}
-use Rattle.ext_step.specs.Causes.{StepCause}
-use Rattle.ext_step.specs.Intents.{IsFit}
-use Rattle.ext_step.specs.Step.{TellAlike, Wants, WantsFirst, WantsOf}
-use Rattle.ext_step.specs.declared.intent.Intent.{Intent}
-use Rattle.ext_step.specs.declared.plan_err.PlanErr.{PlanErr}
-use Rattle.ext_step.specs.declared.plan_err.PlanErr.TheVariants as plan_errors
-use Rattle.ext_step.proofs.ForCallers.{wants_alike, wants_fit}
-use Rattle.ext_view.specs.Survey.{ServesHost}
-use Rattle.ext_top.specs.Applying.{AppliesEnds, AppliesTold, ApplyCause, IsPassed, IsShownReply, PointsAs, RestCause, SeeCause, of_plan, of_shelf, seen_on}
+use Rattle.ext_intents.specs.Causes.{StepCause}
+use Rattle.ext_intents.specs.Intents.{IsFit}
+use Rattle.ext_intents.specs.Step.{TellAlike, Wants, WantsFirst, WantsOf}
+use Rattle.ext_intents.specs.declared.intent.Intent.{Intent}
+use Rattle.ext_intents.specs.declared.plan_err.PlanErr.{PlanErr}
+use Rattle.ext_intents.specs.declared.plan_err.PlanErr.TheVariants as plan_errors
+use Rattle.ext_intents.proofs.ForCallers.{wants_alike, wants_fit}
+use Rattle.ext_host.specs.Planning.{ServesHost}
+use Rattle.ext_top.specs.Applying.{AppliesEnds, AppliesTold, ApplyCause, IsPassed, IsShownReply, PointsAs, RestCause, SeeCause, of_plan, apply_err_of_shelf, seen_on}
 use Rattle.ext_top.specs.Machine.{Comes, Outcome, Step, bytes_at, seen_in}
 use Rattle.ext_top.specs.declared.applied.Applied.{Applied}
 use Rattle.ext_top.specs.declared.applied.Reply.{Reply}
 use Rattle.ext_top.specs.declared.applied.Reply.TheVariants.{Text, File, Refused}
 use Rattle.ext_top.specs.declared.apply_err.ApplyErr.{ApplyErr}
-use Rattle.ext_top.specs.declared.apply_err.ApplyErr.TheVariants.{DiskFault, DepotFault, Damaged, Unfinished, OutOfMemory}
+use Rattle.ext_store_files.specs.declared.fault.StoreFault.TheVariants.{OutOfMemory, DiskFault, DepotFault, Damaged}
+use Rattle.ext_store_files.specs.LeftOvers.{most_left_overs}
+use Rattle.ext_top.specs.declared.apply_err.ApplyErr.TheVariants.{Fault, Unfinished}
 use Rattle.ext_top.proofs.ApplyingLemmas.{comes_alike, ends_wider, passed_wider, rested_told}
 use Rattle.ext_top.proofs.CheckLemmas.{kept_is_listed}
 use Rattle.ext_top.proofs.ReadingLemmas.{file_cause, no_damage}
 use Rattle.ext_top.proofs.StoredLemmas.{told_home}
-
--- ---- a store that is there
 
 body_alike : (g : Generation) (contents : Home → List ℕ) (d : Told) (disk : DiskState) → IsOpened g → disk.told ≡ Some d → Stands (now d.places) (at g contents) → (held : HeldFile) (body : Body) → held.body ≡ body → IsFileOf (trees_of g.host) held
     → body_told disk body ≡ stored (bytes_at (at g contents) body)
@@ -61,41 +61,37 @@ told_alike g contents d disk opened told stands = λ held file. body_alike g con
 
 -- so what is wanted of what is seen on the disk is wanted of the state
 wants_of_state : (g : Generation) (d : Told) (disk : DiskState) (depot : DepotState) (command : Command) (intent : Intent) → IsOpened g → disk.told ≡ Some d → Wants (seen_on (Some g) disk) depot command intent
-    → (s : State) → generation_in s ≡ Some g → IsFirmly s d.places → Wants (seen_in s) depot command intent
-wants_of_state g d disk depot command intent opened told wants none is firmly = absurd (let wrong : None ≡ Some g = is in cc)
-wants_of_state g d disk depot command intent opened told wants (at h contents) is firmly =
+    → (s : State) → generation_in s ≡ Some g → IsDurably s d.places → Wants (seen_in s) depot command intent
+wants_of_state g d disk depot command intent opened told wants none is durably = absurd (let wrong : None ≡ Some g = is in cc)
+wants_of_state g d disk depot command intent opened told wants (at h contents) is durably =
     let same : g ≡ h = let one : Some h ≡ Some g = is in cc in
     let here = subst IsOpened same opened in
     let seen = subst (λ x. Wants (seen_on (Some x) disk) depot command intent) same wants in
-    wants_alike h.host (λ held. body_told disk held.body) (λ held. stored (bytes_at (at h contents) held.body)) (told_alike h contents d disk here told firmly.stands) (h.text == 2) depot command intent seen
+    wants_alike h.host (λ held. body_told disk held.body) (λ held. stored (bytes_at (at h contents) held.body)) (told_alike h contents d disk here told durably.stands) (h.text == 2) depot command intent seen
 
--- ---- none
+first_of_state : (d : Told) (depot : DepotState) (command : Command) (intent : Intent) → WantsFirst command intent → (s : State) → generation_in s ≡ None → IsDurably s d.places → Wants (seen_in s) depot command intent
+first_of_state d depot command intent wants none is durably = wants
+first_of_state d depot command intent wants (at h contents) is durably = absurd (let wrong : Some h ≡ None = is in cc)
 
-first_of_state : (d : Told) (depot : DepotState) (command : Command) (intent : Intent) → WantsFirst command intent → (s : State) → generation_in s ≡ None → IsFirmly s d.places → Wants (seen_in s) depot command intent
-first_of_state d depot command intent wants none is firmly = wants
-first_of_state d depot command intent wants (at h contents) is firmly = absurd (let wrong : Some h ≡ None = is in cc)
-
--- of each state for which the disk firmly stands
+-- of each state for which the disk durably stands
 abbrev pub WantsHere : Option Generation → DepotState → Command → Intent → Told → Type 0
-WantsHere from depot command intent d = (s : State) → generation_in s ≡ from → IsFirmly s d.places → Wants (seen_in s) depot command intent
+WantsHere from depot command intent d = (s : State) → generation_in s ≡ from → IsDurably s d.places → Wants (seen_in s) depot command intent
 
 wants_here : (from : Option Generation) (disk : DiskState) (depot : DepotState) (command : Command) (intent : Intent) (d : Told) → IfSome from IsOpened → disk.told ≡ Some d → Wants (seen_on from disk) depot command intent → WantsHere from depot command intent d
 wants_here None disk depot command intent d opened told wants = first_of_state d depot command intent wants
 wants_here (Some g) disk depot command intent d opened told wants = wants_of_state g d disk depot command intent opened told wants
 
--- of either, and so of each state for which a disk firmly stands that tells
+-- of either, and so of each state for which a disk durably stands that tells
 pub wants_of_all : (from : Option Generation) (disk : DiskState) (depot : DepotState) (command : Command) (intent : Intent) → IfSome from IsOpened → Wants (seen_on from disk) depot command intent → IfSome disk.told (WantsHere from depot command intent)
 wants_of_all from disk depot command intent opened wants =
     elim disk.told as (λ o. disk.told ≡ o → IfSome o (WantsHere from depot command intent)) [ None ↦ λ _. tt | Some d ↦ λ told. wants_here from disk depot command intent d opened told wants ] refl
 
--- ---- what comes of what is wanted is the step
-
 step_of : (from : Option Generation) (depot later : DepotState) (command : Command) (intent : Intent) (result : Result Applied ApplyErr) (d e : Told) → later.contents ≡ depot.contents → WantsHere from depot command intent d
     → AppliesTold (λ s. Comes s later intent) from result d e → AppliesTold (λ s. Step s depot command) from result d e
-step_of from depot later command intent result d e same wants applies = λ s is firmly.
-    let of = applies s is firmly in
+step_of from depot later command intent result d e same wants applies = λ s is durably.
+    let of = applies s is durably in
     let wider : (outcome : Outcome) → Comes s later intent outcome → Step s depot command outcome
-    = λ outcome comes. record { intent = intent; wants = wants s is firmly; comes = comes_alike s depot later intent outcome same comes } in
+    = λ outcome comes. record { intent = intent; wants = wants s is durably; comes = comes_alike s depot later intent outcome same comes } in
     record {
       ends = ends_wider (Comes s later intent) (Step s depot command) s result e.places wider of.ends;
       since = stands_since_wider (IsPassed (Comes s later intent) s) (IsPassed (Step s depot command) s) e d.clock (λ x. passed_wider (Comes s later intent) (Step s depot command) s x wider) of.since;
@@ -108,48 +104,44 @@ steps_told from depot later command intent result None (Some e) same wants appli
 steps_told from depot later command intent result (Some d) None same wants applies = absurd applies
 steps_told from depot later command intent result (Some d) (Some e) same wants applies = step_of from depot later command intent result d e same wants applies
 
--- ---- where it was not found what is wanted
-
-see_ends : (P : Outcome → Type 0) (from : Option Generation) (old new : DiskState) (before after : DepotState) (error : ApplyErr) (s : State) (d : Told) → generation_in s ≡ from → old.told ≡ Some d → IsFirmly s d.places
+see_ends : (P : Outcome → Type 0) (from : Option Generation) (old new : DiskState) (before after : DepotState) (error : ApplyErr) (s : State) (d : Told) → generation_in s ≡ from → old.told ≡ Some d → IsDurably s d.places
     → SeeCause from old new before after error → AppliesEnds P s (Err error) d.places
-see_ends P from old new before after DiskFault s d is told firmly cause = inl firmly
-see_ends P from old new before after DepotFault s d is told firmly cause = firmly
-see_ends P from old new before after (Damaged home listed found) s d is told firmly cause = absurd (no_damage s from d old home listed found is told firmly.stands cause)
-see_ends P from old new before after Unfinished s d is told firmly cause = absurd cause
-see_ends P from old new before after OutOfMemory s d is told firmly cause = firmly
+see_ends P from old new before after (Fault DiskFault) s d is told durably cause = inl durably
+see_ends P from old new before after (Fault DepotFault) s d is told durably cause = durably
+see_ends P from old new before after (Fault (Damaged damage)) s d is told durably cause = absurd (no_damage s from d old damage is told durably.stands cause)
+see_ends P from old new before after Unfinished s d is told durably cause = absurd cause
+see_ends P from old new before after (Fault OutOfMemory) s d is told durably cause = durably
 
 pub unseen_applies : (P : State → Outcome → Type 0) (from : Option Generation) (old new : DiskState) (before after : DepotState) (error : ApplyErr) → new.told ≡ old.told → IfSome old.told IsDisk → SeeCause from old new before after error
     → BothTold (AppliesTold P from (Err error)) old.told new.told
 unseen_applies P from old new before after error same disk cause =
-    rested_told P from (Err error) old.told new.told same disk (λ d told s is firmly. see_ends (P s) from old new before after error s d is told firmly cause)
+    rested_told P from (Err error) old.told new.told same disk (λ d told s is durably. see_ends (P s) from old new before after error s d is told durably cause)
 
 pub see_cause : (from : Option Generation) (old new : DiskState) (before after : DepotState) (error : ApplyErr) → SeeCause from old new before after error → ApplyCause from old new before after error
-see_cause from old new before after DiskFault cause = cause
-see_cause from old new before after DepotFault cause = cause
-see_cause from old new before after (Damaged home listed found) cause = cause
+see_cause from old new before after (Fault DiskFault) cause = cause
+see_cause from old new before after (Fault DepotFault) cause = cause
+see_cause from old new before after (Fault (Damaged damage)) cause = cause
 see_cause from old new before after Unfinished cause = absurd cause
-see_cause from old new before after OutOfMemory cause = tt
+see_cause from old new before after (Fault OutOfMemory) cause = tt
 
 rest_see : (from : Option Generation) (old new : DiskState) (before after : DepotState) (error : ApplyErr) → RestCause from old new error → SeeCause from old new before after error
-rest_see from old new before after DiskFault cause = cause
-rest_see from old new before after DepotFault cause = absurd cause
-rest_see from old new before after (Damaged home listed found) cause = cause
+rest_see from old new before after (Fault DiskFault) cause = cause
+rest_see from old new before after (Fault DepotFault) cause = absurd cause
+rest_see from old new before after (Fault (Damaged damage)) cause = cause
 rest_see from old new before after Unfinished cause = absurd cause
-rest_see from old new before after OutOfMemory cause = tt
+rest_see from old new before after (Fault OutOfMemory) cause = tt
 
 shelf_cause : (old new : ℕ) (told : shelf.Told) (held : HeldFile) (e : ShelfErr) → ShelfFault old new told held e → ShelfCause old new told held e
 shelf_cause old new told held shelf_errors.OutOfMemory fault = absurd fault
 shelf_cause old new told held shelf_errors.Fault fault = fault
-shelf_cause old new told held (shelf_errors.Damaged home listed found) fault = fault
+shelf_cause old new told held (shelf_errors.Damaged damage) fault = fault
 
 pub step_cause : (g : Generation) (old new : DiskState) (before after : DepotState) (error : PlanErr) → StepCause g.host (λ held. body_told old held.body) old.faults new.faults before.faults after.faults error
     → SeeCause (Some g) old new before after (of_plan error)
 step_cause g old new before after plan_errors.DepotFault cause = cause
 step_cause g old new before after (plan_errors.Shelf e) cause =
-    rest_see (Some g) old new before after (of_shelf e) (file_cause (Some g) old new cause.held e cause.file (shelf_cause old.faults new.faults (body_told old cause.held.body) cause.held e cause.cause))
+    rest_see (Some g) old new before after (apply_err_of_shelf e) (file_cause (Some g) old new cause.held e cause.file (shelf_cause old.faults new.faults (body_told old cause.held.body) cause.held e cause.cause))
 step_cause g old new before after plan_errors.OutOfMemory cause = tt
-
--- ---- over a disk that was only read before
 
 body_same : (old mid : DiskState) → mid.told ≡ old.told → (body : Body) → body_told mid body ≡ body_told old body
 body_same old mid same (Here bytes) = refl
@@ -166,21 +158,19 @@ shown_since from old mid new (File held) rests shown =
 shown_since from old mid new (Refused refusal) rests shown = tt
 
 pub cause_mid : (from : Option Generation) (old mid new : DiskState) (before between after : DepotState) (error : ApplyErr) → Rests old mid → before.faults ≤ between.faults → ApplyCause from mid new between after error → ApplyCause from old new before after error
-cause_mid from old mid new before between after DiskFault rests le (inl more) = let low = rests.count in inl (omega arith)
-cause_mid from old mid new before between after DiskFault rests le (inr most) = inr most
-cause_mid from old mid new before between after DepotFault rests le (inl more) = inl (omega arith)
-cause_mid from old mid new before between after DepotFault rests le (inr most) = inr most
-cause_mid from old mid new before between after (Damaged home listed found) rests le cause = record {
+cause_mid from old mid new before between after (Fault DiskFault) rests le (inl more) = let low = rests.count in inl (omega arith)
+cause_mid from old mid new before between after (Fault DiskFault) rests le (inr most) = inr most
+cause_mid from old mid new before between after (Fault DepotFault) rests le (inl more) = inl (omega arith)
+cause_mid from old mid new before between after (Fault DepotFault) rests le (inr most) = inr most
+cause_mid from old mid new before between after (Fault (Damaged damage)) rests le cause = record {
   lists = cause.lists;
-  differs = subst (λ t. IsFound listed (told_at t (home_path home.generation home.file)) found) rests.told cause.differs;
+  differs = subst (λ t. IsFound damage.listed (told_at t (home_path damage.home.generation damage.home.file)) damage.found) rests.told cause.differs;
 }
-cause_mid from old mid new before between after Unfinished rests le cause = subst (λ t. IfSome t (λ (d : Told). MoreThan 1048576 (is_left from) d.places)) rests.told cause
-cause_mid from old mid new before between after OutOfMemory rests le cause = tt
+cause_mid from old mid new before between after Unfinished rests le cause = subst (λ t. IfSome t (λ (d : Told). MoreThan most_left_overs (is_left from) d.places)) rests.told cause
+cause_mid from old mid new before between after (Fault OutOfMemory) rests le cause = tt
 
 pub applies_since : (P : State → Outcome → Type 0) (from : Option Generation) (result : Result Applied ApplyErr) (x mid y : Option Told) → mid ≡ x → BothTold (AppliesTold P from result) mid y → BothTold (AppliesTold P from result) x y
 applies_since P from result x mid y same applies = subst (λ t. BothTold (AppliesTold P from result) t y) same applies
-
--- ---- what is asked of an opened store
 
 -- a shelf over it serves the files of its host
 pub opened_serves : (g : Generation) (host : Host) → host ≡ g.host → IsOpened g → ServesHost (λ held. is_served held.body) host

@@ -12,15 +12,15 @@ use Rattle.ext_host.specs.declared.body.Body.{Body}
 use Rattle.ext_host.specs.declared.body.Body.TheVariants.{Here, Kept, Depot}
 use Rattle.ext_host.specs.declared.home.Home.{Home}
 use Rattle.ext_host.proofs.ForCallers.{one_stamp}
-use Rattle.ext_store.specs.Copying.{contents_told}
-use Rattle.ext_store.specs.HeldFiles.{node_told, told_at}
-use Rattle.ext_store.specs.Names.{home_path}
+use Rattle.ext_store_files.specs.Copying.{contents_told}
+use Rattle.ext_store_files.specs.HeldFiles.{node_told, told_at}
+use Rattle.ext_store_files.specs.Names.{home_path}
 use Rattle.ext_homes.specs.Giving.{home_told, lists_kept, stored_by, trees_before}
 use Rattle.ext_homes.specs.Placed.{brought_told}
 use Rattle.ext_gen.specs.Opened.{Generation}
 use Rattle.ext_gen.specs.Preparing.{contents_of, host_before}
 use Rattle.ext_gen.specs.Store.{State, none, at, Stands, generation_in}
-use Rattle.ext_top.specs.Machine.{stored_in, trees_in}
+use Rattle.ext_top.specs.Machine.{stored_of, trees_in}
 use Rattle.ext_top.proofs.PlacedLemmas.{Alike}
 
 -- no trees have no file
@@ -51,7 +51,7 @@ depot_alike d e same (Depot path) = ap (λ files. contents_told files path) same
 
 -- the store as its disk tells it, and as the state has it
 pub alike_stored : (s : State) (from : Option Generation) (d : Told) (disk : DiskState) (depot : DepotState) → generation_in s ≡ from → disk.told ≡ Some d → Stands (now d.places) s
-    → Alike (stored_by (host_before from) disk) (stored_in s) depot depot
+    → Alike (stored_by (host_before from) disk) (stored_of s) depot depot
 alike_stored s from d disk depot is told stands =
     let trees : trees_before (host_before from) ≡ trees_in s = ap (λ o. trees_before (host_before o)) (sym is) in
     record {
@@ -62,7 +62,7 @@ alike_stored s from d disk depot is told stands =
     }
 
 -- the same store, with a depot of the same files
-pub alike_depot : (s : State) (d e : DepotState) → e.contents ≡ d.contents → Alike (stored_in s) (stored_in s) e d
+pub alike_depot : (s : State) (d e : DepotState) → e.contents ≡ d.contents → Alike (stored_of s) (stored_of s) e d
 alike_depot s d e same = record {
   lists = λ stamp home listed. listed;
   back = λ stamp home listed. listed;

@@ -6,11 +6,11 @@ use Rattle.ext_disk.specs.Disk.{Places, Told, DiskState, BothTold, now}
 use Rattle.ext_host.specs.declared.body.Body.{Body}
 use Rattle.ext_host.specs.declared.body.Body.TheVariants.{Here, Kept, Depot}
 use Rattle.ext_host.specs.declared.host.Host.{Host}
-use Rattle.ext_store.specs.HeldFiles.{IsListed, body_told, node_told, told_at}
-use Rattle.ext_store.specs.Names.{current_path, generation_path, home_path, next_path}
-use Rattle.ext_store.specs.Removal.{AllStand, AtMost}
-use Rattle.ext_store.specs.Writing.{is_at}
-use Rattle.ext_store.proofs.ForCallers.{told_map, told_same, told_then}
+use Rattle.ext_store_files.specs.HeldFiles.{IsListed, body_told, node_told, told_at}
+use Rattle.ext_store_files.specs.Names.{current_path, generation_path, home_path, next_path}
+use Rattle.ext_store_files.specs.Removal.{AllStand, AtMost}
+use Rattle.ext_store_files.specs.Writing.{is_at}
+use Rattle.ext_store_files.proofs.ForCallers.{told_map, told_same, told_then}
 use Rattle.ext_homes.specs.Giving.{stored_by}
 use Rattle.ext_gen.specs.Checking.{IsAsListed, files_of_host}
 use Rattle.ext_gen.specs.Committing.{SwitchesNow, is_switched}
@@ -20,21 +20,21 @@ use Rattle.ext_gen.specs.Preparing.{Prepares, PreparesTold, coming_number, host_
 use Rattle.ext_gen.specs.PreparingPaths.{ChangesAt, ChangesTold, Cleans, CleansSays, IsComing, gone, made, stays}
 use Rattle.ext_gen.specs.PreparingPaths as paths
 use Rattle.ext_gen.specs.declared.errors.StoreErr.{StoreErr}
+use Rattle.ext_store_files.specs.declared.fault.StoreFault.TheVariants as store_faults
+use Rattle.ext_store_files.specs.LeftOvers.{most_left_overs}
 use Rattle.ext_gen.specs.declared.errors.StoreErr.TheVariants as store_errors
 use Rattle.ext_cmd.specs.declared.command.Command.{Command}
 use Rattle.ext_cmd.specs.declared.refusal.Refusal.{Refusal}
 use Rattle.ext_cmd.specs.declared.answer.Answer.{Answer}
-use Rattle.ext_step.specs.Step.{Wants}
-use Rattle.ext_step.specs.declared.intent.Intent.{Intent}
-use Rattle.ext_step.specs.declared.intent.Intent.TheVariants.{Changes, Answers, Checks, Shows, Refuses}
+use Rattle.ext_intents.specs.Step.{Wants}
+use Rattle.ext_intents.specs.declared.intent.Intent.{Intent}
+use Rattle.ext_intents.specs.declared.intent.Intent.TheVariants.{Changes, Answers, Checks, Shows, Refuses}
 use Rattle.ext_top.specs.Applying.{refusal_from, seen_on}
-use Rattle.ext_top.specs.Working.{AppliedSo, AreListed, HasMet, IsCleared, Met, ReplacedTold, ReplacesAt, ReplacesTold, StaysTold, WantsOn, WorksFor, WorksTold, changes, current, refused_by}
+use Rattle.ext_top.specs.Working.{AppliedSo, AreListed, HasMet, IsCleared, Met, ReplacedTold, ReplacesAt, ReplacesTold, StaysTold, WantsOn, WorksFor, WorksAsWanted, changes, current, refused_by}
 use Rattle.ext_top.specs.declared.applied.Applied.{Applied}
 use Rattle.ext_top.specs.declared.apply_err.ApplyErr.{ApplyErr}
 use Rattle.ext_top.proofs.PlacedLemmas.{Alike, host_alike}
 use Rattle.ext_top.proofs.StoredLemmas.{depot_alike}
-
--- ---- a disk on which the same stands
 
 keeps_itself : (d : Told) → KeepsNow d d
 keeps_itself d = record { now = λ p out. refl; appended = omega arith }
@@ -48,8 +48,6 @@ keeps_stays d e keeps = let few = keeps.appended in record { now = λ p. keeps.n
 
 pub stays_told : (x y : Option Told) → BothTold KeepsNow x y → BothTold StaysTold x y
 stays_told x y keeps = told_map KeepsNow StaysTold keeps_stays x y keeps
-
--- ---- what is done after it
 
 stays_since : (c d e : Told) → KeepsNow c d → StaysTold d e → StaysTold c e
 stays_since c d e keeps still =
@@ -69,7 +67,7 @@ replaces_since from next c d e keeps replaces =
     let more = replaces.appended in
     record { now = λ p. replaces_at_since from next c.places d.places e.places p (keeps.now p refl) (replaces.now p); appended = omega arith }
 
-works_since : (from : Option Generation) (next : Option Host) (c d e : Told) → KeepsNow c d → WorksTold from next d e → WorksTold from next c e
+works_since : (from : Option Generation) (next : Option Host) (c d e : Told) → KeepsNow c d → WorksAsWanted from next d e → WorksAsWanted from next c e
 works_since from None c d e keeps works = stays_since c d e keeps works
 works_since from (Some next) c d e keeps works = replaces_since from next c d e keeps works
 
@@ -91,8 +89,6 @@ works_nothing W from x = works_not W from x x (told_same KeepsNow keeps_itself x
 pub replaces_works : (next : Host) (answer : Answer) (from : Option Generation) (x y : Option Told) → BothTold (ReplacesTold from next) x y → BothTold (WorksFor (λ intent. intent ≡ Changes next answer) from) x y
 replaces_works next answer from x y replaces =
     told_map (ReplacesTold from next) (WorksFor (λ intent. intent ≡ Changes next answer) from) (λ d e works. inr (Changes next answer, refl, works)) x y replaces
-
--- ---- what is seen is the same
 
 told_kept : (x y : Option Told) → BothTold KeepsNow x y → (p : List (List ℕ)) → told_at y p ≡ told_at x p
 told_kept None None keeps p = refl
@@ -129,7 +125,7 @@ all_stand : (left : List (List ℕ) → Bool) (c d : Told) (ps : List (List (Lis
 all_stand left c d [] keeps all = tt
 all_stand left c d (p ∷ ps) keeps (reached, stands, rest) = (reached, ap is_some (keeps.now p refl) ∙ stands, all_stand left c d ps keeps rest)
 
-few_before : (left : List (List ℕ) → Bool) (c d : Told) → KeepsNow c d → AtMost 1048576 left d.places → AtMost 1048576 left c.places
+few_before : (left : List (List ℕ) → Bool) (c d : Told) → KeepsNow c d → AtMost most_left_overs left d.places → AtMost most_left_overs left c.places
 few_before left c d keeps few ps stand = few ps (record { distinct = stand.distinct; all = all_stand left c d ps keeps stand.all })
 
 replaced_since : (from : Option Generation) (coming : Generation) (written : List (List ℕ)) (c d e : Told) → KeepsNow c d → ReplacedTold from coming written d e → ReplacedTold from coming written c e
@@ -138,7 +134,7 @@ replaced_since from coming written c d e keeps replaced =
     let more = replaced.appended in
     record { few = few_before (is_left from) c d keeps replaced.few; generations = replaced.generations; appended = omega arith }
 
-few_told : (from : Option Generation) (x y : Option Told) → BothTold KeepsNow x y → IfSome y (λ e. AtMost 1048576 (is_left from) e.places) → IfSome x (λ d. AtMost 1048576 (is_left from) d.places)
+few_told : (from : Option Generation) (x y : Option Told) → BothTold KeepsNow x y → IfSome y (λ e. AtMost most_left_overs (is_left from) e.places) → IfSome x (λ d. AtMost most_left_overs (is_left from) d.places)
 few_told from None y keeps few = tt
 few_told from (Some d) None keeps few = absurd keeps
 few_told from (Some d) (Some e) keeps few = few_before (is_left from) d e keeps few
@@ -195,8 +191,6 @@ has_met_then W from old mid new depot refusal after same (intent, is, met) = (in
 pub works_then : (W : Intent → Type 0) (from : Option Generation) (x y z : Option Told) → z ≡ y → BothTold (WorksFor W from) x y → BothTold (WorksFor W from) x z
 works_then W from x y z same works = subst (λ t. BothTold (WorksFor W from) x t) (sym same) works
 
--- ---- a switch
-
 or_parts : (a b : Bool) → a || b ≡ true → (a ≡ true) ⊎ (b ≡ true)
 or_parts true b is = inl refl
 or_parts false b is = inr is
@@ -227,8 +221,6 @@ switches_told from next x y z works now = told_then (Works from next) SwitchesNo
 pub unswitched_told : (from : Option Generation) (next : Host) (x y : Option Told) → BothTold (Works from next) x y → BothTold (ReplacesTold from next) x y
 unswitched_told from next x y works = told_map (Works from next) (ReplacesTold from next) (λ d e w. record { now = λ p. changes (w.now p); appended = w.appended }) x y works
 
--- ---- what a change met
-
 switched_met : (from : Option Generation) (coming : Generation) (written : List (List ℕ)) (x y z : Option Told) → BothTold (λ d e. CleansSays {T = Generation} (is_left from) (Ok coming) d.places e.places) x y → BothTold (PreparesTold from coming written) x y
     → BothTold SwitchesNow y z → BothTold (ReplacedTold from coming written) x z
 switched_met from coming written None None None cleans told now = tt
@@ -253,18 +245,18 @@ abbrev pub ClearedBy : Option Generation → DiskState → Result Refusal ApplyE
 ClearedBy from old (Ok refusal) = IsCleared from old refusal
 ClearedBy from old (Err e) = Unit {0}
 
-few_of : (from : Option Generation) (x y : Option Told) → BothTold (λ d e. AtMost 1048576 (is_left from) d.places) x y → IfSome x (λ d. AtMost 1048576 (is_left from) d.places)
+few_of : (from : Option Generation) (x y : Option Told) → BothTold (λ d e. AtMost most_left_overs (is_left from) d.places) x y → IfSome x (λ d. AtMost most_left_overs (is_left from) d.places)
 few_of from None None few = tt
 few_of from None (Some e) few = absurd few
 few_of from (Some d) None few = absurd few
 few_of from (Some d) (Some e) few = few
 
 pub unprepared_met : (from : Option Generation) (old new : DiskState) (error : StoreErr) → Cleans {T = Generation} (is_left from) (Err error) old new → ClearedBy from old (refusal_from error)
-unprepared_met from old new store_errors.OutOfMemory cleans = tt
-unprepared_met from old new store_errors.DiskFault cleans = tt
-unprepared_met from old new store_errors.DepotFault cleans = tt
+unprepared_met from old new (store_errors.Fault store_faults.OutOfMemory) cleans = tt
+unprepared_met from old new (store_errors.Fault store_faults.DiskFault) cleans = tt
+unprepared_met from old new (store_errors.Fault store_faults.DepotFault) cleans = tt
 unprepared_met from old new (store_errors.Broken line) cleans = tt
-unprepared_met from old new (store_errors.Damaged home listed found) cleans = tt
+unprepared_met from old new (store_errors.Fault (store_faults.Damaged damage)) cleans = tt
 unprepared_met from old new (store_errors.Mismatch path listed found) cleans = inr (few_of from old.told new.told cleans)
 unprepared_met from old new (store_errors.NotInDepot path) cleans = inr (few_of from old.told new.told cleans)
 unprepared_met from old new store_errors.Unfinished cleans = tt

@@ -1,14 +1,14 @@
--- The commands that look at no store, `compare` and `layer`: what they come to, from the bytes of the source where they read it.
+-- The commands that look at no store, `compare` and `layer`: their outcomes, from the bytes of the source where they read it.
 use Rattle.std.specs.Prelude.{◌≡◌, ℕ, Bool, true, false, List, Option, Some, None}
 use Rattle.ext_gen.specs.Store.{none}
 use Rattle.ext_cmd.specs.Replies.{answer_text}
 use Rattle.ext_cmd.specs.declared.command.Command.{Command}
 use Rattle.ext_cmd.specs.declared.command.Command.TheVariants.{Compare, Layer}
 use Rattle.ext_cmd.specs.declared.refusal.Refusal.{Refusal}
-use Rattle.ext_step.specs.Compare.{compare_intent}
-use Rattle.ext_step.specs.Layer.{LayerWants}
-use Rattle.ext_step.specs.declared.intent.Intent.{Intent}
-use Rattle.ext_step.specs.declared.intent.Intent.TheVariants.{Changes, Answers, Checks, Shows, Refuses}
+use Rattle.ext_intents.specs.Compare.{compare_intent}
+use Rattle.ext_intents.specs.Layer.{LayerWants}
+use Rattle.ext_intents.specs.declared.intent.Intent.{Intent}
+use Rattle.ext_intents.specs.declared.intent.Intent.TheVariants.{Changes, Answers, Checks, Shows, Refuses}
 use Rattle.ext_top.specs.Machine.{Outcome, gives, refuses}
 use Rattle.ext_top.specs.declared.status.Status.{Status}
 use Rattle.ext_top.specs.declared.status.Status.TheVariants.{Done, Refused}
@@ -40,7 +40,7 @@ IsAlone Checks = ⊥
 IsAlone (Shows held) = ⊥
 IsAlone (Refuses refusal) = Unit {0}
 
--- what it comes to
+-- its outcome
 pub record ComesAlone (command : Command) (bytes : List ℕ) (outcome : Outcome) : Type 0 where
   pub intent : Intent
   pub wants : AloneWants command bytes intent

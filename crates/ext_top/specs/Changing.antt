@@ -9,6 +9,7 @@ use Rattle.ext_cmd.specs.declared.command.ViewCommand.TheVariants as views
 use Rattle.ext_top.specs.Running.{Devices}
 use Rattle.ext_top.specs.Working.{StaysTold}
 
+-- a command on extensions that may want another host
 abbrev pub may_view_change : ViewCommand → Bool
 may_view_change views.List = false
 may_view_change views.Status = false
@@ -16,6 +17,7 @@ may_view_change (views.Merge force) = true
 may_view_change views.Unmerge = true
 may_view_change (views.Refresh force) = true
 
+-- a command that may want another host
 abbrev pub may_change : Command → Bool
 may_change (Init arch scope hierarchies) = true
 may_change (ImportFs resource path) = true

@@ -6,9 +6,9 @@ use Rattle.ext_disk.specs.Disk.{DiskState, Told}
 use Rattle.ext_gen.specs.Sound.{IsSound}
 use Rattle.ext_cmd.specs.Words.{IsWellFormed, command_words}
 use Rattle.ext_cmd.specs.declared.command.Command.{Command}
-use Rattle.ext_step.specs.Step.{is_of_store}
+use Rattle.ext_intents.specs.Step.{is_of_store}
 use Rattle.ext_top.specs.Alone.{reads_source}
-use Rattle.ext_top.specs.Running.{Devices, IsCrowdedNow, most_source}
+use Rattle.ext_top.specs.Running.{Devices, HasTooManyLeftOversNow, most_source}
 use Rattle.ext_top.specs.declared.status.Status.{Status}
 use Rattle.ext_top.specs.declared.status.Status.TheVariants.{Done, Refused, Usage, ReadFault, WriteFault, DiskFault, DepotFault, OutOfMemory, BadStore, Unfinished, TooLong}
 
@@ -19,7 +19,7 @@ TellsWithin false source = Unit {0}
 
 -- the disk tells a sound store, in whose folder no more left-overs stand than one command removes, where it is looked at
 abbrev pub TellsSound : Bool → DiskState → Type 0
-TellsSound true disk = (d : Told) × (disk.told ≡ Some d) × IsSound d.places × ¬ IsCrowdedNow d
+TellsSound true disk = (d : Told) × (disk.told ≡ Some d) × IsSound d.places × ¬ HasTooManyLeftOversNow d
 TellsSound false disk = Unit {0}
 
 -- no count of faults rose

@@ -5,7 +5,7 @@ use Rattle.std.specs.Prelude.{◌≡◌, ℕ, ◌<◌, ◌⊎◌, List, [], ◌�
 use Rattle.ext_disk.specs.Disk.{Places}
 use Rattle.ext_depot.specs.Depot.{DepotState}
 use Rattle.ext_gen.specs.Store.{State}
-use Rattle.ext_gen.specs.Sound.{IsEither, IsFirmly}
+use Rattle.ext_gen.specs.Sound.{IsEither, IsDurably}
 use Rattle.ext_cmd.specs.Replies.{lined}
 use Rattle.ext_cmd.specs.declared.command.Command.{Command}
 use Rattle.ext_cmd.specs.declared.refusal.Refusal.{Refusal}
@@ -13,42 +13,39 @@ use Rattle.ext_top.specs.Machine.{Outcome, gives, shows, Step, refusal_of, reply
 use Rattle.ext_top.specs.declared.stop.Stop.{Stop}
 use Rattle.ext_top.specs.declared.stop.Stop.TheVariants.{WriteFault, DiskFault, DepotFault, OutOfMemory, BadStore, Unfinished}
 
--- ---- lines
-
 -- a command, or words that are none, with the place of their first fault
 pub data Line : Type 0 where
   does : Command → Line
   wrong : ℕ → Line
 
--- what words outside the grammar are told
+-- the reply to words outside the grammar
 abbrev pub usage_line : ℕ → List ℕ
 usage_line place = lined (codes "usage " ++ decimal place)
 
--- what a line comes to: the step of its command, or nothing but that reply
+-- the outcome of a line: the step of its command, or nothing but that reply
 abbrev pub LineComes : State → DepotState → Line → Outcome → Type 0
 LineComes s depot (does command) outcome = Step s depot command outcome
 LineComes s depot (wrong place) outcome = outcome ≡ gives s (usage_line place)
 
--- ---- where a line stops a run
-
--- for which state a disk stands: firmly for one, or for one of two
+-- for which state a disk stands: durably for one, or for one of two
 pub data Standing : Type 0 where
-  firm : State → Standing
+  durable : State → Standing
   between : State → State → Standing
 
+-- the disk stands so
 abbrev pub StandsAs : Standing → Places → Type 0
-StandsAs (firm s) d = IsFirmly s d
+StandsAs (durable s) d = IsDurably s d
 StandsAs (between s u) d = IsEither s u d
 
 -- nothing came of the line
-abbrev pub Rests : State → Standing → List ℕ → Type 0
-Rests s standing part = (standing ≡ firm s) × (part ≡ [])
+abbrev pub IsUndone : State → Standing → List ℕ → Type 0
+IsUndone s standing part = (standing ≡ durable s) × (part ≡ [])
 
 -- the line was done, and some of its reply, not all, was written
 pub record Cuts (s : State) (depot : DepotState) (line : Line) (standing : Standing) (part : List ℕ) : Type 0 where
   pub outcome : Outcome
   pub comes : LineComes s depot line outcome
-  pub stands : standing ≡ firm (state_after s outcome)
+  pub stands : standing ≡ durable (state_after s outcome)
   pub rest : List ℕ
   pub reply : reply_of outcome ≡ part ++ rest
   pub not_all : 0 < length rest
@@ -64,29 +61,27 @@ pub record Wavers (s : State) (depot : DepotState) (line : Line) (standing : Sta
 pub record Tears (s : State) (depot : DepotState) (line : Line) (standing : Standing) (part : List ℕ) : Type 0 where
   pub bytes : List ℕ
   pub comes : LineComes s depot line (shows bytes)
-  pub stands : standing ≡ firm s
+  pub stands : standing ≡ durable s
   pub rest : List ℕ
   pub reply : bytes ≡ part ++ rest
 
--- The table of exits. From a store that firmly stands for a state no line stops for a bad store.
-abbrev pub StopsAt : Stop → State → DepotState → Line → Standing → List ℕ → Type 0
-StopsAt WriteFault s depot line standing part = Cuts s depot line standing part
-StopsAt DiskFault s depot line standing part = Rests s standing part ⊎ (Wavers s depot line standing part ⊎ Tears s depot line standing part)
-StopsAt DepotFault s depot line standing part = Rests s standing part
-StopsAt OutOfMemory s depot line standing part = Rests s standing part ⊎ Tears s depot line standing part
-StopsAt (BadStore why) s depot line standing part = ⊥
-StopsAt Unfinished s depot line standing part = Rests s standing part
-
--- ---- the run of lines
+-- The table of exits. From a store that durably stands for a state no line stops for a bad store.
+abbrev pub StopsWith : Stop → State → DepotState → Line → Standing → List ℕ → Type 0
+StopsWith WriteFault s depot line standing part = Cuts s depot line standing part
+StopsWith DiskFault s depot line standing part = IsUndone s standing part ⊎ (Wavers s depot line standing part ⊎ Tears s depot line standing part)
+StopsWith DepotFault s depot line standing part = IsUndone s standing part
+StopsWith OutOfMemory s depot line standing part = IsUndone s standing part ⊎ Tears s depot line standing part
+StopsWith (BadStore why) s depot line standing part = ⊥
+StopsWith Unfinished s depot line standing part = IsUndone s standing part
 
 -- how the lines end from a state on: the result, for which state the store stands then, and the bytes that were written. A
 -- result that is no stop is the refusal of the last line, if it was refused.
-abbrev pub Ends : Option Refusal → State → DepotState → List Line → Result (Option Refusal) Stop → Standing → List ℕ → Type 0
-Ends last s depot [] result standing bytes = (result ≡ Ok last) × (standing ≡ firm s) × (bytes ≡ [])
-Ends last s depot (line ∷ lines) result standing bytes =
-    ((stop : Stop) × (result ≡ Err stop) × StopsAt stop s depot line standing bytes)
+abbrev pub EndsLines : Option Refusal → State → DepotState → List Line → Result (Option Refusal) Stop → Standing → List ℕ → Type 0
+EndsLines last s depot [] result standing bytes = (result ≡ Ok last) × (standing ≡ durable s) × (bytes ≡ [])
+EndsLines last s depot (line ∷ lines) result standing bytes =
+    ((stop : Stop) × (result ≡ Err stop) × StopsWith stop s depot line standing bytes)
     ⊎ ((outcome : Outcome) × (more : List ℕ) × LineComes s depot line outcome × (bytes ≡ reply_of outcome ++ more)
-    × Ends (refusal_of outcome) (state_after s outcome) depot lines result standing more)
+    × EndsLines (refusal_of outcome) (state_after s outcome) depot lines result standing more)
 
 -- the states on the way: the one at the beginning, and the one after each of the first lines
 abbrev pub IsOnTheWay : State → DepotState → List Line → State → Type 0

@@ -9,7 +9,7 @@ use Rattle.ext_cmd.specs.declared.command.Command.TheVariants.{Compare}
 use Rattle.ext_top.specs.Alone.{ComesAlone}
 use Rattle.ext_top.specs.Machine.{Outcome, gives}
 
--- the reply to a source is one: such a command comes to one outcome for the same bytes
+-- the reply to a source is one: such a command has one outcome for the same bytes
 abbrev pub OneReply : Type 0
 OneReply = (command : Command) (bytes : List ℕ) (a b : Outcome) → ComesAlone command bytes a → ComesAlone command bytes b → a ≡ b
 

@@ -1,4 +1,5 @@
 pub mod Status
+pub mod Stop
 pub mod Machine
 pub mod Exits
 pub mod Applying

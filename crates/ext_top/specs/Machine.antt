@@ -9,7 +9,7 @@ use Rattle.ext_host.specs.Shelf.{stored}
 use Rattle.ext_host.specs.declared.body.Body.{Body}
 use Rattle.ext_host.specs.declared.body.Body.TheVariants.{Here, Kept, Depot}
 use Rattle.ext_host.specs.declared.host.Host.{Host}
-use Rattle.ext_store.specs.Copying.{IsMissing, IsReadStamp}
+use Rattle.ext_store_files.specs.Copying.{IsMissing, IsReadStamp}
 use Rattle.ext_homes.specs.Giving.{lists_kept, trees_before}
 use Rattle.ext_homes.specs.Placed.{Stored, IsHostPlaced, brought_told}
 use Rattle.ext_homes.specs.Refused.{StopsAt}
@@ -22,13 +22,11 @@ use Rattle.ext_cmd.specs.declared.answer.Answer.TheVariants.{Checked}
 use Rattle.ext_cmd.specs.declared.command.Command.{Command}
 use Rattle.ext_cmd.specs.declared.refusal.Refusal.{Refusal}
 use Rattle.ext_cmd.specs.declared.refusal.Refusal.TheVariants.{Limit, Mismatch, NotInDepot}
-use Rattle.ext_step.specs.Check.{host_bytes, host_files}
-use Rattle.ext_step.specs.Intents.{Seen}
-use Rattle.ext_step.specs.Step.{Wants}
-use Rattle.ext_step.specs.declared.intent.Intent.{Intent}
-use Rattle.ext_step.specs.declared.intent.Intent.TheVariants.{Changes, Answers, Checks, Shows, Refuses}
-
--- ---- what a step gives
+use Rattle.ext_intents.specs.Check.{host_bytes, host_files}
+use Rattle.ext_intents.specs.Intents.{Seen}
+use Rattle.ext_intents.specs.Step.{Wants}
+use Rattle.ext_intents.specs.declared.intent.Intent.{Intent}
+use Rattle.ext_intents.specs.declared.intent.Intent.TheVariants.{Changes, Answers, Checks, Shows, Refuses}
 
 -- a state and a reply; or the state stays, and the reply is the bytes of a file, or the line of a refusal
 pub data Outcome : Type 0 where
@@ -54,8 +52,6 @@ refusal_of (gives t reply) = None
 refusal_of (shows bytes) = None
 refusal_of (refuses refusal) = Some refusal
 
--- ---- what is seen of a state
-
 -- the bytes of a file, by where they are
 abbrev pub bytes_at : State → Body → List ℕ
 bytes_at s (Here bytes) = bytes
@@ -72,18 +68,16 @@ abbrev pub trees_in : State → List (Entries HeldFile)
 trees_in s = trees_before (host_before (generation_in s))
 
 -- which stamps it lists at which homes, and the bytes at each home
-abbrev pub stored_in : State → Stored
-stored_in s = record { lists = lists_kept (trees_in s); told = λ home. stored (contents_of s home) }
-
--- ---- a coming generation
+abbrev pub stored_of : State → Stored
+stored_of s = record { lists = lists_kept (trees_in s); told = λ home. stored (contents_of s home) }
 
 -- the next generation, of that host with a home for each of its files, in the newest text
-pub record IsNext (s : State) (depot : DepotState) (host : Host) (u : State) : Type 0 where
+pub record IsNextState (s : State) (depot : DepotState) (host : Host) (u : State) : Type 0 where
   pub coming : Generation
   pub number : coming.number ≡ coming_number (generation_in s)
   pub text : coming.text ≡ 2
   pub written : List (List ℕ)
-  pub homes : IsHostPlaced (stored_in s) depot coming.number host coming.host written
+  pub homes : IsHostPlaced (stored_of s) depot coming.number host coming.host written
   pub is : u ≡ at coming (contents_after coming.number written s)
 
 -- a file of the depot has other bytes than listed
@@ -100,7 +94,7 @@ pub record IsNotThere (depot : DepotState) (path : List (List ℕ)) (held : Held
 -- the first file that gets no home, in the order of the index
 abbrev pub StopsFor : State → DepotState → Host → (HeldFile → Type 0) → Type 0
 StopsFor s depot host why =
-    (limit_of (generation_in s) host ≡ None) × StopsAt (stored_in s) depot (coming_number (generation_in s)) (host.root ++ host.lower) 0 why
+    (limit_of (generation_in s) host ≡ None) × StopsAt (stored_of s) depot (coming_number (generation_in s)) (host.root ++ host.lower) 0 why
 
 -- why there is no next generation of the host, the first reason in this order: the coming index is too long, files that are
 -- brought counted with a home in the coming generation; there is no number for that; a file, the first in the order of the
@@ -114,20 +108,19 @@ RefusesNext s depot host _ = ⊥
 -- another host in place of the one that the state has
 abbrev pub Replaces : State → DepotState → Host → List ℕ → Outcome → Type 0
 Replaces s depot host reply outcome =
-    ((u : State) × (limit_of (generation_in s) host ≡ None) × IsNext s depot host u × (outcome ≡ gives u reply))
+    ((u : State) × (limit_of (generation_in s) host ≡ None) × IsNextState s depot host u × (outcome ≡ gives u reply))
     ⊎ ((refusal : Refusal) × RefusesNext s depot host refusal × (outcome ≡ refuses refusal))
-
--- ---- the step
 
 -- how many files the host has, and their bytes
 abbrev pub checked_text : Host → List ℕ
 checked_text host = answer_text (Checked (host_files host) (host_bytes host))
 
+-- what `check` gives of a sound state
 abbrev pub Counts : State → Outcome → Type 0
 Counts none outcome = ⊥
 Counts (at g contents) outcome = outcome ≡ gives (at g contents) (checked_text g.host)
 
--- what an intent comes to
+-- the outcome of an intent
 abbrev pub Comes : State → DepotState → Intent → Outcome → Type 0
 Comes s depot (Changes host answer) outcome = Replaces s depot host (answer_text answer) outcome
 Comes s depot (Answers answer) outcome = outcome ≡ gives s (answer_text answer)
@@ -135,7 +128,7 @@ Comes s depot Checks outcome = Counts s outcome
 Comes s depot (Shows held) outcome = outcome ≡ shows (bytes_at s held.body)
 Comes s depot (Refuses refusal) outcome = outcome ≡ refuses refusal
 
--- the step of a command: what it wants of the state, and what that comes to
+-- the step of a command: what it wants of the state, and the outcome of that
 pub record Step (s : State) (depot : DepotState) (command : Command) (outcome : Outcome) : Type 0 where
   pub intent : Intent
   pub wants : Wants (seen_in s) depot command intent

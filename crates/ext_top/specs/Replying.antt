@@ -13,7 +13,9 @@ use Rattle.ext_host.specs.Shelf.{stored, IsFound, IsKeptAs}
 use Rattle.ext_host.specs.declared.home.Home.{Home}
 use Rattle.ext_host.specs.declared.shelf.ShelfErr.{ShelfErr}
 use Rattle.ext_host.specs.declared.shelf.ShelfErr.TheVariants as shelf_errors
-use Rattle.ext_store.specs.HeldFiles.{body_told}
+use Rattle.ext_host.specs.declared.damage.Damage.{Damage}
+use Rattle.ext_store_files.specs.HeldFiles.{body_told}
+use Rattle.ext_store_files.specs.Fault.{fault_of_shelf}
 use Rattle.ext_cmd.specs.Refusals.{refusal_line}
 use Rattle.ext_cmd.specs.declared.refusal.Refusal.{Refusal}
 use Rattle.ext_top.specs.declared.applied.Reply.{Reply}
@@ -21,14 +23,11 @@ use Rattle.ext_top.specs.declared.applied.Reply.TheVariants.{Text, File, Refused
 use Rattle.ext_top.specs.declared.bad_store.BadStore.TheVariants.{Broken, Damaged}
 use Rattle.ext_top.specs.declared.stop.Stop.{Stop}
 use Rattle.ext_top.specs.declared.stop.Stop.TheVariants.{WriteFault, DiskFault, DepotFault, OutOfMemory, BadStore, Unfinished}
+use Rattle.ext_top.specs.Stop.{stop_of_fault}
 
 -- why a file is not written
 abbrev pub stop_of_shelf : ShelfErr → Stop
-stop_of_shelf shelf_errors.OutOfMemory = OutOfMemory
-stop_of_shelf shelf_errors.Fault = DiskFault
-stop_of_shelf (shelf_errors.Damaged home listed found) = BadStore (Damaged home listed found)
-
--- ---- bytes that are here
+stop_of_shelf e = stop_of_fault (fault_of_shelf e)
 
 -- all of them were written, or a proper prefix was, and the sink failed
 abbrev pub WritesBytes : {T : Type 0} → List ℕ → SinkState → SinkState → Result T Stop → Type 0
@@ -40,19 +39,17 @@ WritesBytes bytes k l (Err OutOfMemory) = ⊥
 WritesBytes bytes k l (Err (BadStore why)) = ⊥
 WritesBytes bytes k l (Err Unfinished) = ⊥
 
--- ---- bytes of a file, which are read while they are written
-
 -- a prefix was written, which may be all of them
-abbrev pub AppendsPrefix : SinkState → SinkState → List ℕ → Type 0
-AppendsPrefix k l bytes = (prefix : List ℕ) × IsPrefix prefix bytes × Appends k.written l.written prefix
+abbrev pub WritesPrefix : SinkState → SinkState → List ℕ → Type 0
+WritesPrefix k l bytes = (prefix : List ℕ) × IsPrefix prefix bytes × Appends k.written l.written prefix
 
 -- all of them were written; a proper prefix, where the sink failed; or a prefix, where the disk did, or there was no memory
 abbrev pub WritesPartly : {T : Type 0} → List ℕ → SinkState → SinkState → Result T Stop → Type 0
 WritesPartly bytes k l (Ok done) = Appends k.written l.written bytes
 WritesPartly bytes k l (Err WriteFault) = AppendsProperPrefix k l bytes
-WritesPartly bytes k l (Err DiskFault) = AppendsPrefix k l bytes
+WritesPartly bytes k l (Err DiskFault) = WritesPrefix k l bytes
 WritesPartly bytes k l (Err DepotFault) = ⊥
-WritesPartly bytes k l (Err OutOfMemory) = AppendsPrefix k l bytes
+WritesPartly bytes k l (Err OutOfMemory) = WritesPrefix k l bytes
 WritesPartly bytes k l (Err (BadStore why)) = ⊥
 WritesPartly bytes k l (Err Unfinished) = ⊥
 
@@ -71,10 +68,9 @@ WritesNext bytes at k l (Err OutOfMemory) = l ≡ k
 WritesNext bytes at k l (Err (BadStore why)) = ⊥
 WritesNext bytes at k l (Err Unfinished) = ⊥
 
+-- what one piece of a file writes, where a file of the listed size stands there
 abbrev pub WritesPiece : shelf.Told → ℕ → ℕ → SinkState → SinkState → Result ℕ Stop → Type 0
 WritesPiece told size at k l result = (bytes : List ℕ) → told ≡ stored bytes → length bytes ≡ size → WritesNext bytes at k l result
-
--- ---- a reply
 
 -- a text, which is no refusal's line
 abbrev pub WritesText : List ℕ → SinkState → SinkState → Result (Option Refusal) Stop → Type 0
@@ -96,26 +92,27 @@ WritesRefusal refusal k l (Err OutOfMemory) = l ≡ k
 WritesRefusal refusal k l (Err (BadStore why)) = ⊥
 WritesRefusal refusal k l (Err Unfinished) = ⊥
 
+-- what writing a reply leaves
 abbrev pub WritesReply : Reply → DiskState → SinkState → SinkState → Result (Option Refusal) Stop → Type 0
 WritesReply (Text text) disk k l result = WritesText text k l result
 WritesReply (File held) disk k l result = WritesFile (body_told disk held.body) held.stamp.size k l result × IfOk result (λ last. last ≡ None)
 WritesReply (Refused refusal) disk k l result = WritesRefusal refusal k l result
 
--- ---- causes, whatever the store is
-
 -- the file is kept at the home, and what stands there is too short
-abbrev pub IsHeldDamage : DiskState → HeldFile → Home → Stamp → Option Stamp → Type 0
-IsHeldDamage disk held home listed found = IsKeptAs held home listed × IsFound listed (body_told disk held.body) found
+abbrev pub IsHeldDamage : DiskState → HeldFile → Damage → Type 0
+IsHeldDamage disk held damage = IsKeptAs held damage.home damage.listed × IsFound damage.listed (body_told disk held.body) damage.found
 
+-- which fault may be blamed for a file
 abbrev pub FileCause : HeldFile → SinkState → SinkState → DiskState → DiskState → Stop → Type 0
 FileCause held k l d e WriteFault = Rose k.faults l.faults
 FileCause held k l d e DiskFault = Rose d.faults e.faults
 FileCause held k l d e DepotFault = ⊥
 FileCause held k l d e OutOfMemory = Unit {0}
 FileCause held k l d e (BadStore (Broken line)) = ⊥
-FileCause held k l d e (BadStore (Damaged home listed found)) = IsHeldDamage d held home listed found
+FileCause held k l d e (BadStore (Damaged damage)) = IsHeldDamage d held damage
 FileCause held k l d e Unfinished = ⊥
 
+-- which fault may be blamed for a text
 abbrev pub TextCause : SinkState → SinkState → Stop → Type 0
 TextCause k l WriteFault = Rose k.faults l.faults
 TextCause k l DiskFault = ⊥
@@ -124,6 +121,7 @@ TextCause k l OutOfMemory = Unit {0}
 TextCause k l (BadStore why) = ⊥
 TextCause k l Unfinished = ⊥
 
+-- which fault may be blamed for a reply
 abbrev pub ReplyCause : Reply → SinkState → SinkState → DiskState → DiskState → Stop → Type 0
 ReplyCause (Text text) k l d e stop = TextCause k l stop
 ReplyCause (File held) k l d e stop = FileCause held k l d e stop

@@ -12,25 +12,28 @@ use Rattle.ext_disk.specs.Since.{Follows}
 use Rattle.ext_depot.specs.Depot.{DepotState, IsKept}
 use Rattle.ext_host.specs.Shelf.{IsFound}
 use Rattle.ext_host.specs.declared.home.Home.{Home}
-use Rattle.ext_store.specs.HeldFiles.{node_told}
-use Rattle.ext_store.specs.Names.{home_path}
-use Rattle.ext_store.specs.Removal.{MoreThan}
+use Rattle.ext_host.specs.declared.damage.Damage.{Damage}
+use Rattle.ext_store_files.specs.HeldFiles.{node_told}
+use Rattle.ext_store_files.specs.Names.{home_path}
+use Rattle.ext_store_files.specs.Removal.{MoreThan}
 use Rattle.ext_homes.specs.Giving.{lists_kept, trees_before}
 use Rattle.ext_gen.specs.Broken.{IsBroken}
 use Rattle.ext_gen.specs.Opened.{Generation}
 use Rattle.ext_gen.specs.Preparing.{host_before, is_left}
 use Rattle.ext_gen.specs.Store.{State, generation_in, Points, Stands}
-use Rattle.ext_gen.specs.Sound.{IsFirmly, IsMember, IsSound, StandsSince}
+use Rattle.ext_gen.specs.Sound.{IsDurably, IsMember, IsSound, StandsSince}
 use Rattle.ext_gen.specs.declared.errors.StoreErr.{StoreErr}
+use Rattle.ext_store_files.specs.declared.fault.StoreFault.TheVariants as store_faults
+use Rattle.ext_store_files.specs.LeftOvers.{most_left_overs}
 use Rattle.ext_gen.specs.declared.errors.StoreErr.TheVariants as store_errors
 use Rattle.ext_cmd.specs.Words.{IsUsage, IsWellFormed, command_words}
 use Rattle.ext_cmd.specs.declared.command.Command.{Command}
 use Rattle.ext_cmd.specs.declared.refusal.Refusal.{Refusal}
-use Rattle.ext_step.specs.Step.{is_of_store}
-use Rattle.ext_step.specs.declared.intent.Intent.{Intent}
+use Rattle.ext_intents.specs.Step.{is_of_store}
+use Rattle.ext_intents.specs.declared.intent.Intent.{Intent}
 use Rattle.ext_top.specs.Machine.{Outcome, refusal_of, reply_of}
-use Rattle.ext_top.specs.Exits.{Line, does, Standing, StandsAs, Ends, IsOnTheWay}
-use Rattle.ext_top.specs.Applying.{IsCrowded, IsDamage, PointsAs}
+use Rattle.ext_top.specs.Exits.{Line, does, Standing, StandsAs, EndsLines, IsOnTheWay}
+use Rattle.ext_top.specs.Applying.{HasTooManyLeftOvers, IsDamage, PointsAs}
 use Rattle.ext_top.specs.Working.{HasMet, StaysTold, WantsOn, WorksFor}
 use Rattle.ext_top.specs.Alone.{ComesAlone, Says, reads_source, status_of_refusal}
 use Rattle.ext_top.specs.declared.bad_store.BadStore.TheVariants as bad
@@ -38,6 +41,7 @@ use Rattle.ext_top.specs.declared.status.Status.{Status}
 use Rattle.ext_top.specs.declared.status.Status.TheVariants.{Done, Refused, Usage, ReadFault, WriteFault, DiskFault, DepotFault, OutOfMemory, BadStore, Unfinished, TooLong}
 use Rattle.ext_top.specs.declared.stop.Stop.{Stop}
 use Rattle.ext_top.specs.declared.stop.Stop.TheVariants as stops
+use Rattle.ext_top.specs.Stop.{stop_of_fault}
 
 -- the most bytes of a source
 abbrev pub most_source : ℕ
@@ -50,6 +54,7 @@ pub record Devices : Type 0 where
   pub disk : DiskState
   pub depot : DepotState
 
+-- the four devices of a run
 abbrev pub devices : SourceState → SinkState → DiskState → DepotState → Devices
 devices source sink disk depot = record { source = source; sink = sink; disk = disk; depot = depot }
 
@@ -58,14 +63,17 @@ pub record Streams : Type 0 where
   pub source : SourceState
   pub sink : SinkState
 
+-- the two streams of a run
 abbrev pub streams : SourceState → SinkState → Streams
 streams source sink = record { source = source; sink = sink }
 
+-- what a run over a store touches
 pub record StoreSide : Type 0 where
   pub sink : SinkState
   pub disk : DiskState
   pub depot : DepotState
 
+-- the sink, the disk and the depot of a run
 abbrev pub store_side : SinkState → DiskState → DepotState → StoreSide
 store_side sink disk depot = record { sink = sink; disk = disk; depot = depot }
 
@@ -75,8 +83,6 @@ pub record CountsOn (old new : Devices) : Type 0 where
   pub sink : old.sink.faults ≤ new.sink.faults
   pub disk : old.disk.faults ≤ new.disk.faults
   pub depot : old.depot.faults ≤ new.depot.faults
-
--- ---- a command that looks at no store
 
 -- the bytes of the source: where it is read, all of them, to its end and within the limit; else none, and it is left alone
 abbrev pub TakesAll : Bool → SourceState → SourceState → List ℕ → Type 0
@@ -93,7 +99,7 @@ pub record TookOnly (command : Command) (old new : Streams) (P : ℕ → Type 0)
   pub source : TakesSome (reads_source command) old.source new.source P
   pub sink : new.sink ≡ old.sink
 
--- what the command comes to for the bytes that it took
+-- what the command wants, by the bytes that it took
 pub record CameTo (command : Command) (old new : SourceState) (outcome : Outcome) : Type 0 where
   pub bytes : List ℕ
   pub takes : TakesAll (reads_source command) old new bytes
@@ -112,7 +118,7 @@ pub record WrotePart (command : Command) (old new : Streams) : Type 0 where
   pub came : CameTo command old.source new.source outcome
   pub written : AppendsProperPrefix old.sink new.sink (reply_of outcome)
 
--- its run, by its status
+-- the run of a command without a store, by the status that it ends with
 abbrev pub EndsAlone : Command → Streams → Streams → Status → Type 0
 EndsAlone command old new Done = Wrote command old new None
 EndsAlone command old new (Refused refusal) = Wrote command old new (Some refusal)
@@ -133,15 +139,14 @@ WritesLast status text old new result =
     ((result ≡ status) × Appends old.written new.written text)
     ⊎ ((result ≡ WriteFault) × AppendsProperPrefix old new text × Rose old.faults new.faults)
 
--- what was come to was written as a reply; or there was no memory for the reply, and the sink was left alone
+-- the outcome was written as a reply; or there was no memory for the reply, and the sink was left alone
 abbrev pub WritesOutcome : Outcome → SinkState → SinkState → Status → Type 0
 WritesOutcome outcome old new result =
     WritesLast (status_of_refusal (refusal_of outcome)) (reply_of outcome) old new result ⊎ ((result ≡ OutOfMemory) × (new ≡ old))
 
+-- what a command without a store writes, and how it ends
 abbrev pub WritesIntent : Intent → SinkState → SinkState → Status → Type 0
 WritesIntent intent old new result = (outcome : Outcome) × Says intent outcome × WritesOutcome outcome old new result
-
--- ---- lines over a store
 
 -- the status of lines that ended so: a batch is done where each line is done or refused
 abbrev pub status_of_stop : Stop → Status
@@ -152,12 +157,13 @@ status_of_stop stops.OutOfMemory = OutOfMemory
 status_of_stop (stops.BadStore why) = BadStore why
 status_of_stop stops.Unfinished = Unfinished
 
+-- the status of a run, by how its lines ended
 abbrev pub status_of : Bool → Result (Option Refusal) Stop → Status
 status_of true (Ok last) = Done
 status_of false (Ok last) = status_of_refusal last
 status_of batch (Err stop) = status_of_stop stop
 
--- The lines ran from a state for which the store firmly stood, and ended by the table of exits. Each tree that a stop since may
+-- The lines ran from a state for which the store durably stood, and ended by the table of exits. Each tree that a stop since may
 -- have left stands for a state on the way.
 pub record RunsFrom (batch : Bool) (lines : List Line) (depot : DepotState) (k l : SinkState) (status : Status) (s : State) (d e : Told) : Type 0 where
   pub result : Result (Option Refusal) Stop
@@ -166,12 +172,13 @@ pub record RunsFrom (batch : Bool) (lines : List Line) (depot : DepotState) (k l
   pub written : Appends k.written l.written bytes
   pub standing : Standing
   pub stands : StandsAs standing e.places
-  pub ends : Ends None s depot lines result standing bytes
+  pub ends : EndsLines None s depot lines result standing bytes
   pub since : StandsSince (IsOnTheWay s depot lines) e d.clock
 
+-- what the lines leave on a disk that tells
 abbrev pub RunsTold : Bool → List Line → Option Generation → DepotState → SinkState → SinkState → Status → Told → Told → Type 0
 RunsTold batch lines opened depot k l status d e =
-    (s : State) → generation_in s ≡ opened → IsFirmly s d.places → RunsFrom batch lines depot k l status s d e
+    (s : State) → generation_in s ≡ opened → IsDurably s d.places → RunsFrom batch lines depot k l status s d e
 
 -- The store was opened: the lines ran from the state for which it stood, and ended by the table of exits. Each tree that a stop
 -- since may have left stands for a state on the way, or for one for which it might have stood before.
@@ -184,18 +191,18 @@ pub record RunsOpened (batch : Bool) (lines : List Line) (depot : DepotState) (k
   pub written : Appends k.written l.written bytes
   pub standing : Standing
   pub stands : StandsAs standing e.places
-  pub ends : Ends None state depot lines result standing bytes
+  pub ends : EndsLines None state depot lines result standing bytes
   pub since : StandsSince (λ x. IsMember d.places x ⊎ IsOnTheWay state depot lines x) e d.clock
 
--- it was not opened: a fault of the disk, or no memory
+-- The store was not opened: a fault of the disk, or no memory
 abbrev pub IsClosed : Status → Type 0
 IsClosed status = (status ≡ DiskFault) ⊎ (status ≡ OutOfMemory)
 
--- nothing was written, and nothing changed but, where the store folder was settled, that it firmly stands for what it stood for
+-- nothing was written, and nothing changed but, where the store folder was synced, that it durably stands for what it stood for
 pub record RunsClosed (k l : SinkState) (status : Status) (d e : Told) : Type 0 where
   pub closed : IsClosed status
   pub nothing : l ≡ k
-  pub ends : (e ≡ d) ⊎ ((s : State) × Stands (now d.places) s × IsFirmly s e.places)
+  pub ends : (e ≡ d) ⊎ ((s : State) × Stands (now d.places) s × IsDurably s e.places)
   pub since : StandsSince (IsMember d.places) e d.clock
 
 -- from a sound store
@@ -204,17 +211,17 @@ RunsSound batch lines depot k l status d e =
     IsSound d.places → IsSound e.places × (RunsOpened batch lines depot k l status d e ⊎ RunsClosed k l status d e)
 
 -- a file that the host of the store lists is another than listed
-pub record IsDamagedNow (d : Told) (home : Home) (listed : Stamp) (found : Option Stamp) : Type 0 where
+pub record IsDamagedNow (d : Told) (damage : Damage) : Type 0 where
   pub opened : Option Generation
   pub points : Points (now d.places) opened
-  pub lists : lists_kept (trees_before (host_before opened)) listed home
-  pub differs : IsFound listed (node_told (d.places (home_path home.generation home.file)).node) found
+  pub lists : lists_kept (trees_before (host_before opened)) damage.listed damage.home
+  pub differs : IsFound damage.listed (node_told (d.places (home_path damage.home.generation damage.home.file)).node) damage.found
 
 -- more left-overs stand there than one command removes
-pub record IsCrowdedNow (d : Told) : Type 0 where
+pub record HasTooManyLeftOversNow (d : Told) : Type 0 where
   pub opened : Option Generation
   pub points : Points (now d.places) opened
-  pub more : MoreThan 1048576 (is_left opened) d.places
+  pub more : MoreThan most_left_overs (is_left opened) d.places
 
 -- which fault a status blames, whatever the store is
 abbrev pub StoreCause : StoreSide → StoreSide → Status → Type 0
@@ -227,8 +234,8 @@ StoreCause old new DiskFault = Rose old.disk.faults new.disk.faults
 StoreCause old new DepotFault = Rose old.depot.faults new.depot.faults
 StoreCause old new OutOfMemory = Unit {0}
 StoreCause old new (BadStore (bad.Broken line)) = IfSome old.disk.told (λ d. IsBroken (now d.places) line)
-StoreCause old new (BadStore (bad.Damaged home listed found)) = IfSome old.disk.told (λ d. IsDamagedNow d home listed found)
-StoreCause old new Unfinished = IfSome old.disk.told IsCrowdedNow
+StoreCause old new (BadStore (bad.Damaged damage)) = IfSome old.disk.told (λ d. IsDamagedNow d damage)
+StoreCause old new Unfinished = IfSome old.disk.told HasTooManyLeftOversNow
 StoreCause old new TooLong = ⊥
 
 -- why a run over a store that was opened so ended
@@ -242,17 +249,17 @@ OpenedCause opened old new DiskFault = Rose old.disk.faults new.disk.faults
 OpenedCause opened old new DepotFault = Rose old.depot.faults new.depot.faults
 OpenedCause opened old new OutOfMemory = Unit {0}
 OpenedCause opened old new (BadStore (bad.Broken line)) = ⊥
-OpenedCause opened old new (BadStore (bad.Damaged home listed found)) = IsDamage opened old.disk home listed found
-OpenedCause opened old new Unfinished = IsCrowded opened old.disk
+OpenedCause opened old new (BadStore (bad.Damaged damage)) = IsDamage opened old.disk damage
+OpenedCause opened old new Unfinished = HasTooManyLeftOvers opened old.disk
 OpenedCause opened old new TooLong = ⊥
 
 -- an error of opening a store
 abbrev pub IsOfOpening : StoreErr → Type 0
-IsOfOpening store_errors.OutOfMemory = Unit {0}
-IsOfOpening store_errors.DiskFault = Unit {0}
-IsOfOpening store_errors.DepotFault = ⊥
+IsOfOpening (store_errors.Fault store_faults.OutOfMemory) = Unit {0}
+IsOfOpening (store_errors.Fault store_faults.DiskFault) = Unit {0}
+IsOfOpening (store_errors.Fault store_faults.DepotFault) = ⊥
 IsOfOpening (store_errors.Broken line) = Unit {0}
-IsOfOpening (store_errors.Damaged home listed found) = ⊥
+IsOfOpening (store_errors.Fault (store_faults.Damaged damage)) = ⊥
 IsOfOpening (store_errors.Mismatch path listed found) = ⊥
 IsOfOpening (store_errors.NotInDepot path) = ⊥
 IsOfOpening store_errors.Unfinished = ⊥
@@ -260,23 +267,19 @@ IsOfOpening (store_errors.Limit which) = ⊥
 
 -- its status
 abbrev pub status_of_closed : StoreErr → Status
-status_of_closed store_errors.OutOfMemory = OutOfMemory
-status_of_closed store_errors.DiskFault = DiskFault
-status_of_closed store_errors.DepotFault = DepotFault
+status_of_closed (store_errors.Fault fault) = status_of_stop (stop_of_fault fault)
 status_of_closed (store_errors.Broken line) = BadStore (bad.Broken line)
-status_of_closed (store_errors.Damaged home listed found) = BadStore (bad.Damaged home listed found)
 status_of_closed (store_errors.Mismatch path listed found) = OutOfMemory
 status_of_closed (store_errors.NotInDepot path) = OutOfMemory
 status_of_closed store_errors.Unfinished = Unfinished
 status_of_closed (store_errors.Limit which) = OutOfMemory
 
+-- a run over a store
 pub record RunsStore (batch : Bool) (lines : List Line) (old new : StoreSide) (status : Status) : Type 0 where
   pub follows : Follows old.disk new.disk
   pub kept : IsKept old.depot new.depot
   pub cause : StoreCause old new status
   pub sound : BothTold (RunsSound batch lines old.depot old.sink new.sink status) old.disk.told new.disk.told
-
--- ---- a command over a store, whatever that is
 
 -- what was met by a command that was done or refused; else nothing is said
 abbrev pub StatusMet : (Option Refusal → Option Generation → Type 0) → Status → Type 0
@@ -303,11 +306,9 @@ abbrev pub OpenedMet : Command → DiskState → DiskState → DepotState → Op
 OpenedMet command old new depot refusal after =
     (opened : Option Generation) × PointsAs old opened × HasMet (WantsOn opened old depot command) opened old new depot refusal after
 
--- so it is where the command was done or refused
+-- the same of a command that was done or refused
 abbrev pub RunMet : Command → DiskState → DiskState → DepotState → Status → Type 0
 RunMet command old new depot status = StatusMet (OpenedMet command old new depot) status
-
--- ---- words
 
 -- disk and depot are left alone
 pub record RunsAlone (command : Command) (old new : Devices) (status : Status) : Type 0 where
@@ -322,6 +323,7 @@ pub record RunsOver (command : Command) (old new : Devices) (status : Status) : 
   pub met : RunMet command old.disk new.disk old.depot status
   pub store : RunsStore false (does command ∷ []) (store_side old.sink old.disk old.depot) (store_side new.sink new.disk new.depot) status
 
+-- a run by the kind of its command: over a store, or without one
 abbrev pub RunsKind : Bool → Command → Devices → Devices → Status → Type 0
 RunsKind true command old new status = RunsOver command old new status
 RunsKind false command old new status = RunsAlone command old new status

@@ -7,9 +7,10 @@ use Rattle.ext_text.specs.declared.which.Which.{Which}
 use Rattle.ext_disk.specs.Disk.{Places, Told, DiskState, BothTold}
 use Rattle.ext_depot.specs.Depot.{DepotState}
 use Rattle.ext_host.specs.declared.host.Host.{Host}
-use Rattle.ext_store.specs.HeldFiles.{IsListed, body_told}
-use Rattle.ext_store.specs.Names.{IsGeneration, current_path, current_text, generation_path}
-use Rattle.ext_store.specs.Removal.{AtMost}
+use Rattle.ext_store_files.specs.HeldFiles.{IsListed, body_told}
+use Rattle.ext_store_files.specs.Names.{IsGeneration, current_path, current_text, generation_path}
+use Rattle.ext_store_files.specs.Removal.{AtMost}
+use Rattle.ext_store_files.specs.LeftOvers.{most_left_overs}
 use Rattle.ext_homes.specs.Giving.{stored_by}
 use Rattle.ext_homes.specs.Placed.{IsHostPlaced}
 use Rattle.ext_gen.specs.Checking.{IsAsListed, files_of_host}
@@ -20,15 +21,13 @@ use Rattle.ext_gen.specs.PreparingPaths.{ChangesAt}
 use Rattle.ext_cmd.specs.declared.command.Command.{Command}
 use Rattle.ext_cmd.specs.declared.refusal.Refusal.{Refusal}
 use Rattle.ext_cmd.specs.declared.refusal.Refusal.TheVariants.{Limit}
-use Rattle.ext_step.specs.Step.{Wants}
-use Rattle.ext_step.specs.declared.intent.Intent.{Intent}
-use Rattle.ext_step.specs.declared.intent.Intent.TheVariants.{Changes, Answers, Checks, Shows, Refuses}
+use Rattle.ext_intents.specs.Step.{Wants}
+use Rattle.ext_intents.specs.declared.intent.Intent.{Intent}
+use Rattle.ext_intents.specs.declared.intent.Intent.TheVariants.{Changes, Answers, Checks, Shows, Refuses}
 use Rattle.ext_top.specs.Applying.{seen_on}
 use Rattle.ext_top.specs.declared.applied.Applied.{Applied}
 use Rattle.ext_top.specs.declared.applied.Reply.{Reply}
 use Rattle.ext_top.specs.declared.applied.Reply.TheVariants.{Text, File, Refused}
-
--- ---- however it ends
 
 -- nothing is made, removed or appended
 pub record StaysTold (d e : Told) : Type 0 where
@@ -56,20 +55,18 @@ next_of (Shows held) = None
 next_of (Refuses refusal) = None
 
 -- where no other host is wanted, nothing is done
-abbrev pub WorksTold : Option Generation → Option Host → Told → Told → Type 0
-WorksTold from None d e = StaysTold d e
-WorksTold from (Some next) d e = ReplacesTold from next d e
+abbrev pub WorksAsWanted : Option Generation → Option Host → Told → Told → Type 0
+WorksAsWanted from None d e = StaysTold d e
+WorksAsWanted from (Some next) d e = ReplacesTold from next d e
 
 -- what is wanted does so; or nothing is done, since it ended before
 abbrev pub WorksFor : (Intent → Type 0) → Option Generation → Told → Told → Type 0
-WorksFor W from d e = StaysTold d e ⊎ ((intent : Intent) × W intent × WorksTold from (next_of intent) d e)
-
--- ---- where it was done or refused
+WorksFor W from d e = StaysTold d e ⊎ ((intent : Intent) × W intent × WorksAsWanted from (next_of intent) d e)
 
 -- The left-overs were few enough; of generations there is the coming one, and those that are needed; and what was appended is
 -- the files that were written, the index, and the line of `next`.
 pub record ReplacedTold (from : Option Generation) (coming : Generation) (written : List (List ℕ)) (d e : Told) : Type 0 where
-  pub few : AtMost 1048576 (is_left from) d.places
+  pub few : AtMost most_left_overs (is_left from) d.places
   pub generations : (m : ℕ) → IsGeneration m → is_some (e.places (generation_path m)).node ≡ true → (m ≡ coming.number) ⊎ (is_needed from m ≡ true)
   pub appended : e.appended ≤ d.appended + (sum_by length written + (length (coming_index coming.number coming.host) + length (current_text coming.number)))
 
@@ -83,7 +80,7 @@ pub record Replaced (from : Option Generation) (next : Host) (old new : DiskStat
 
 -- a change was refused: by a limit, before anything was done; else left-overs were removed, and few enough
 abbrev pub IsCleared : Option Generation → DiskState → Refusal → Type 0
-IsCleared from old refusal = ((which : Which) × (refusal ≡ Limit which)) ⊎ IfSome old.told (λ d. AtMost 1048576 (is_left from) d.places)
+IsCleared from old refusal = ((which : Which) × (refusal ≡ Limit which)) ⊎ IfSome old.told (λ d. AtMost most_left_overs (is_left from) d.places)
 
 -- each file of the host has its stamp, where its bytes are told
 abbrev pub AreListed : Option Generation → DiskState → Type 0

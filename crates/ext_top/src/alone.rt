@@ -1,14 +1,14 @@
 // Runs of commands that look at no store.
 ghost use Rattle.std.specs.Prelude.{◌≤◌};
 ghost use Rattle.ext_cmd.specs.declared.command.Command.TheVariants.{Layer};
-ghost use Rattle.ext_step.specs.Compare.{compare_intent};
+ghost use Rattle.ext_intents.specs.Compare.{compare_intent};
 ghost use Rattle.ext_top.specs.Alone.{IsAlone};
 ghost use Rattle.ext_top.specs.Running.{EndsAlone, WritesIntent, WritesLast, streams};
 
 use crate::status::Status;
 use ext_cmd::{answer_text, refusal_text};
+use ext_intents::{Intent, compare_step, layer_step};
 use ext_io::{ReadErr, Sink, Source, read_to_end, write_all};
-use ext_step::{Intent, compare_step, layer_step};
 use ext_text::{OutOfMemory, Text};
 use std::alloc::Global;
 
@@ -17,7 +17,8 @@ const MOST_SOURCE: usize = 16_777_216;
 
 /// The run of `layer`, which reads its source first.
 pub(crate) fn run_layer<S: Source, K: Sink>(alloc: Global, source: &mut S, sink: &mut K) -> Status
-    ensures ends { EndsAlone Layer (streams (S.state source.old) (K.state sink.old)) (streams (S.state source.new) (K.state sink.new)) result }
+    ensures ends { EndsAlone Layer (streams (S.state source.old) (K.state sink.old))
+        (streams (S.state source.new) (K.state sink.new)) result }
     ensures source { (S.state source.old).faults ≤ (S.state source.new).faults }
     ensures sink { (K.state sink.old).faults ≤ (K.state sink.new).faults }
 {
@@ -41,7 +42,7 @@ pub(crate) fn run_compare<K: Sink>(alloc: Global, a: &Text, b: &Text, sink: &mut
     write_intent(alloc, intent, sink)
 }
 
-// Writes what a command that looks at no store came to.
+// Writes what a command that looks at no store wants.
 fn write_intent<K: Sink>(alloc: Global, intent: Intent, sink: &mut K) -> Status
     requires { IsAlone intent }
     ensures writes { WritesIntent intent (K.state sink.old) (K.state sink.new) result }

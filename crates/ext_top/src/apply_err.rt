@@ -1,56 +1,43 @@
-use ext_host::{Home, ShelfErr};
+use ext_host::ShelfErr;
+use ext_intents::PlanErr;
 use ext_io::Failed;
-use ext_step::PlanErr;
+use ext_store_files::StoreFault;
 use ext_text::OutOfMemory;
-use ext_tree::Stamp;
 use thiserror::Error;
 
 /// Why a command was not carried out.
 #[derive(Clone, Copy, Debug, PartialEq, Eq, Error)]
 pub enum ApplyErr {
-    /// The disk had a fault. The store stands for what it stood for, or for what the command makes of it.
-    #[error("disk fault")]
-    DiskFault,
-    /// The depot had a fault.
-    #[error("depot fault")]
-    DepotFault,
-    /// A kept file is another than the one that is listed.
-    #[error("a kept file is damaged")]
-    Damaged {
-        /// Where the file is kept.
-        home: Home,
-        /// The stamp that it is listed with.
-        listed: Stamp,
-        /// The stamp of the file that stands there; `None` exactly where no file of the listed size does.
-        found: Option<Stamp>,
-    },
+    /// A device failed, there was no memory, or a kept file is damaged. After a fault of the disk the store stands for what
+    /// it stood for, or for what the command makes of it.
+    #[error(transparent)]
+    Fault(StoreFault),
     /// More left-overs stand in the store folder than one command removes.
     #[error("unfinished")]
     Unfinished,
-    /// Out of memory.
-    #[error("out of memory")]
-    OutOfMemory,
 }
 
 impl From<OutOfMemory> for ApplyErr {
     ghost use Rattle.std.specs.Prelude.{◌≡◌};
+    ghost use Rattle.ext_store_files.specs.declared.fault.StoreFault.TheVariants as store_faults;
     ghost use Rattle.ext_top.specs.declared.apply_err.ApplyErr.TheVariants as apply_errors;
 
-    ghost from_gives = { λ _ e. e ≡ apply_errors.OutOfMemory };
+    ghost from_gives = { λ _ e. e ≡ apply_errors.Fault store_faults.OutOfMemory };
 
     fn from(_refused: OutOfMemory) -> ApplyErr {
-        ApplyErr::OutOfMemory
+        ApplyErr::Fault(StoreFault::OutOfMemory)
     }
 }
 
 impl From<Failed> for ApplyErr {
     ghost use Rattle.std.specs.Prelude.{◌≡◌};
+    ghost use Rattle.ext_store_files.specs.declared.fault.StoreFault.TheVariants as store_faults;
     ghost use Rattle.ext_top.specs.declared.apply_err.ApplyErr.TheVariants as apply_errors;
 
-    ghost from_gives = { λ _ e. e ≡ apply_errors.DiskFault };
+    ghost from_gives = { λ _ e. e ≡ apply_errors.Fault store_faults.DiskFault };
 
     fn from(_failed: Failed) -> ApplyErr {
-        ApplyErr::DiskFault
+        ApplyErr::Fault(StoreFault::DiskFault)
     }
 }
 
@@ -62,32 +49,20 @@ impl From<PlanErr> for ApplyErr {
 
     fn from(unplanned: PlanErr) -> ApplyErr {
         match unplanned {
-            PlanErr::DepotFault => ApplyErr::DepotFault,
+            PlanErr::DepotFault => ApplyErr::Fault(StoreFault::DepotFault),
             PlanErr::Shelf(unread) => unread.into(),
-            PlanErr::OutOfMemory => ApplyErr::OutOfMemory,
+            PlanErr::OutOfMemory => ApplyErr::Fault(StoreFault::OutOfMemory),
         }
     }
 }
 
 impl From<ShelfErr> for ApplyErr {
     ghost use Rattle.std.specs.Prelude.{◌≡◌};
-    ghost use Rattle.ext_top.specs.Applying.{of_shelf};
+    ghost use Rattle.ext_top.specs.Applying.{apply_err_of_shelf};
 
-    ghost from_gives = { λ e f. f ≡ of_shelf e };
+    ghost from_gives = { λ e f. f ≡ apply_err_of_shelf e };
 
     fn from(unread: ShelfErr) -> ApplyErr {
-        match unread {
-            ShelfErr::OutOfMemory => ApplyErr::OutOfMemory,
-            ShelfErr::Fault => ApplyErr::DiskFault,
-            ShelfErr::Damaged {
-                home,
-                listed,
-                found,
-            } => ApplyErr::Damaged {
-                home,
-                listed,
-                found,
-            },
-        }
+        ApplyErr::Fault(StoreFault::from(unread))
     }
 }

@@ -7,12 +7,12 @@ ghost use Rattle.ext_host.specs.Drawn.{IsFileOf};
 ghost use Rattle.ext_gen.specs.Opened.{IsOpened};
 ghost use Rattle.ext_gen.specs.Preparing.{host_before};
 ghost use Rattle.ext_cmd.specs.Words.{IsWellFormed};
-ghost use Rattle.ext_step.specs.Intents.{IsFit, trees_seen};
-ghost use Rattle.ext_step.specs.Causes.{StepCause};
-ghost use Rattle.ext_step.specs.Step.{Wants, WantsOf, is_of_store};
+ghost use Rattle.ext_intents.specs.Intents.{IsFit, trees_seen};
+ghost use Rattle.ext_intents.specs.Causes.{StepCause};
+ghost use Rattle.ext_intents.specs.Step.{Wants, WantsOf, is_of_store};
 ghost use Rattle.ext_host.specs.Valid.{IsValidHost};
-ghost use Rattle.ext_store.specs.HeldFiles.{IsListed, body_told, is_served};
-ghost use Rattle.ext_view.specs.Survey.{ServesHost};
+ghost use Rattle.ext_store_files.specs.HeldFiles.{IsListed, body_told, is_served};
+ghost use Rattle.ext_host.specs.Planning.{ServesHost};
 ghost use Rattle.ext_top.specs.Machine.{Comes, Counts, Step, bytes_at, shows};
 ghost use Rattle.ext_top.specs.Applying.{AppliesTold, ApplyCause, IsShownReply, PointsAs, RestCause, SeeCause, seen_on};
 ghost use Rattle.ext_top.specs.Working.{AppliedSo, AreListed, Met, WantsOn, WorksFor, refused_by};
@@ -25,22 +25,24 @@ use ext_depot::Depot;
 use ext_disk::Disk;
 use ext_gen::{GenShelf, Opened, check, verify};
 use ext_host::{Held, Host};
-use ext_step::{Intent, PlanErr, first_step, step};
+use ext_intents::{Intent, PlanErr, first_step, step};
 use std::alloc::Global;
 
 /// Carries one command out on a store that was opened so, or on none. Where the disk tells its contents, it points to what was
 /// opened.
 ///
-/// What comes back is what the machine's step gives: another generation, where the command changes the host, and its reply; or
-/// the same, and a reply, or the first refusal in the command's order. The reply is made before the store changes, and is to be
-/// written after.
+/// What comes back is what the machine's step gives. Where the command changes the host, that is another generation, and its
+/// reply. Else it is the same generation, and a reply, or the first refusal in the command's order. The reply is made before
+/// the store changes, and is to be written after.
 ///
 /// # Errors
-/// From a store that firmly stands for a state: a fault of the disk leaves it standing for that state or for the step's, and so
-/// may a stop at any moment; every other error leaves that state, firmly. `DiskFault` and `DepotFault` come only where that
-/// count rose; `Damaged` only where a file that the host lists is another than listed, which no such store has, and where one
-/// that is to be shown or checked is, the command is not done; `Unfinished` exactly where a plan within the limits met more
-/// left-overs than one command removes.
+/// From a store that durably stands for a state, a fault of the disk leaves it standing for that state or for the step's,
+/// and so may a stop at any moment. Every other error leaves that state, durably.
+///
+/// - `DiskFault` and `DepotFault` come only where that count rose.
+/// - `Damaged` comes only where a file that the host lists is another than listed, which no such store has. Where one that
+///   is to be shown or checked is, the command is not done.
+/// - `Unfinished` comes exactly where a plan within the limits met more left-overs than one command removes.
 pub fn apply<D: Disk, P: Depot>(
     alloc: Global,
     command: &Command,
@@ -53,10 +55,13 @@ pub fn apply<D: Disk, P: Depot>(
     requires points { PointsAs (D.state disk.old) opened }
     ensures follows { Follows (D.state disk.old) (D.state disk.new) }
     ensures kept { IsKept (P.state depot.old) (P.state depot.new) }
-    ensures applies { BothTold (AppliesTold (λ s. Step s (P.state depot.old) command.now) opened result) (D.state disk.old).told (D.state disk.new).told }
+    ensures applies { BothTold (AppliesTold (λ s. Step s (P.state depot.old) command.now) opened result)
+        (D.state disk.old).told (D.state disk.new).told }
     ensures shown { IfOk result (λ applied. IsShownReply opened (D.state disk.old) (D.state disk.new) applied.reply) }
-    ensures works { BothTold (WorksFor (WantsOn opened (D.state disk.old) (P.state depot.old) command.now) opened) (D.state disk.old).told (D.state disk.new).told }
-    ensures met { IfOk result (AppliedSo (WantsOn opened (D.state disk.old) (P.state depot.old) command.now) opened (D.state disk.old) (D.state disk.new) (P.state depot.old)) }
+    ensures works { BothTold (WorksFor (WantsOn opened (D.state disk.old) (P.state depot.old) command.now) opened)
+        (D.state disk.old).told (D.state disk.new).told }
+    ensures met { IfOk result (AppliedSo (WantsOn opened (D.state disk.old) (P.state depot.old) command.now) opened
+        (D.state disk.old) (D.state disk.new) (P.state depot.old)) }
     ensures cause { IfErr result (ApplyCause opened (D.state disk.old) (D.state disk.new) (P.state depot.old) (P.state depot.new)) }
 {
     let intent = intended(alloc, command, &opened, disk, depot)?;
@@ -101,7 +106,8 @@ fn seen_step<D: Disk, P: Depot>(
     ensures wants { IfOk result (Wants (seen_on (Some opened.now) (D.state disk.old)) (P.state depot.old) command.now) }
     ensures fit { IfOk result (IsFit (Some opened.now.host)) }
     ensures opened { IsOpened opened.now }
-    ensures cause { IfErr result (SeeCause (Some opened.now) (D.state disk.old) (D.state disk.new) (P.state depot.old) (P.state depot.new)) }
+    ensures cause { IfErr result (SeeCause (Some opened.now) (D.state disk.old) (D.state disk.new) (P.state depot.old)
+        (P.state depot.new)) }
 {
     let newest = opened.text() == 2;
     Ok(step_over(alloc, command, opened.host(), newest, disk, depot)?)
@@ -121,8 +127,14 @@ fn step_over<D: Disk, P: Depot>(
     requires serves { ServesHost (λ held. is_served held.body) host.now }
     ensures rests { Rests (D.state disk.old) (D.state disk.new) }
     ensures kept { IsKept (P.state depot.old) (P.state depot.new) }
-    ensures wants { IfOk result (WantsOf (record { host = host.now; newest = newest; told = λ held. body_told (D.state disk.old) held.body }) (P.state depot.old) command.now) }
-    ensures cause { IfErr result (StepCause host.now (λ held. body_told (D.state disk.old) held.body) (D.state disk.old).faults (D.state disk.new).faults (P.state depot.old).faults (P.state depot.new).faults) }
+    ensures wants { IfOk result (WantsOf (record {
+      host = host.now;
+      newest = newest;
+      told = λ held. body_told
+          (D.state disk.old) held.body;
+    }) (P.state depot.old) command.now) }
+    ensures cause { IfErr result (StepCause host.now (λ held. body_told (D.state disk.old) held.body)
+        (D.state disk.old).faults (D.state disk.new).faults (P.state depot.old).faults (P.state depot.new).faults) }
 {
     let mut shelf = GenShelf { disk };
     step(alloc, command, host, newest, depot, &mut shelf)
@@ -141,10 +153,12 @@ fn carry_out<D: Disk, P: Depot>(
     requires points { PointsAs (D.state disk.old) opened }
     ensures follows { Follows (D.state disk.old) (D.state disk.new) }
     ensures kept { IsKept (P.state depot.old) (P.state depot.new) }
-    ensures applies { BothTold (AppliesTold (λ s. Comes s (P.state depot.old) intent) opened result) (D.state disk.old).told (D.state disk.new).told }
+    ensures applies { BothTold (AppliesTold (λ s. Comes s (P.state depot.old) intent) opened result) (D.state disk.old).told
+        (D.state disk.new).told }
     ensures shown { IfOk result (λ applied. IsShownReply opened (D.state disk.old) (D.state disk.new) applied.reply) }
     ensures works { BothTold (WorksFor (λ wanted. wanted ≡ intent) opened) (D.state disk.old).told (D.state disk.new).told }
-    ensures met { IfOk result (λ applied. Met intent opened (D.state disk.old) (D.state disk.new) (P.state depot.old) (refused_by applied.reply) applied.opened) }
+    ensures met { IfOk result (λ applied. Met intent opened (D.state disk.old) (D.state disk.new) (P.state depot.old)
+        (refused_by applied.reply) applied.opened) }
     ensures cause { IfErr result (ApplyCause opened (D.state disk.old) (D.state disk.new) (P.state depot.old) (P.state depot.new)) }
 {
     match intent {
@@ -171,7 +185,8 @@ fn check_files<D: Disk>(
     requires some { IsSome opened }
     requires opened { IfSome opened IsOpened }
     ensures rests { Rests (D.state disk.old) (D.state disk.new) }
-    ensures met { IfOk result (λ applied. (applied.opened ≡ opened) × (refused_by applied.reply ≡ None) × AreListed opened (D.state disk.old)) }
+    ensures met { IfOk result (λ applied. (applied.opened ≡ opened) × (refused_by applied.reply ≡ None)
+        × AreListed opened (D.state disk.old)) }
     ensures checks { BothTold (AppliesTold (λ s. Counts s) opened result) (D.state disk.old).told (D.state disk.new).told }
     ensures shown { IfOk result (λ applied. IsShownReply opened (D.state disk.old) (D.state disk.new) applied.reply) }
     ensures cause { IfErr result (RestCause opened (D.state disk.old) (D.state disk.new)) }
@@ -193,8 +208,10 @@ fn show<D: Disk>(
     requires file { IsFileOf (trees_seen (host_before opened)) held }
     requires opened { IfSome opened IsOpened }
     ensures rests { Rests (D.state disk.old) (D.state disk.new) }
-    ensures met { IfOk result (λ applied. (applied.opened ≡ opened) × (refused_by applied.reply ≡ None) × IsListed (body_told (D.state disk.old) held.body) held.stamp) }
-    ensures shows { BothTold (AppliesTold (λ s outcome. outcome ≡ shows (bytes_at s held.body)) opened result) (D.state disk.old).told (D.state disk.new).told }
+    ensures met { IfOk result (λ applied. (applied.opened ≡ opened) × (refused_by applied.reply ≡ None)
+        × IsListed (body_told (D.state disk.old) held.body) held.stamp) }
+    ensures shows { BothTold (AppliesTold (λ s outcome. outcome ≡ shows (bytes_at s held.body)) opened result)
+        (D.state disk.old).told (D.state disk.new).told }
     ensures shown { IfOk result (λ applied. IsShownReply opened (D.state disk.old) (D.state disk.new) applied.reply) }
     ensures cause { IfErr result (RestCause opened (D.state disk.old) (D.state disk.new)) }
 {

@@ -1,7 +1,6 @@
-use ext_host::Home;
-use ext_tree::Stamp;
+use ext_host::Damage;
 
-/// Why a store is none.
+/// Why what is in the store folder is no store.
 #[derive(Clone, Copy, Debug, PartialEq, Eq)]
 pub enum BadStore {
     /// `current`, or the index that it names, is none.
@@ -10,12 +9,5 @@ pub enum BadStore {
         line: u64,
     },
     /// A kept file is another than the one that is listed.
-    Damaged {
-        /// Where the file is kept.
-        home: Home,
-        /// The stamp that it is listed with.
-        listed: Stamp,
-        /// The stamp of the file that stands there; `None` exactly where no file of the listed size does.
-        found: Option<Stamp>,
-    },
+    Damaged(Damage),
 }

@@ -5,7 +5,7 @@ ghost use Rattle.ext_top.specs.Changing.{may_change, may_view_change};
 use ext_cmd::{Command, ViewCommand};
 
 /// Whether a command may make, remove or append anything in a store folder. Where it may not, a run of it does not, whatever
-/// stands there; `run` says so.
+/// stands there. `run` says so.
 pub fn may_change(command: &Command) -> bool
     ensures { result ≡ may_change command.now }
 {

@@ -6,7 +6,7 @@ use ext_layer::laws::one_layered_tree;
 use ext_tree::Stamp;
 use ext_tree::laws::{first_fault_of_sequence, one_list_of_sequence};
 
-/// The reply to a source is one: a command comes to one outcome for the same bytes.
+/// The reply to a source is one: a command has one outcome for the same bytes.
 pub fn one_reply()
     ensures { OneReply }
 {

@@ -1,8 +1,8 @@
 //! The top call: one run of the program, from the words and the bytes that come in to the bytes that go out.
 //!
 //! [`run`] carries the theorem of the repository: whatever comes in, the status, the bytes written and what the store stands
-//! for are those that the machine says, at the end and after a stop at any moment. What a command wants is said below; here it
-//! is carried out, once for all commands, and how a run ends is said once, over any of them. The program is a thin shell
+//! for are those that the machine says, at the end and after a stop at any moment. What a command wants is said below. Here
+//! it is carried out, once for all commands, and how a run ends is said once, over any of them. The program is a thin shell
 //! over this crate.
 #![tactic(auto)]
 

@@ -5,7 +5,7 @@ ghost use Rattle.ext_disk.specs.Disk.{BothTold};
 ghost use Rattle.ext_disk.specs.Since.{Follows};
 ghost use Rattle.ext_gen.specs.Opened.{IsOpened};
 ghost use Rattle.ext_cmd.specs.Words.{IsWellFormed};
-ghost use Rattle.ext_step.specs.Step.{is_of_store};
+ghost use Rattle.ext_intents.specs.Step.{is_of_store};
 ghost use Rattle.ext_top.specs.Applying.{PointsAs};
 ghost use Rattle.ext_top.specs.Exits.{does};
 ghost use Rattle.ext_top.specs.Lines.{LineTold, LineCause};
@@ -49,10 +49,14 @@ pub(crate) fn do_line<K: Sink, D: Disk, P: Depot>(
     ensures follows { Follows (D.state disk.old) (D.state disk.new) }
     ensures kept { IsKept (P.state depot.old) (P.state depot.new) }
     ensures count { (K.state sink.old).faults ≤ (K.state sink.new).faults }
-    ensures runs { BothTold (LineTold (does command.now) opened (P.state depot.old) (K.state sink.old) (K.state sink.new) result) (D.state disk.old).told (D.state disk.new).told }
-    ensures works { BothTold (WorksFor (WantsOn opened (D.state disk.old) (P.state depot.old) command.now) opened) (D.state disk.old).told (D.state disk.new).told }
-    ensures met { IfOk result (λ written. HasMet (WantsOn opened (D.state disk.old) (P.state depot.old) command.now) opened (D.state disk.old) (D.state disk.new) (P.state depot.old) written.refusal written.opened) }
-    ensures cause { IfErr result (LineCause opened (K.state sink.old) (K.state sink.new) (D.state disk.old) (D.state disk.new) (P.state depot.old) (P.state depot.new)) }
+    ensures runs { BothTold (LineTold (does command.now) opened (P.state depot.old) (K.state sink.old) (K.state sink.new)
+        result) (D.state disk.old).told (D.state disk.new).told }
+    ensures works { BothTold (WorksFor (WantsOn opened (D.state disk.old) (P.state depot.old) command.now) opened)
+        (D.state disk.old).told (D.state disk.new).told }
+    ensures met { IfOk result (λ written. HasMet (WantsOn opened (D.state disk.old) (P.state depot.old) command.now) opened
+        (D.state disk.old) (D.state disk.new) (P.state depot.old) written.refusal written.opened) }
+    ensures cause { IfErr result (LineCause opened (K.state sink.old) (K.state sink.new) (D.state disk.old)
+        (D.state disk.new) (P.state depot.old) (P.state depot.new)) }
 {
     let applied = apply(alloc, command, opened, disk, depot)?;
     let Applied { opened, reply } = applied;

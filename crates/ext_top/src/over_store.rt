@@ -4,7 +4,7 @@ ghost use Rattle.ext_depot.specs.Depot.{IsKept};
 ghost use Rattle.ext_disk.specs.Disk.{BothTold};
 ghost use Rattle.ext_disk.specs.Since.{Follows};
 ghost use Rattle.ext_cmd.specs.Words.{IsWellFormed};
-ghost use Rattle.ext_step.specs.Step.{is_of_store};
+ghost use Rattle.ext_intents.specs.Step.{is_of_store};
 ghost use Rattle.ext_top.specs.Alone.{status_of_refusal};
 ghost use Rattle.ext_top.specs.Applying.{PointsAs};
 ghost use Rattle.ext_top.specs.Exits.{does};
@@ -60,9 +60,12 @@ fn run_opened<K: Sink, D: Disk, P: Depot>(
     ensures follows { Follows (D.state disk.old) (D.state disk.new) }
     ensures kept { IsKept (P.state depot.old) (P.state depot.new) }
     ensures count { (K.state sink.old).faults ≤ (K.state sink.new).faults }
-    ensures runs { BothTold (RunsTold false (does command.now ∷ []) opened (P.state depot.old) (K.state sink.old) (K.state sink.new) result) (D.state disk.old).told (D.state disk.new).told }
-    ensures works { BothTold (WorksFor (WantsOn opened (D.state disk.old) (P.state depot.old) command.now) opened) (D.state disk.old).told (D.state disk.new).told }
-    ensures met { StatusMet (HasMet (WantsOn opened (D.state disk.old) (P.state depot.old) command.now) opened (D.state disk.old) (D.state disk.new) (P.state depot.old)) result }
+    ensures runs { BothTold (RunsTold false (does command.now ∷ []) opened (P.state depot.old) (K.state sink.old)
+        (K.state sink.new) result) (D.state disk.old).told (D.state disk.new).told }
+    ensures works { BothTold (WorksFor (WantsOn opened (D.state disk.old) (P.state depot.old) command.now) opened)
+        (D.state disk.old).told (D.state disk.new).told }
+    ensures met { StatusMet (HasMet (WantsOn opened (D.state disk.old) (P.state depot.old) command.now) opened
+        (D.state disk.old) (D.state disk.new) (P.state depot.old)) result }
     ensures cause { OpenedCause opened
         (store_side (K.state sink.old) (D.state disk.old) (P.state depot.old))
         (store_side (K.state sink.new) (D.state disk.new) (P.state depot.new)) result }
@@ -103,12 +106,9 @@ fn status_of_closed(error: StoreErr) -> Status
     ensures { result ≡ status_of_closed error }
 {
     match error {
-        StoreErr::OutOfMemory => Status::OutOfMemory,
-        StoreErr::DiskFault => Status::DiskFault,
+        StoreErr::Fault(fault) => status_of_stop(Stop::from(fault)),
         StoreErr::Broken { line } => Status::BadStore(BadStore::Broken { line }),
-        StoreErr::DepotFault
-        | StoreErr::Damaged { .. }
-        | StoreErr::Mismatch { .. }
+        StoreErr::Mismatch { .. }
         | StoreErr::NotInDepot { .. }
         | StoreErr::Unfinished
         | StoreErr::Limit { .. } => unreachable!(),

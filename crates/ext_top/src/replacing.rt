@@ -7,9 +7,9 @@ ghost use Rattle.ext_gen.specs.Opened.{IsOpened};
 ghost use Rattle.ext_gen.specs.Preparing.{host_before};
 ghost use Rattle.ext_cmd.specs.Replies.{answer_text};
 ghost use Rattle.ext_cmd.specs.declared.answer.Answer.{Answer};
-ghost use Rattle.ext_step.specs.Intents.{IsPlanned};
+ghost use Rattle.ext_intents.specs.Intents.{IsPlanned};
 ghost use Rattle.ext_top.specs.Machine.{Replaces};
-ghost use Rattle.ext_step.specs.declared.intent.Intent.TheVariants.{Changes};
+ghost use Rattle.ext_intents.specs.declared.intent.Intent.TheVariants.{Changes};
 ghost use Rattle.ext_top.specs.Applying.{AppliesTold, ApplyCause, IsOfPreparing, IsShownReply, PointsAs, refusal_from};
 ghost use Rattle.ext_top.specs.Working.{Met, ReplacesTold, WorksFor, refused_by};
 
@@ -40,9 +40,11 @@ pub(crate) fn replace<D: Disk, P: Depot>(
     requires points { PointsAs (D.state disk.old) opened }
     ensures follows { Follows (D.state disk.old) (D.state disk.new) }
     ensures kept { IsKept (P.state depot.old) (P.state depot.new) }
-    ensures applies { BothTold (AppliesTold (λ s. Replaces s (P.state depot.old) next (answer_text answer)) opened result) (D.state disk.old).told (D.state disk.new).told }
+    ensures applies { BothTold (AppliesTold (λ s. Replaces s (P.state depot.old) next (answer_text answer)) opened result)
+        (D.state disk.old).told (D.state disk.new).told }
     ensures works { BothTold (WorksFor (λ intent. intent ≡ Changes next answer) opened) (D.state disk.old).told (D.state disk.new).told }
-    ensures met { IfOk result (λ applied. Met (Changes next answer) opened (D.state disk.old) (D.state disk.new) (P.state depot.old) (refused_by applied.reply) applied.opened) }
+    ensures met { IfOk result (λ applied. Met (Changes next answer) opened (D.state disk.old) (D.state disk.new)
+        (P.state depot.old) (refused_by applied.reply) applied.opened) }
     ensures shown { IfOk result (λ applied. IsShownReply opened (D.state disk.old) (D.state disk.new) applied.reply) }
     ensures cause { IfErr result (ApplyCause opened (D.state disk.old) (D.state disk.new) (P.state depot.old) (P.state depot.new)) }
 {
@@ -64,9 +66,11 @@ fn switch<D: Disk, P: Depot>(
     requires points { PointsAs (D.state disk.old) opened }
     ensures follows { Follows (D.state disk.old) (D.state disk.new) }
     ensures kept { IsKept (P.state depot.old) (P.state depot.new) }
-    ensures applies { BothTold (AppliesTold (λ s. Replaces s (P.state depot.old) next reply) opened result) (D.state disk.old).told (D.state disk.new).told }
+    ensures applies { BothTold (AppliesTold (λ s. Replaces s (P.state depot.old) next reply) opened result)
+        (D.state disk.old).told (D.state disk.new).told }
     ensures works { BothTold (ReplacesTold opened next) (D.state disk.old).told (D.state disk.new).told }
-    ensures met { (answer : Answer) → IfOk result (λ applied. Met (Changes next answer) opened (D.state disk.old) (D.state disk.new) (P.state depot.old) (refused_by applied.reply) applied.opened) }
+    ensures met { (answer : Answer) → IfOk result (λ applied. Met (Changes next answer) opened (D.state disk.old)
+        (D.state disk.new) (P.state depot.old) (refused_by applied.reply) applied.opened) }
     ensures shown { IfOk result (λ applied. IsShownReply opened (D.state disk.old) (D.state disk.new) applied.reply) }
     ensures cause { IfErr result (ApplyCause opened (D.state disk.old) (D.state disk.new) (P.state depot.old) (P.state depot.new)) }
 {
@@ -89,19 +93,8 @@ fn refusal_from(error: StoreErr) -> Result<Refusal, ApplyErr>
     ensures { result ≡ refusal_from error }
 {
     match error {
-        StoreErr::OutOfMemory => Err(ApplyErr::OutOfMemory),
-        StoreErr::DiskFault => Err(ApplyErr::DiskFault),
-        StoreErr::DepotFault => Err(ApplyErr::DepotFault),
+        StoreErr::Fault(fault) => Err(ApplyErr::Fault(fault)),
         StoreErr::Broken { .. } => unreachable!(),
-        StoreErr::Damaged {
-            home,
-            listed,
-            found,
-        } => Err(ApplyErr::Damaged {
-            home,
-            listed,
-            found,
-        }),
         StoreErr::Mismatch {
             path,
             listed,

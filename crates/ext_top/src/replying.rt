@@ -1,7 +1,7 @@
 // The reply of a command is written.
 ghost use Rattle.std.specs.Prelude.{◌≡◌, ◌+◌, ◌<◌, ◌≤◌, true, length, IfErr, IfOk};
 ghost use Rattle.ext_disk.specs.Since.{Rests};
-ghost use Rattle.ext_store.specs.HeldFiles.{body_told, is_served};
+ghost use Rattle.ext_store_files.specs.HeldFiles.{body_told, is_served};
 ghost use Rattle.ext_top.specs.Applying.{IsServedReply};
 ghost use Rattle.ext_top.specs.Working.{refused_by};
 ghost use Rattle.ext_top.specs.Replying.{FileCause, ReplyCause, WritesBytes, WritesFile, WritesPiece, WritesReply};
@@ -12,18 +12,15 @@ use ext_cmd::{Refusal, refusal_text};
 use ext_disk::Disk;
 use ext_gen::piece;
 use ext_host::Held;
-use ext_io::{Sink, write_all};
-use ext_text::OutOfMemory;
+use ext_io::{PIECE, Sink, write_all, zeros};
 use std::alloc::Global;
-
-/// The most bytes of a file that are read and written at once.
-const PIECE: usize = 65_536;
 
 /// Writes a reply, and gives the refusal that it is the line of, if it is one.
 ///
 /// # Errors
-/// The sink failed, and a proper prefix of the reply was written; or, of a file, a fault of the disk, or no memory, and a
-/// prefix was; or the file ends before its listed size.
+/// - The sink failed, and a proper prefix of the reply was written.
+/// - Of a file, a fault of the disk, or no memory, and a prefix was written.
+/// - The file ends before its listed size.
 pub(crate) fn write_reply<K: Sink, D: Disk>(
     alloc: Global,
     reply: Reply,
@@ -74,19 +71,13 @@ fn write_file<K: Sink, D: Disk>(
 ) -> Result<(), Stop>
     requires { is_served held.now.body ≡ true }
     ensures rests { Rests (D.state disk.old) (D.state disk.new) }
-    ensures writes { WritesFile (body_told (D.state disk.old) held.now.body) held.now.stamp.size (K.state sink.old) (K.state sink.new) result }
+    ensures writes { WritesFile (body_told (D.state disk.old) held.now.body) held.now.stamp.size (K.state sink.old)
+        (K.state sink.new) result }
     ensures count { (K.state sink.old).faults ≤ (K.state sink.new).faults }
     ensures cause { IfErr result (FileCause held.now (K.state sink.old) (K.state sink.new) (D.state disk.old) (D.state disk.new)) }
 {
-    let mut buffer = zeros(alloc)?;
+    let mut buffer = zeros(alloc, PIECE)?;
     write_pieces(alloc, held, sink, disk, &mut buffer)
-}
-
-// A buffer for a piece.
-fn zeros(alloc: Global) -> Result<Vec<u8>, OutOfMemory>
-    ensures { IfOk result (λ buffer. 0 < length buffer.items) }
-{
-    Ok(vec![in alloc; 0u8; PIECE]?)
 }
 
 // Writes the bytes of a file, each time as many as the buffer has room for.
@@ -100,7 +91,8 @@ fn write_pieces<K: Sink, D: Disk>(
     requires served { is_served held.now.body ≡ true }
     requires room { 0 < length buffer.old }
     ensures rests { Rests (D.state disk.old) (D.state disk.new) }
-    ensures writes { WritesFile (body_told (D.state disk.old) held.now.body) held.now.stamp.size (K.state sink.old) (K.state sink.new) result }
+    ensures writes { WritesFile (body_told (D.state disk.old) held.now.body) held.now.stamp.size (K.state sink.old)
+        (K.state sink.new) result }
     ensures count { (K.state sink.old).faults ≤ (K.state sink.new).faults }
     ensures cause { IfErr result (FileCause held.now (K.state sink.old) (K.state sink.new) (D.state disk.old) (D.state disk.new)) }
 {
@@ -126,7 +118,8 @@ fn write_piece<K: Sink, D: Disk>(
     requires place { at < held.now.stamp.size }
     ensures within { IfOk result (λ n. (0 < n) × (at + n ≤ held.now.stamp.size)) }
     ensures rests { Rests (D.state disk.old) (D.state disk.new) }
-    ensures writes { WritesPiece (body_told (D.state disk.old) held.now.body) held.now.stamp.size at (K.state sink.old) (K.state sink.new) result }
+    ensures writes { WritesPiece (body_told (D.state disk.old) held.now.body) held.now.stamp.size at (K.state sink.old)
+        (K.state sink.new) result }
     ensures count { (K.state sink.old).faults ≤ (K.state sink.new).faults }
     ensures cause { IfErr result (FileCause held.now (K.state sink.old) (K.state sink.new) (D.state disk.old) (D.state disk.new)) }
 {

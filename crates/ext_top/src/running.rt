@@ -1,6 +1,6 @@
 // The top call.
 ghost use Rattle.ext_cmd.specs.Words.{IsWellFormed};
-ghost use Rattle.ext_step.specs.Step.{is_of_store};
+ghost use Rattle.ext_intents.specs.Step.{is_of_store};
 ghost use Rattle.ext_top.specs.Changing.{StaysUnlessChanging};
 ghost use Rattle.ext_top.specs.Completing.{Completes};
 ghost use Rattle.ext_top.specs.Running.{CountsOn, Runs, RunsKind, devices};
@@ -17,13 +17,13 @@ use std::alloc::Global;
 
 /// Runs the command that the words are, over a source and a sink, a store on a disk and a depot.
 ///
-/// `layer` reads the source to its end first; where that tells its bytes, at most 16,777,217 of them are taken. It and
-/// `compare` look at no store. Every other command leaves the source alone: the store is opened, the command is carried out
-/// by the machine, and then its reply is written. Each status comes as `Runs` says, with what was written and what the store
-/// stands for then, and after a stop at any moment; a fault is told only where that count rose.
+/// `layer` reads the source to its end first. Where that tells its bytes, at most 16,777,217 of them are taken. It and
+/// `compare` look at no store. Every other command leaves the source alone. The run opens the store, carries the command out
+/// by the machine, and then writes its reply. Each status comes as `Runs` says, with what was written and what the store
+/// stands for then, and after a stop at any moment. A fault is told only where that count rose.
 ///
-/// Whatever the store is, a command makes, removes and appends what the host that it wants asks for and nothing else, and
-/// nothing at all where it wants no other host, as a command never does that `may_change` is false of; and where it was done or
+/// Whatever the store is, a command makes, removes and appends only what the host that it wants asks for, and nothing at all
+/// where it wants no other host. A command that `may_change` is false of never does any of it. Where a command was done or
 /// refused, no file that it showed or checked was another than listed, and no change met more left-overs than one command
 /// removes.
 ///

@@ -11,27 +11,27 @@ pub enum Status {
     Done,
     /// The command was refused, and the refusal's line was written. The store is as it was.
     Refused(Refusal),
-    /// The words are no command; nothing was touched.
+    /// The words are no command. Nothing was touched.
     Usage {
-        /// The place of the first word that no command has there, counted from 1; where a command begins with all of
-        /// them, the place after the last.
+        /// The place of the first word that no command has there, counted from 1. Where a command begins with all of them,
+        /// it is the place after the last.
         place: u64,
     },
-    /// The source failed; nothing was written, and the store was left alone.
+    /// The source failed. Nothing was written, and the store was left alone.
     ReadFault,
-    /// The sink failed; the command was carried out, and a proper prefix of the reply was written.
+    /// The sink failed. The command was carried out, and a proper prefix of the reply was written.
     WriteFault,
     /// The disk failed. The store stands for what it stood for, or for what the command would make of it.
     DiskFault,
-    /// The depot failed; the store is as it was, and nothing was written.
+    /// The depot failed. The store is as it was, and nothing was written.
     DepotFault,
-    /// Out of memory; the store is as it was, and nothing was written but, of a file that `cat` showed, its first bytes.
+    /// Out of memory. The store is as it was, and nothing was written but, of a file that `cat` showed, its first bytes.
     OutOfMemory,
     /// What is in the store folder is no store, or a file of it is another than listed.
     BadStore(BadStore),
-    /// More left-overs stand in the store folder than one command removes; it may be given again.
+    /// More left-overs stand in the store folder than one command removes. The command may be given again.
     Unfinished,
-    /// The source has more than 16,777,216 bytes, and one byte more was taken; nothing was written, and the store was left
+    /// The source has more than 16,777,216 bytes, and one byte more was taken. Nothing was written, and the store was left
     /// alone.
     TooLong,
 }

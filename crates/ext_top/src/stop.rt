@@ -1,6 +1,7 @@
 use crate::apply_err::ApplyErr;
 use crate::bad_store::BadStore;
 use ext_host::ShelfErr;
+use ext_store_files::StoreFault;
 use ext_text::OutOfMemory;
 
 /// Why a run stopped at a line.
@@ -31,6 +32,22 @@ impl From<OutOfMemory> for Stop {
     }
 }
 
+impl From<StoreFault> for Stop {
+    ghost use Rattle.std.specs.Prelude.{◌≡◌};
+    ghost use Rattle.ext_top.specs.Stop.{stop_of_fault};
+
+    ghost from_gives = { λ e f. f ≡ stop_of_fault e };
+
+    fn from(fault: StoreFault) -> Stop {
+        match fault {
+            StoreFault::OutOfMemory => Stop::OutOfMemory,
+            StoreFault::DiskFault => Stop::DiskFault,
+            StoreFault::DepotFault => Stop::DepotFault,
+            StoreFault::Damaged(damage) => Stop::BadStore(BadStore::Damaged(damage)),
+        }
+    }
+}
+
 impl From<ShelfErr> for Stop {
     ghost use Rattle.std.specs.Prelude.{◌≡◌};
     ghost use Rattle.ext_top.specs.Replying.{stop_of_shelf};
@@ -38,19 +55,7 @@ impl From<ShelfErr> for Stop {
     ghost from_gives = { λ e f. f ≡ stop_of_shelf e };
 
     fn from(unread: ShelfErr) -> Stop {
-        match unread {
-            ShelfErr::OutOfMemory => Stop::OutOfMemory,
-            ShelfErr::Fault => Stop::DiskFault,
-            ShelfErr::Damaged {
-                home,
-                listed,
-                found,
-            } => Stop::BadStore(BadStore::Damaged {
-                home,
-                listed,
-                found,
-            }),
-        }
+        Stop::from(StoreFault::from(unread))
     }
 }
 
@@ -62,19 +67,8 @@ impl From<ApplyErr> for Stop {
 
     fn from(undone: ApplyErr) -> Stop {
         match undone {
-            ApplyErr::DiskFault => Stop::DiskFault,
-            ApplyErr::DepotFault => Stop::DepotFault,
-            ApplyErr::Damaged {
-                home,
-                listed,
-                found,
-            } => Stop::BadStore(BadStore::Damaged {
-                home,
-                listed,
-                found,
-            }),
+            ApplyErr::Fault(fault) => Stop::from(fault),
             ApplyErr::Unfinished => Stop::Unfinished,
-            ApplyErr::OutOfMemory => Stop::OutOfMemory,
         }
     }
 }

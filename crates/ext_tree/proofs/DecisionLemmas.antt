@@ -109,8 +109,6 @@ rest_of (p ∷ prefix) (t ∷ text) = elim (cases_eq t p) [
   | inr other ↦ inr (λ found. other (ap (λ (l : List ℕ). get_or l 0 0) found.1))
 ]
 
--- ---- names, paths, targets and digests
-
 name : (bytes : List ℕ) → Decided (IsName bytes)
 name bytes = by_both_ways
     (λ (p : (0 < length bytes) × ((length bytes ≤ 255) × ((bytes ≢ 46 ∷ []) × ((bytes ≢ 46 ∷ 46 ∷ []) × (AllPass is_name_byte bytes × IsUtf8 bytes))))). record { non_empty = p.0; at_most_255 = p.1.0; not_dot = p.1.1.0; not_dot_dot = p.1.1.1.0; plain = p.1.1.1.1.0; utf8 = p.1.1.1.1.1 })
@@ -144,8 +142,6 @@ path_of text = elim (both (path (path_parts text)) (both (less 0 (length (path_p
   | inl found ↦ inl (path_parts text, found)
   | inr none ↦ inr (λ found. none (subst (PathOf text) (sym (ap path_parts found.1.1.1 ∙ parts_text found.0 found.1.0.each)) found.1))
 ]
-
--- ---- lines
 
 -- the line is that of this entry at some path
 abbrev LineAt : Entry Stamp → List ℕ → Type 0

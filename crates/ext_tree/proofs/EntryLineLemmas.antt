@@ -44,8 +44,6 @@ module _ {C : Type 0} (form : LineForm C) where
   pub line_not_end : (x : List (List ℕ) × Entry C) → entry_line form x ≢ codes "end"
   line_not_end x e = line_not_e x (110 ∷ 100 ∷ []) e
 
-  -- ---- what a reader of fields rests on
-
   -- without a mode they are no directory's
   pub no_dir : (fields : List ℕ) → ((m : ℕ) (rest : List ℕ) → m ≤ 4095 → fields ≢ octal m ++ 32 ∷ rest) → ReadsFields form (100 ∷ 32 ∷ fields) None
   no_dir fields none (Dir m) rest is e = none m rest is (after_kind 100 100 _ _ e)

@@ -18,8 +18,6 @@ use Rattle.ext_tree.proofs.SequenceLemmas.{loosely, loosely_each, loosely_lines,
 use Rattle.ext_tree.proofs.TreeLineLemmas.{line_lacks}
 use Rattle.ext_tree.proofs.TreeTextLemmas.{lines_of}
 
--- ---- the lines of texts
-
 pub header_lacks : (two : Bool) → Lacks 10 (header two)
 header_lacks true = AllPass-from_list_all (λ b. not (eqb b 10)) (header true) refl
 header_lacks false = AllPass-from_list_all (λ b. not (eqb b 10)) (header false) refl
@@ -48,8 +46,6 @@ sequence_lines bytes trees each text =
     ∙ whole_lines-text (flat_map tree_lines trees) [] (sequence_lacks trees each)
     ∙ ap (λ xs. flat_map tree_lines trees ++ xs) (whole_lines-lacks [] (lacks_nil 10))
     ∙ append-nil (flat_map tree_lines trees)
-
--- ---- where no text goes on
 
 -- the bytes are lines with which sequences begin, and a rest: where it has a first line, that is faulty; and the lines are
 -- no sequence, unless something follows

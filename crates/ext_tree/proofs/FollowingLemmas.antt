@@ -21,8 +21,6 @@ use Rattle.ext_tree.specs.Following.{stands_after}
 use Rattle.ext_tree.proofs.OrderLemmas.{find-join, sorted_prefix, prefix_below, sorted_push, all_below, find_above, found_below}
 use Rattle.ext_tree.proofs.PrefixLemmas.{root_none, some_dir, directory_dir, dir_directory, directory_some, prefixes}
 
--- ---- one more entry at the end
-
 at_end : {C : Type 0} (es : Entries C) (p : List (List ℕ)) (e : Entry C) → find path_cmp p es ≡ None → (q : List (List ℕ)) → lookup (es ++ (p, e) ∷ []) q ≡ cond (eq_by_cmp path_cmp q p) (Some e) (lookup es q)
 at_end es p e none q = find-append path_cmp paths_total es p e q none
 
@@ -70,8 +68,6 @@ push_tree es p e tree below path some directory =
     root_not [] some same = omega arith
     root_not (n ∷ q) some same = cc
 
--- ---- a prefix of a tree
-
 prefix_keeps : {C : Type 0} (a b : Option (Entry C)) → is_some a ≡ true → cond (is_some a) a b ≡ a
 prefix_keeps None b found = absurd (false≢true found)
 prefix_keeps (Some e) b found = refl
@@ -110,8 +106,6 @@ pop_tree es k e tree =
       paths = λ q found. tree.paths q (still q found);
       parents = λ q found. directory_prefix es k e q below found (root_none (es ++ (k, e) ∷ []) tree q (still q found)) (tree.parents q (still q found));
     }
-
--- ---- the test of the last entry
 
 -- the last entry is found
 pub last_found : {C : Type 0} (es : Entries C) (q : List (List ℕ)) (f : Entry C) → IsTree (es ++ (q, f) ∷ []) → lookup (es ++ (q, f) ∷ []) q ≡ Some f
@@ -203,14 +197,13 @@ tree_follows es q f p e whole =
     in_prefix [] other none directory = refl
     in_prefix (n ∷ r) other none directory = sym (ap is_directory_at (at_other (es ++ (q, f) ∷ []) p e none (n ∷ r) other)) ∙ directory
 
--- ---- a tree of one entry
-
 only_prefix : (a : List (List ℕ)) → length a ≡ 1 → parent a ≡ []
 only_prefix [] one = absurd (omega arith)
 only_prefix (n ∷ a) one =
     let none : length (n ∷ a) - 1 ≡ 0 = omega arith in
     ap (λ k. take k (n ∷ a)) none
 
+-- no entries are a tree
 pub empty_tree : {C : Type 0} → IsTree {C = C} []
 empty_tree = record { sorted = refl; root = refl; paths = λ p found. absurd (false≢true found); parents = λ p found. absurd (false≢true found) }
 
@@ -233,8 +226,6 @@ tree_first p e tree =
   where
     alone : is_some (lookup ((p, e) ∷ []) (parent p)) ≡ true → eq_by_cmp path_cmp (parent p) p ≡ false → ⊥
     alone there apart = false≢true (sym (ap (λ b. is_some (cond b (Some e) None)) apart) ∙ there)
-
--- ---- what `may_follow` gives
 
 -- a list that is not empty ends with its last element
 pub ends : {X : Type 0} (xs : List X) (d : X) → 0 < length xs → d ≡ get_or xs (length xs - 1) d → xs ≡ take (length xs - 1) xs ++ d ∷ []

@@ -1,8 +1,8 @@
 -- What a graft answers: the tree with the part hung into it, or the first of its refusals.
-use Rattle.std.proofs.Common.{◌≡◌, ℕ, ◌<◌, ◌≤◌, Bool, true, eqb, List, [], ◌∷◌, ◌++◌, length, Result, Ok, Err, is_some, refl, sym, ap, ◌∙◌, subst, map, append_assoc, arith}
+use Rattle.std.proofs.Common.{◌≡◌, ℕ, ◌<◌, ◌≤◌, true, List, [], ◌∷◌, ◌++◌, length, Result, Ok, Err, is_some, sym, ap, ◌∙◌, subst, map, append_assoc, arith}
 use Rattle.std.specs.Prelude.{OnErr, OnOk}
 use Rattle.std.specs.List.{AllByRecursion}
-use Rattle.std.proofs.lemmas.Bool.{eqb-true, false≢true}
+use Rattle.std.proofs.lemmas.Bool.{false≢true}
 use Rattle.std.proofs.lemmas.List.{map-append}
 use Rattle.ext_text.specs.Path.{IsPath, is_proper_prefix}
 use Rattle.ext_text.proofs.ForCallers.{all_append}
@@ -16,8 +16,6 @@ use Rattle.ext_tree.proofs.GraftedLemmas.{tree_grafted}
 use Rattle.ext_tree.proofs.GraftJoinLemmas.{joined_grafted, open_above}
 use Rattle.ext_tree.proofs.GraftOrderLemmas.{sorted_joined}
 
--- ---- the part's entries, one after another
-
 pub hung_more : {C : Type 0} (p : List (List ℕ)) (first old new done : Entries C) (e : List (List ℕ) × Entry C) → old ≡ first ++ map (hung p) done → new ≡ old ++ hung p e ∷ [] → new ≡ first ++ map (hung p) (done ++ e ∷ [])
 hung_more p first old new done e so_far push =
     push ∙ ap (λ es. es ++ hung p e ∷ []) so_far ∙ append_assoc first (map (hung p) done) (hung p e ∷ []) ∙ ap (λ es. first ++ es) (sym (map-append (hung p) done (e ∷ [])))
@@ -25,18 +23,9 @@ hung_more p first old new done e so_far push =
 pub fits_more : {C : Type 0} (p : List (List ℕ)) (done : Entries C) (e : List (List ℕ) × Entry C) → AllByRecursion (λ x. IsPath (p ++ x.0)) done → IsPath (p ++ e.0) → AllByRecursion (λ x. IsPath (p ++ x.0)) (done ++ e ∷ [])
 fits_more p done e so_far path = all_append (λ x. IsPath (p ++ x.0)) done (e ∷ []) so_far (path, tt)
 
--- ---- at the root
-
 no_proper : (q : List (List ℕ)) → is_proper_prefix q [] ≡ true → ⊥
 no_proper [] proper = false≢true proper
 no_proper (n ∷ q) proper = false≢true proper
-
--- a path without names is the root
-pub no_names : (names p : List (List ℕ)) (b : Bool) → b ≡ eqb (length names) 0 → b ≡ true → names ≡ p → p ≡ []
-no_names names [] b is empty same = refl
-no_names names (n ∷ p) b is empty same =
-    let none : length names ≡ 0 = eqb-true (length names) 0 (sym is ∙ empty) in
-    absurd (omega (arith, ap length same))
 
 pub graft_root : {C : Type 0} (es u new : Entries C) (p : List (List ℕ)) → p ≡ [] → new ≡ u → IsTreeWithin new → IsGraft es p u new
 graft_root es u new p top same is = subst (λ r. IsGraft es r u new) (sym top) (record { tree = is.tree; each = λ q. ap (λ fs. lookup fs q) same })
@@ -47,8 +36,6 @@ root_answers es u new p done top same is = (
   λ q there. subst (λ r. IsPath (r ++ q)) (sym top) (is.tree.paths q (subst (λ fs. is_some (lookup fs q) ≡ true) (sym same) there)),
   (new, graft_root es u new p top same is, is.count),
 )
-
--- ---- below it
 
 -- where a path grows too long
 pub long_answers : (T : Type 0) {C : Type 0} (es u : Entries C) (p : List (List ℕ)) (standing : ℕ) (e : TreeErr) → IsTree es → StandsBelow es p standing → IsLongPath (IsTooLong p u) e → AnswersGraft {T = T} es p u (Err e)

@@ -19,8 +19,6 @@ use Rattle.ext_tree.proofs.OrderLemmas.{find-join}
 use Rattle.ext_tree.proofs.GraftLemmas.{added_below, added_made, added_none}
 use Rattle.ext_tree.proofs.GraftedLemmas.{root, same, below, above, apart, stands, grafted_root, grafted_same, grafted_below, grafted_above, grafted_apart}
 
--- ---- what stands above the path
-
 -- a proper prefix is that many first names, and shorter
 proper_take : (q p : List (List ℕ)) → is_prefix q p ≡ true → is_prefix p q ≡ false → (q ≡ take (length q) p) × (length q < length p)
 proper_take q p back out = (proper_first q p).0 ((λ i. back i && not (out i)))
@@ -52,8 +50,6 @@ open_above {C = C} es p standing tree stand (n ∷ q) proper =
     no_other : (o : Option (Entry C)) → (is_some o ≡ true → is_directory_at o ≡ true) → is_non_directory_at o ≡ false
     no_other None directory = refl
     no_other (Some e) directory = ap not (directory refl)
-
--- ---- what is found in what is joined
 
 -- the first that has something
 abbrev first_of : {X : Type 0} → Option X → Option X → Option X

@@ -21,8 +21,6 @@ use Rattle.ext_tree.specs.Grafting.{added, directories, hung}
 use Rattle.ext_tree.proofs.OrderLemmas.{find-join, each_found}
 use Rattle.ext_tree.proofs.PartLemmas.{cmp_prefix, prefix_append, prefix_split}
 
--- ---- lists in order joined
-
 module _ {K X : Type 0} (R : K → K → Ordering) where
   below_join : (x : K) (es fs : List (K × X)) → below_all R x es ≡ true → below_all R x fs ≡ true → below_all R x (es ++ fs) ≡ true
   below_join x [] fs first second = second
@@ -46,8 +44,6 @@ module _ {K X : Type 0} (R : K → K → Ordering) where
       later : (q : K) → is_some (find R q es) ≡ true → is_some (find R q (e ∷ es)) ≡ true
       later q here = elim (eq_by_cmp R q e.0) as (λ b. is_some (cond b (Some e.1) (find R q es)) ≡ true) [ true ↦ refl | false ↦ here ]
 
--- ---- what is hung
-
 -- below the path as in the part, and nowhere else
 pub find_hung : {C : Type 0} (p q : List (List ℕ)) (u : Entries C) → lookup (map (hung p) u) q ≡ cond (is_prefix p q) (lookup u (drop (length p) q)) None
 find_hung {C = C} p q [] = elim (is_prefix p q) as (λ b. ◌≡◌ {A = Option (Entry C)} None (cond b None None)) [ true ↦ refl | false ↦ refl ]
@@ -70,8 +66,6 @@ sorted_hung p [] sorted = refl
 sorted_hung p (e ∷ u) sorted =
     let parts = and_parts (below_all path_cmp e.0 u) (is_sorted path_cmp u) sorted in
     and_from _ _ (below_hung p e.0 u parts.0) (sorted_hung p u parts.1)
-
--- ---- made directories
 
 -- one more at the end
 pub directories_more : {C : Type 0} (p : List (List ℕ)) (names count : ℕ) → directories {C = C} p names (suc count) ≡ directories p names count ++ (take (names + count) p, made) ∷ []
@@ -133,8 +127,6 @@ sorted_directories C p names (suc count) within =
         prefix_less (take names p) r
         (subst (λ s. is_prefix (take names p) s ≡ true) (sym (prefix_is_take r p at.0)) (prefix_take (length r) (take names p) p (take_prefix names p) (omega (arith, long, at.1))))
         (omega (arith, long, at.1))
-
--- ---- both together
 
 pub no_some : {A : Type 0} (o : Option A) → (is_some o ≡ true → ⊥) → o ≡ None
 no_some None none = refl

@@ -14,8 +14,7 @@ use Rattle.ext_tree.specs.Graft.{Fits, IsOpen, grafted, is_non_directory_at, mad
 use Rattle.ext_tree.proofs.PartLemmas.{below_append, drop_append, parent_append, prefix_append, prefix_split}
 use Rattle.ext_tree.proofs.PrefixLemmas.{dir_directory}
 
--- ---- how a path stands to the one where the part is hung
-
+-- how two paths stand to each other
 pub data Stands (p q : List (List ℕ)) : Type 0 where
   root : q ≡ [] → Stands p q
   same : q ≡ p → Stands p q
@@ -23,6 +22,7 @@ pub data Stands (p q : List (List ℕ)) : Type 0 where
   above : is_prefix q p ≡ true → is_prefix p q ≡ false → is_root q ≡ false → Stands p q
   apart : is_prefix q p ≡ false → is_prefix p q ≡ false → Stands p q
 
+-- two paths always stand to each other in one of these ways
 pub stands : (p q : List (List ℕ)) → Stands p q
 stands p [] = root refl
 stands p (n ∷ q) =
@@ -37,8 +37,6 @@ stands p (n ∷ q) =
       ] refl
     ] refl
 
--- ---- what a graft has there
-
 -- the definition, by what is asked of the path
 abbrev chosen : {C : Type 0} → Entries C → Entries C → List (List ℕ) → List (List ℕ) → Bool → Bool → Bool → Bool → Option (Entry C)
 chosen es u p q at back tied top = cond (at && not back) (lookup u (drop (length p) q)) (cond tied (Some made) (cond ((back && not at) && not top) (or_made (lookup es q)) (lookup es q)))
@@ -50,23 +48,26 @@ is_chosen es u (n ∷ p) q some = refl
 apart_tied : (p q : List (List ℕ)) → is_prefix p q ≡ false → eq_by_cmp path_cmp q p ≡ false
 apart_tied p q out = false_from_ne_true (eq_by_cmp path_cmp q p) (λ tied. true≢false (sym (ap (is_prefix p) (same_path q p tied) ∙ prefix_self p) ∙ out))
 
+-- a graft leaves the root
 pub grafted_root : {C : Type 0} (es u : Entries C) (p : List (List ℕ)) → 0 < length p → grafted es p u [] ≡ lookup es []
 grafted_root es u [] some = absurd (omega arith)
 grafted_root es u (n ∷ p) some = refl
 
+-- a graft makes a directory at its path
 pub grafted_same : {C : Type 0} (es u : Entries C) (p : List (List ℕ)) → 0 < length p → grafted es p u p ≡ Some made
 grafted_same es u p some = is_chosen es u p p some ∙ (λ i. chosen es u p p (prefix_self p i) (prefix_self p i) (tied_path p p refl i) (is_root p))
 
+-- below its path a graft has the part
 pub grafted_below : {C : Type 0} (es u : Entries C) (p q : List (List ℕ)) → 0 < length p → is_prefix p q ≡ true → is_prefix q p ≡ false → grafted es p u q ≡ lookup u (drop (length p) q)
 grafted_below es u p q some at out = is_chosen es u p q some ∙ (λ i. chosen es u p q (at i) (out i) (eq_by_cmp path_cmp q p) (is_root q))
 
+-- above its path a graft has directories
 pub grafted_above : {C : Type 0} (es u : Entries C) (p q : List (List ℕ)) → 0 < length p → is_prefix q p ≡ true → is_prefix p q ≡ false → is_root q ≡ false → grafted es p u q ≡ or_made (lookup es q)
 grafted_above es u p q some back out top = is_chosen es u p q some ∙ (λ i. chosen es u p q (out i) (back i) (apart_tied p q out i) (top i))
 
+-- a graft leaves all other paths
 pub grafted_apart : {C : Type 0} (es u : Entries C) (p q : List (List ℕ)) → 0 < length p → is_prefix q p ≡ false → is_prefix p q ≡ false → grafted es p u q ≡ lookup es q
 grafted_apart es u p q some away out = is_chosen es u p q some ∙ (λ i. chosen es u p q (out i) (away i) (apart_tied p q out i) (is_root q))
-
--- ---- that is a tree
 
 open_directory : {C : Type 0} (o : Option (Entry C)) → is_non_directory_at o ≡ false → is_directory_at (or_made o) ≡ true
 open_directory None open_ = refl

@@ -20,8 +20,6 @@ use Rattle.ext_tree.proofs.InsertionPointLemmas.{find_there}
 use Rattle.ext_tree.proofs.GraftLemmas.{directories_more, no_some}
 use Rattle.ext_tree.proofs.PrefixLemmas.{directory_some, prefixes}
 
--- ---- what stands above the path
-
 length_first : (k : ℕ) (p : List (List ℕ)) → k ≤ length p → length (take k p) ≡ k
 length_first k p short = omega (arith, length-take k p)
 
@@ -60,8 +58,6 @@ blocked_here es p count short other =
     let long : length (take count p) ≡ count = length_first count p (omega arith) in
     (take count p, (proper_first (take count p) p).1 (ap (λ n. take n p) (sym long), omega arith), other)
 
--- ---- what is added
-
 -- one more made directory
 pub directories_grown : {C : Type 0} (p : List (List ℕ)) (standing count : ℕ) (first old new : Entries C) → standing ≤ count → old ≡ first ++ directories p (suc standing) (count - standing) → new ≡ old ++ (take (count + 1) p, made) ∷ [] → new ≡ first ++ directories p (suc standing) (count + 1 - standing)
 directories_grown {C = C} p standing count first old new low so_far push =
@@ -99,8 +95,6 @@ all_fit p (e ∷ u) all q there =
       | true ↦ λ tied _. subst (λ r. IsPath (p ++ r)) (sym (same_path q e.0 tied)) all.0
       | false ↦ λ _ rest. all_fit p u all.1 q rest
     ] refl there
-
--- ---- how many entries there are
 
 -- of a list what passes one test and what passes another, where none passes both
 length-both : {X : Type 0} (f g : X → Bool) → ((x : X) → f x ≡ true → g x ≡ false) → (xs : List X) → length (filter f xs) + length (filter g xs) ≤ length xs

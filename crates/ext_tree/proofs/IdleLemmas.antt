@@ -6,7 +6,7 @@ use Rattle.std.specs.List.{AllByRecursion, flat_map}
 use Rattle.ext_text.proofs.ForCallers.{all_back}
 use Rattle.ext_tree.specs.declared.stamp.Stamp.{Stamp}
 use Rattle.ext_tree.specs.Tree.{Entries}
-use Rattle.ext_tree.specs.TreeText.{HasText, header, need_version_2, text_lines, tree_line, tree_lines}
+use Rattle.ext_tree.specs.TreeText.{HasText, header, need_version_2, printed_lines, tree_line, tree_lines}
 use Rattle.ext_tree.specs.FirstFault.{EndsIdle}
 use Rattle.ext_tree.proofs.TreeLineLemmas.{end_not_header, line_not_end, line_not_header, one_version}
 use Rattle.ext_tree.proofs.TreeTextLemmas.{lines_of}
@@ -59,6 +59,6 @@ pub none_ends_idle : (done : List (Entries Stamp)) (tail : List (List ℕ)) → 
 none_ends_idle done tail each unended k idle =
     none_among idle.entries idle.tree idle.none done tail idle.before (drop k (flat_map tree_lines done ++ tail)) each unended
     (ap (λ xs. idle.before ++ xs) (sym (ended true idle.entries (drop k (flat_map tree_lines done ++ tail))))
-    ∙ sym (append_assoc idle.before (text_lines true idle.entries) (drop k (flat_map tree_lines done ++ tail)))
+    ∙ sym (append_assoc idle.before (printed_lines true idle.entries) (drop k (flat_map tree_lines done ++ tail)))
     ∙ ap (λ xs. xs ++ drop k (flat_map tree_lines done ++ tail)) (sym idle.text)
     ∙ take-append-drop k (flat_map tree_lines done ++ tail))

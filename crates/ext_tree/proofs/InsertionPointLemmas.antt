@@ -40,6 +40,7 @@ module _ {K X : Type 0} (R : K → K → Ordering) where
       ap suc rest ∙ ap (λ b. cond b (suc (insertion_point R k es)) 0) (sym (at.0 zero e (omega arith) (omega arith)))
 
   module _ (o : IsTotalOrder R) where
+    -- a list in order is parted by each key
     pub partitioned : (k : K) (es : List (K × X)) → IsTrue (is_sorted R es) → IsPartitionedBy (is_past R k) es
     partitioned k [] h i j d le lt p = absurd (omega arith)
     partitioned k (e ∷ es) h zero zero d le lt p = p

@@ -27,4 +27,6 @@ pub mod GraftedLemmas
 pub mod GraftJoinLemmas
 pub mod GraftOrderLemmas
 pub mod GraftAnswersLemmas
+pub mod PutLemmas
+pub mod JoiningLemmas
 pub mod ForCallers

@@ -38,8 +38,6 @@ prefixes_begin bytes trees line sequence =
       λ idle. none_ends_idle trees [] sequence.each tt line (subst (λ xs. EndsIdle (take line xs)) (lines ∙ sym (append-nil (flat_map tree_lines trees))) idle),
     )
 
--- ---- at most one
-
 -- what begins with lines begins with fewer of them
 fewer_begin : (wanted : List (Entries Stamp) → Type 0) (lines : List (List ℕ)) (n k : ℕ) → n ≤ k → Begins wanted (take k lines) → Begins wanted (take n lines)
 fewer_begin wanted lines n k fewer begins = record {

@@ -1,22 +1,24 @@
 -- What stands below a path, and what is left without it: look-ups, and that both are trees.
-use Rattle.std.proofs.Common.{◌≡◌, ℕ, suc, ◌-◌, ◌<◌, ◌≤◌, Bool, true, false, cond, not, ◌&&◌, List, [], ◌∷◌, ◌++◌, length, take, drop, Some, None, is_some, refl, sym, ap, ◌∙◌, subst, arith, length-append}
+use Rattle.std.proofs.Common.{◌≡◌, ℕ, suc, ◌+◌, ◌-◌, ◌<◌, ◌≤◌, Bool, true, false, cond, not, ◌&&◌, List, [], ◌∷◌, ◌++◌, length, take, drop, Some, None, is_some, refl, sym, ap, ◌∙◌, subst, arith, length-append}
 use Rattle.std.specs.Prelude.{IsTrue, map}
-use Rattle.std.specs.List.{filter}
+use mathlib.Core.Logic.{inl, inr}
+use Rattle.std.specs.List.{filter, sum_by}
 use Rattle.std.specs.Ordering.{is_eq, is_lt, ordering_then}
 use Rattle.std.specs.declared.cmp.Ordering.TheVariants.{Equal}
 use Rattle.std.specs.FinMap.{find, is_sorted}
 use Rattle.std.specs.FinMap.Entries.{where_key, below_all, find-where_key, is_sorted-where_key}
-use Rattle.std.proofs.lemmas.Bool.{and_parts, and_from, true≢false, false≢true, false_from_ne_true}
+use Rattle.std.proofs.lemmas.Bool.{and_parts, and_from, true≢false, false≢true, false_from_ne_true, or_cases, or_left, or_right}
 use Rattle.std.proofs.lemmas.Float.{T_from_true}
 use Rattle.std.proofs.lemmas.List.{length-map, append-nil}
+use Rattle.std.proofs.lemmas.List.Filters.{sum_by-filter_both}
 use Rattle.ext_text.specs.Path.{IsPath, path_cmp, parent, is_prefix, is_proper_prefix}
 use Rattle.ext_text.specs.Order.{paths_exact}
 use Rattle.ext_text.proofs.ForCallers.{true_from_T, same_name, names_tied, prefix_self, prefix_trans, parent_prefix, rest_path}
 use Rattle.ext_tree.specs.Tree.{Entries, IsTree, IsTreeWithin, lookup, is_directory_at, is_directory_or_root}
+use Rattle.ext_tree.specs.declared.entry.Entry.{Entry}
 use Rattle.ext_tree.specs.Part.{IsPart, part, seen_from}
-use Rattle.ext_tree.specs.Cut.{IsCut, cut}
-
--- ---- paths below a path
+use Rattle.ext_text.specs.SortedPaths.{covers}
+use Rattle.ext_tree.specs.Cut.{IsCut, IsCutAll, cut, cut_all}
 
 -- a path below another one is that one and the rest
 pub prefix_split : (p q : List (List ℕ)) → is_prefix p q ≡ true → q ≡ p ++ drop (length p) q
@@ -28,10 +30,12 @@ prefix_split (n ∷ p) (m ∷ q) prefix =
     let rest : q ≡ p ++ drop (length p) q = prefix_split p q parts.1 in
     λ i. name i ∷ rest i
 
+-- a path is a prefix of what goes on from it
 pub prefix_append : (p q : List (List ℕ)) → is_prefix p (p ++ q) ≡ true
 prefix_append [] q = refl
 prefix_append (n ∷ p) q = and_from _ _ (ap is_eq (names_tied n)) (prefix_append p q)
 
+-- what goes on from it is the rest
 pub drop_append : (p q : List (List ℕ)) → drop (length p) (p ++ q) ≡ q
 drop_append [] q = refl
 drop_append (n ∷ p) q = drop_append p q
@@ -68,8 +72,6 @@ parent_append (m ∷ p) n q =
 pub parent_child : (p : List (List ℕ)) (n : List ℕ) → parent (p ++ n ∷ []) ≡ p
 parent_child p n = parent_append p n [] ∙ append-nil p
 
--- ---- the part
-
 -- what is found below a path is found with that prefix taken off
 find_seen : {C : Type 0} (p q : List (List ℕ)) (es : Entries C) → find path_cmp q (map (seen_from p) (where_key path_cmp (is_proper_prefix p) es)) ≡ find path_cmp (p ++ q) (where_key path_cmp (is_proper_prefix p) es)
 find_seen p q [] = refl
@@ -94,6 +96,7 @@ lookup_part p n q es =
     find_seen p (n ∷ q) es ∙ find-where_key path_cmp (is_proper_prefix p) (p ++ n ∷ q) (alike (is_proper_prefix p) (p ++ n ∷ q)) es
     ∙ ap (λ b. cond b (lookup es (p ++ n ∷ q)) None) (below_append p n q)
 
+-- a part has nothing at its root
 pub root_part : {C : Type 0} (p : List (List ℕ)) (es : Entries C) → lookup (part p es) [] ≡ None
 root_part p es =
     find_seen p [] es ∙ ap (λ r. find path_cmp r (where_key path_cmp (is_proper_prefix p) es)) (append-nil p)
@@ -165,14 +168,14 @@ length-where f (x ∷ xs) = elim (f x) as (λ b. length (cond b (x ∷ filter f 
   | false ↦ let rest : length (filter f xs) ≤ length xs = length-where f xs in omega arith
 ]
 
+-- a part is a tree within the limits
 pub tree_part_within : {C : Type 0} (p : List (List ℕ)) (es : Entries C) → IsTreeWithin es → IsTreeWithin (part p es)
 tree_part_within p es is = record {
   tree = tree_part p es is.tree;
   count = omega (arith, length-map (where_key path_cmp (is_proper_prefix p) es) (seen_from p), length-where (λ e. is_proper_prefix p e.0) es, is.count);
 }
 
--- ---- a tree without a path
-
+-- a cut is what is left
 pub is_cut : {C : Type 0} (p : List (List ℕ)) (es : Entries C) → IsCut es p (cut p es)
 is_cut p es q =
     find-where_key path_cmp (λ q. not (is_prefix p q)) q (alike (λ q. not (is_prefix p q)) q) es
@@ -191,6 +194,7 @@ cut_directory : {C : Type 0} (p q : List (List ℕ)) (es : Entries C) → is_pre
 cut_directory p [] es out directory = refl
 cut_directory p (n ∷ q) es out directory = ap is_directory_at (is_cut p es (n ∷ q) ∙ ap (λ b. cond b None (lookup es (n ∷ q))) out) ∙ directory
 
+-- what is left is a tree
 pub tree_cut : {C : Type 0} (p : List (List ℕ)) (es : Entries C) → IsTree es → IsTree (cut p es)
 tree_cut p es tree = record {
   sorted = true_from_T _ (is_sorted-where_key path_cmp (λ q. not (is_prefix p q)) es (T_from_true _ tree.sorted));
@@ -201,8 +205,55 @@ tree_cut p es tree = record {
       cut_directory p (parent q) es (false_from_ne_true (is_prefix p (parent q)) (λ below. true≢false (sym (prefix_trans p (parent q) q below (parent_prefix q)) ∙ was.0))) (tree.parents q was.1);
 }
 
+-- within the limits
 pub tree_cut_within : {C : Type 0} (p : List (List ℕ)) (es : Entries C) → IsTreeWithin es → IsTreeWithin (cut p es)
 tree_cut_within p es is = record {
   tree = tree_cut p es is.tree;
   count = omega (arith, length-where (λ e. not (is_prefix p e.0)) es, is.count);
 }
+
+pub is_cut_all : {C : Type 0} (ps : List (List (List ℕ))) (es : Entries C) → IsCutAll es ps (cut_all ps es)
+is_cut_all ps es q =
+    find-where_key path_cmp (λ p. not (covers ps p)) q (alike (λ p. not (covers ps p)) q) es
+    ∙ elim (covers ps q) as (λ b. cond (not b) (lookup es q) None ≡ cond b None (lookup es q)) [ true ↦ refl | false ↦ refl ]
+
+-- what lies below a path that is covered is covered
+pub covers_below : (ps : List (List (List ℕ))) (q r : List (List ℕ)) → covers ps q ≡ true → is_prefix q r ≡ true → covers ps r ≡ true
+covers_below [] q r covered prefix = absurd (false≢true covered)
+covers_below (p ∷ ps) q r covered prefix = elim (or_cases (is_prefix p q) (covers ps q) covered) [
+  | inl here ↦ or_left _ _ (prefix_trans p q r here prefix)
+  | inr later ↦ or_right _ _ (covers_below ps q r later prefix)
+]
+
+-- what is still found is outside, and was found before
+uncovered : {C : Type 0} (ps : List (List (List ℕ))) (q : List (List ℕ)) (es : Entries C) → is_some (lookup (cut_all ps es) q) ≡ true → (covers ps q ≡ false) × (is_some (lookup es q) ≡ true)
+uncovered ps q es there =
+    elim (covers ps q) as (λ b. covers ps q ≡ b → is_some (cond b None (lookup es q)) ≡ true → (covers ps q ≡ false) × (is_some (lookup es q) ≡ true)) [
+      | true ↦ λ _ none. absurd (false≢true none)
+      | false ↦ λ out some. (out, some)
+    ] refl (sym (ap is_some (is_cut_all ps es q)) ∙ there)
+
+-- a directory that no path covers stays
+uncovered_directory : {C : Type 0} (ps : List (List (List ℕ))) (q : List (List ℕ)) (es : Entries C) → covers ps q ≡ false → is_directory_or_root es q ≡ true → is_directory_or_root (cut_all ps es) q ≡ true
+uncovered_directory ps [] es out directory = refl
+uncovered_directory ps (n ∷ q) es out directory = ap is_directory_at (is_cut_all ps es (n ∷ q) ∙ ap (λ b. cond b None (lookup es (n ∷ q))) out) ∙ directory
+
+pub tree_cut_all : {C : Type 0} (ps : List (List (List ℕ))) (es : Entries C) → IsTree es → IsTree (cut_all ps es)
+tree_cut_all ps es tree = record {
+  sorted = true_from_T _ (is_sorted-where_key path_cmp (λ q. not (covers ps q)) es (T_from_true _ tree.sorted));
+  root = is_cut_all ps es [] ∙ elim (covers ps []) as (λ b. cond b None (lookup es []) ≡ None) [ true ↦ refl | false ↦ tree.root ];
+  paths = λ q there. tree.paths q (uncovered ps q es there).1;
+  parents = λ q there.
+      let was = uncovered ps q es there in
+      uncovered_directory ps (parent q) es (false_from_ne_true (covers ps (parent q)) (λ above. true≢false (sym (covers_below ps (parent q) q above (parent_prefix q)) ∙ was.0))) (tree.parents q was.1);
+}
+
+pub tree_cut_all_within : {C : Type 0} (ps : List (List (List ℕ))) (es : Entries C) → IsTreeWithin es → IsTreeWithin (cut_all ps es)
+tree_cut_all_within ps es is = record {
+  tree = tree_cut_all ps es is.tree;
+  count = omega (arith, length-where (λ e. not (covers ps e.0)) es, is.count);
+}
+
+-- a sum over what is cut and what stays is that over the whole
+pub sum_by-cut_all : {C : Type 0} (w : List (List ℕ) × Entry C → ℕ) (ps : List (List (List ℕ))) (es : Entries C) → sum_by w (where_key path_cmp (covers ps) es) + sum_by w (cut_all ps es) ≡ sum_by w es
+sum_by-cut_all w ps es = sum_by-filter_both (λ e. covers ps e.0) (λ e. not (covers ps e.0)) (λ e. refl) w es

@@ -9,10 +9,12 @@ use Rattle.ext_tree.specs.Tree.{Entries, IsTree, lookup, is_directory_at, is_dir
 use Rattle.ext_tree.specs.Refusals.{is_root}
 use Rattle.ext_tree.specs.Laws.{HasPrefixes, EntriesHavePrefixes, DirectoriesHavePrefixes}
 
+-- no entry of a tree is at the root
 pub root_none : {C : Type 0} (es : Entries C) → IsTree es → (p : List (List ℕ)) → is_some (lookup es p) ≡ true → 0 < length p
 root_none es tree [] found = absurd (false≢true (sym (ap is_some tree.root) ∙ found))
 root_none es tree (n ∷ p) found = omega arith
 
+-- where a directory stands something does
 pub some_dir : {C : Type 0} (o : Option (Entry C)) → is_directory_at o ≡ true → is_some o ≡ true
 some_dir None is = absurd (false≢true is)
 some_dir (Some e) is = refl
@@ -22,10 +24,12 @@ pub directory_dir : {C : Type 0} (es : Entries C) (p : List (List ℕ)) → 0 < 
 directory_dir es [] some directory = absurd (omega arith)
 directory_dir es (n ∷ p) some directory = directory
 
+-- a directory is a directory or the root
 pub dir_directory : {C : Type 0} (es : Entries C) (p : List (List ℕ)) → is_directory_at (lookup es p) ≡ true → is_directory_or_root es p ≡ true
 dir_directory es [] dir = refl
 dir_directory es (n ∷ p) dir = dir
 
+-- and stands there, where it is not the root
 pub directory_some : {C : Type 0} (es : Entries C) (p : List (List ℕ)) → 0 < length p → is_directory_or_root es p ≡ true → is_some (lookup es p) ≡ true
 directory_some es p some directory = some_dir (lookup es p) (directory_dir es p some directory)
 
@@ -47,6 +51,7 @@ prefixes_within es tree (suc most) r q small directory prefix short =
           subst (λ x. is_directory_or_root es x ≡ true) (sym (prefix_whole r (parent q) within (omega arith))) directory
     ]
 
+-- each proper prefix of an entry is a directory
 pub prefixes : {C : Type 0} (es : Entries C) → IsTree es → (r q : List (List ℕ)) → is_some (lookup es q) ≡ true → is_prefix r q ≡ true → length r < length q → is_directory_or_root es r ≡ true
 prefixes es tree r q found prefix short = prefixes_within es tree (length q) r q (omega arith) (tree.parents q found) prefix short
 

@@ -8,7 +8,7 @@ use Rattle.ext_lines.proofs.ForCallers.{split_once, split_none, lines_text-appen
 use Rattle.ext_tree.specs.declared.entry.Entry.{Entry}
 use Rattle.ext_tree.specs.declared.stamp.Stamp.{Stamp}
 use Rattle.ext_tree.specs.Tree.{Entries}
-use Rattle.ext_tree.specs.TreeText.{HasText, header, need_version_2, needs_version_2, text_lines, tree_line}
+use Rattle.ext_tree.specs.TreeText.{HasText, header, need_version_2, needs_version_2, printed_lines, tree_line}
 use Rattle.ext_lines.specs.Lines.{lines_text}
 use Rattle.ext_tree.specs.Reading.{MayStand, Judges, NoneNext, BodyFault, BeginsBody, BeginsText, IsHeader, StopsText, TextFault}
 use Rattle.ext_tree.specs.declared.reading.TreeTextErr.{TreeTextErr}
@@ -41,8 +41,6 @@ none_split May bytes line more split not_may = λ l m other may.
 pub none_lacks : (May : List ℕ → Type 0) (bytes : List ℕ) → Lacks 10 bytes → NoneNext May bytes
 none_lacks May bytes lacks = λ l m split _. split_none 10 bytes l m lacks split.whole
 
--- ---- what a line was judged to be
-
 pub judged_item : (two : Bool) (slice es longer : Entries Stamp) (line : List ℕ) (j : Line) (p : List (List ℕ)) (e : Entry Stamp) → slice ≡ es → Judges two slice line j → j ≡ Item p e → longer ≡ es ++ (p, e) ∷ []
     → HasText longer × ((needs_version_2 e ≡ true → two ≡ true) × (line ≡ tree_line (p, e)))
 judged_item two slice es longer line j p e same judged is grown =
@@ -55,9 +53,7 @@ judged_end two slice es line j same judged is = subst (λ i. Judges two es line 
 pub judged_fault : (two : Bool) (slice es : Entries Stamp) (line : List ℕ) (j : Line) → slice ≡ es → Judges two slice line j → j ≡ Fault → ¬ MayStand two es line
 judged_fault two slice es line j same judged is = subst (λ i. Judges two es line i) is (subst (λ xs. Judges two xs line j) same judged)
 
--- ---- a header and a body are a text
-
-pub length-text_lines : (two : Bool) (es : Entries Stamp) → length (text_lines two es) ≡ length es + 2
+pub length-text_lines : (two : Bool) (es : Entries Stamp) → length (printed_lines two es) ≡ length es + 2
 length-text_lines two es = omega (arith, length-append (map tree_line es) (codes "end" ∷ []), length-map es tree_line)
 
 pub text_begins : (two : Bool) (bytes body : List ℕ) (first : ℕ) (es : Entries Stamp) (rest : List ℕ) (next : ℕ) → IsSplit 10 bytes (header two) body → BeginsBody two body (first + 1) es rest next → BeginsText bytes first es rest next
@@ -66,7 +62,7 @@ text_begins two bytes body first es rest next split begins = record {
   text = line_more bytes [] bytes (header two) body refl split ∙ ap (λ xs. lines_text (header two ∷ []) ++ xs) begins.text
       ∙ sym (append_assoc (lines_text (header two ∷ [])) (lines_text (map tree_line es ++ codes "end" ∷ [])) rest)
       ∙ ap (λ t. t ++ rest) (sym (lines_text-append (header two ∷ []) (map tree_line es ++ codes "end" ∷ [])))
-      ∙ ap (λ v. lines_text (text_lines v es) ++ rest) (sym begins.version);
+      ∙ ap (λ v. lines_text (printed_lines v es) ++ rest) (sym begins.version);
   counted = omega (arith, begins.counted, length-text_lines (need_version_2 es) es);
 }
 

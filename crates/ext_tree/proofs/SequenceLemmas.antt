@@ -10,12 +10,10 @@ use Rattle.std.specs.List.{AllByRecursion, flat_map}
 use Rattle.ext_tree.specs.declared.entry.Entry.{Entry}
 use Rattle.ext_tree.specs.declared.stamp.Stamp.{Stamp}
 use Rattle.ext_tree.specs.Tree.{Entries}
-use Rattle.ext_tree.specs.TreeText.{HasText, HasTreeLine, IsLoose, header, loose_lines, need_version_2, needs_version_2, text_lines, tree_line, tree_lines}
+use Rattle.ext_tree.specs.TreeText.{HasText, HasTreeLine, IsLoose, header, loose_lines, need_version_2, needs_version_2, printed_lines, tree_line, tree_lines}
 use Rattle.ext_tree.specs.Reading.{MayAdd}
 use Rattle.ext_tree.proofs.TreeLineLemmas.{line_injective, line_not_end, one_version}
 use Rattle.ext_tree.proofs.TreeTextLemmas.{lines_of, prefix_next}
-
--- ---- the lines of one tree
 
 -- two lists of entries with the same lines and `end` after them are one list, and the rests are one
 pub one_body : (es fs : Entries Stamp) (a b : List (List ℕ)) → AllByRecursion HasTreeLine es → AllByRecursion HasTreeLine fs → map tree_line es ++ codes "end" ∷ a ≡ map tree_line fs ++ codes "end" ∷ b → (es ≡ fs) × (a ≡ b)
@@ -67,9 +65,7 @@ open_body [] (y ∷ fs) b same = cc
 open_body (x ∷ es) [] b same = let head : tree_line x ≡ codes "end" = cc in line_not_end x head
 open_body (x ∷ es) (y ∷ fs) b same = let tail : map tree_line es ≡ map tree_line fs ++ codes "end" ∷ b = cc in open_body es fs b tail
 
--- ---- sequences
-
-pub ended : (two : Bool) (es : Entries Stamp) (a : List (List ℕ)) → text_lines two es ++ a ≡ header two ∷ (map tree_line es ++ codes "end" ∷ a)
+pub ended : (two : Bool) (es : Entries Stamp) (a : List (List ℕ)) → printed_lines two es ++ a ≡ header two ∷ (map tree_line es ++ codes "end" ∷ a)
 ended two es a = ap (λ xs. header two ∷ xs) (append_assoc (map tree_line es) (codes "end" ∷ []) a)
 
 pub head_of : (x y : List ℕ) (xs ys : List (List ℕ)) → x ∷ xs ≡ y ∷ ys → (x ≡ y) × (xs ≡ ys)
@@ -80,6 +76,7 @@ one_text_lines t u a b ht hu same =
     let parts = head_of (header t.0) (header u.0) (map tree_line t.1 ++ codes "end" ∷ a) (map tree_line u.1 ++ codes "end" ∷ b) (sym (ended t.0 t.1 a) ∙ same ∙ ended u.0 u.1 b) in
     (one_version t.0 u.0 parts.0, one_body t.1 u.1 a b (lines_of t.1 ht) (lines_of u.1 hu) parts.1)
 
+-- lines begin with the text of one tree
 pub one_tree : (t u : Entries Stamp) (a b : List (List ℕ)) → HasText t → HasText u → tree_lines t ++ a ≡ tree_lines u ++ b → (t ≡ u) × (a ≡ b)
 one_tree t u a b ht hu same = (one_text_lines (need_version_2 t, t) (need_version_2 u, u) a b ht hu same).1
 
@@ -97,8 +94,6 @@ loosely_peeled (d ∷ done) (t ∷ texts) a hd ht same =
     let version : t.0 ≡ d.0 = sym first.0 in
     let tree : t.1 ≡ d.1 = sym first.1.0 in
     (rest.0, (λ i. (version i, tree i) ∷ rest.1 i), rest.2, rest.3)
-
--- ---- trees as texts of their versions
 
 abbrev pub loosely : Entries Stamp → Bool × Entries Stamp
 loosely es = (need_version_2 es, es)

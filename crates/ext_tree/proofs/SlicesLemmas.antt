@@ -17,9 +17,8 @@ use Rattle.ext_text.specs.Path.{path_cmp, is_prefix, is_proper_prefix}
 use Rattle.ext_text.specs.Order.{paths_total, paths_exact}
 use Rattle.ext_text.proofs.ForCallers.{true_from_T, is_less, is_equal, same_name, tied_name, convex}
 use Rattle.ext_tree.specs.Slices.{is_after, is_before_name, is_named}
+use Rattle.ext_tree.specs.Tree.{Entries, lookup}
 use Rattle.ext_tree.proofs.InsertionPointLemmas.{below_at}
-
--- ---- lists that a test splits in two
 
 pub filter_none : {X : Type 0} (p : X → Bool) (xs : List X) → AllWithin (λ x. p x ≡ false) xs 0 (length xs) → (filter p xs ≡ []) × (filter (λ x. not (p x)) xs ≡ xs)
 filter_none p [] none = (refl, refl)
@@ -56,8 +55,6 @@ filter_keeps p q keeps (x ∷ xs) =
     dropped : q x ≡ false → p x ≡ false
     dropped out = false_from_ne_true (p x) (λ in_. false≢true (sym out ∙ keeps x in_))
 
--- ---- entries in order
-
 -- a test of an entry's path
 abbrev pub at_path : {X : Type 0} → (List (List ℕ) → Bool) → List (List ℕ) × X → Bool
 at_path P e = P e.0
@@ -85,7 +82,9 @@ module _ {K X : Type 0} (R : K → K → Ordering) where
         | false ↦ λ _. where_all Q es
       ] refl
 
--- ---- the tests of slices
+-- a look-up among the entries that pass a test of their paths
+pub lookup_where : {C : Type 0} (P : List (List ℕ) → Bool) (k : List (List ℕ)) (es : Entries C) → lookup (where_key path_cmp P es) k ≡ cond (P k) (lookup es k) None
+lookup_where P k es = find-where_key path_cmp P k (λ x tied. ap P (sym (paths_exact k x tied))) es
 
 -- what comes before a name
 pub before_down : (k x y : List (List ℕ)) → path_cmp x y ≡ Less → is_lt (path_cmp y k) ≡ true → is_lt (path_cmp x k) ≡ true
@@ -107,8 +106,6 @@ after_down k x y less out =
       | true ↦ λ after. absurd (true≢false (sym (after_up k x y less after) ∙ not-true (is_after k y) out))
       | false ↦ λ _. refl
     ] refl
-
--- ---- names that begin with some bytes
 
 no_lt : (r s : Ordering) → is_lt (ordering_then r s) ≡ false → is_lt r ≡ false
 no_lt Less s from = from
@@ -209,8 +206,6 @@ named_below (d ∷ directory) (n ∷ q) =
       | false ↦ λ _. refl
     ] refl
 
--- ---- what stands first from a name on
-
 -- a look-up is one among what does not come before the path
 pub find_from : {X : Type 0} (k : List (List ℕ)) (es : List (List (List ℕ) × X)) → find path_cmp k (where_key path_cmp (λ q. not (is_lt (path_cmp q k))) es) ≡ find path_cmp k es
 find_from k es =
@@ -259,3 +254,34 @@ child_none k es (e ∷ rest) is none = absurd (false≢true (sym (ap is_some non
 -- a slice of entries in order is in order
 pub sorted_where : {X : Type 0} (P : List (List ℕ) → Bool) (es slice : List (List (List ℕ) × X)) → IsTrue (is_sorted path_cmp es) → slice ≡ where_key path_cmp P es → IsTrue (is_sorted path_cmp slice)
 sorted_where P es slice sorted is = subst (λ fs. is_sorted path_cmp fs ≡ true) (sym is) (true_from_T _ (is_sorted-where_key path_cmp P es (T_from_true _ sorted)))
+
+-- to a path that does not begin with a directory, what is below this stands as it does
+pub cmp_apart : (d p q : List (List ℕ)) → is_prefix d p ≡ false → path_cmp p (d ++ q) ≡ path_cmp p d
+cmp_apart [] p q apart = absurd (true≢false apart)
+cmp_apart (n ∷ d) [] q apart = refl
+cmp_apart (n ∷ d) (m ∷ p) q apart =
+    elim (bytes_cmp m n) as (λ o. bytes_cmp m n ≡ o → ordering_then o (path_cmp p (d ++ q)) ≡ ordering_then o (path_cmp p d)) [
+      | Less ↦ λ _. refl
+      | Greater ↦ λ _. refl
+      | Equal ↦ λ tied. cmp_apart d p q (ap (λ t. t && is_prefix d p) (sym (tied_name n m (sym (bytes_exact m n tied)))) ∙ apart)
+    ] refl
+
+-- names that do not begin with the directory's are no names of it
+pub named_apart : (d : List (List ℕ)) (start : List ℕ) (p : List (List ℕ)) → is_prefix d p ≡ false → is_named d start p ≡ false
+named_apart [] start p apart = absurd (true≢false apart)
+named_apart (n ∷ d) start [] apart = refl
+named_apart (n ∷ d) start (m ∷ p) apart =
+    elim (eq_by_cmp bytes_cmp n m) as (λ b. (b && is_prefix d p) ≡ false → (b && is_named d start p) ≡ false) [
+      | true ↦ λ out. named_apart d start p out
+      | false ↦ λ _. refl
+    ] apart
+
+-- and of those that do, what follows decides
+pub named_rest : (d : List (List ℕ)) (start : List ℕ) (rest : List (List ℕ)) → is_named d start (d ++ rest) ≡ is_named [] start rest
+named_rest [] start rest = refl
+named_rest (n ∷ d) start rest = ap (λ t. t && is_named d start (d ++ rest)) (tied_name n n refl) ∙ named_rest d start rest
+
+-- all paths but itself stand past the root
+pub past_root : (p : List (List ℕ)) → (p ≡ [] → ⊥) → Greater ≡ path_cmp p []
+past_root [] some = absurd (some refl)
+past_root (n ∷ p) some = refl

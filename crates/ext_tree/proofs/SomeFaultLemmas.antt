@@ -25,8 +25,6 @@ use Rattle.ext_tree.proofs.FollowingLemmas.{may_first, may_next}
 use Rattle.ext_tree.proofs.TreeTextLemmas.{adds, empty_text, last_line, not_ended, version_more}
 use Rattle.ext_tree.proofs.TreeLineLemmas.{line_injective}
 
--- ---- one entry more
-
 -- the last of entries that are not none
 last_of : (es : Entries Stamp) → 0 < length es → (last : List (List ℕ) × Entry Stamp) × (last ≡ get_or es (length es - 1) last)
 last_of [] some = absurd (omega arith)
@@ -61,8 +59,6 @@ longer es x text line = elim (cases_lt (length es) 262144) [
   where
     too_many : length (es ++ x ∷ []) ≤ 262144 → 262144 ≤ length es → ⊥
     too_many within full = omega (arith, length-append es (x ∷ []))
-
--- ---- the lines of one text
 
 same_test : (a b : Bool) → Decided (a ≡ b)
 same_test true true = inl refl
@@ -141,8 +137,6 @@ body_or_stop two (suc most) bytes first es rest short tree version text = elim (
     shorter : (line more : List ℕ) → IsSplit 10 rest line more → length more < most
     shorter line more split = omega (arith, split_short rest line more split)
 
--- ---- one text
-
 abbrev TextOrStop : List ℕ → ℕ → Type 0
 TextOrStop bytes first = ((es : Entries Stamp) × ((rest : List ℕ) × ((next : ℕ) × BeginsText bytes first es rest next))) ⊎ ((line : ℕ) × StopsText bytes first line)
 
@@ -167,8 +161,6 @@ text_or_stop bytes first = elim (split_or_lacks 10 bytes) [
       | inl found ↦ inl (found.0, (found.1.0, (found.1.1.0, text_begins two bytes body first found.0 found.1.0 found.1.1.0 split found.1.1.1)))
       | inr stops ↦ inr (stops.0, inr (two, body, split, stops.1))
     ]
-
--- ---- the laws
 
 pub fault_of_no_text : FaultOfNoText
 fault_of_no_text bytes none = elim (text_or_stop bytes 1) [

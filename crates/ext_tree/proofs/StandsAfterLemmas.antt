@@ -1,19 +1,19 @@
 -- How a path compares with a prefix of it and one more name.
-use Rattle.std.proofs.Common.{◌≡◌, ℕ, ◌-◌, ◌<◌, Bool, true, false, ◌&&◌, ◌||◌, List, [], ◌∷◌, ◌++◌, length, Option, is_some, refl, sym, ap, ◌∙◌, arith, get_or}
+use Rattle.std.proofs.Common.{◌≡◌, ℕ, ◌<◌, Bool, true, false, ◌&&◌, ◌||◌, List, [], ◌∷◌, ◌++◌, length, Option, is_some, refl, sym, ap, subst, ◌∙◌, arith}
 use Rattle.std.specs.Prelude.{nat_lt, slice_get}
 use Rattle.std.specs.Option.{MatchOption}
 use mathlib.Core.Logic.{inl, inr}
-use Rattle.std.proofs.lemmas.Bool.{false≢true, and_parts, lt-ltb, le-ltb}
+use Rattle.std.proofs.lemmas.Bool.{false≢true, and_left, and_parts, and_right, lt-ltb, le-ltb}
 use Rattle.std.proofs.lemmas.Option.{slice_get_cases}
 use Rattle.std.specs.declared.cmp.Ordering.{Ordering}
 use Rattle.std.specs.declared.cmp.Ordering.TheVariants.{Less, Equal, Greater}
 use Rattle.std.specs.Ordering.{is_lt, ordering_then, eq_by_cmp}
 use Rattle.ext_text.specs.Name.{bytes_cmp}
 use Rattle.ext_text.specs.Path.{path_cmp, parent, is_prefix}
-use Rattle.ext_tree.specs.Following.{stands_after}
+use Rattle.ext_tree.specs.Following.{name_comes_after, stands_after}
 use Rattle.ext_tree.specs.Tree.{is_directory}
 use Rattle.ext_tree.specs.declared.entry.Entry.{Entry}
-use Rattle.ext_tree.proofs.FollowingLemmas.{ends}
+use Rattle.ext_tree.proofs.PartLemmas.{parent_child, prefix_append}
 use Rattle.ext_text.proofs.ForCallers.{is_equal, names_exact, names_tied}
 
 -- what is decided by the name that a path has after a prefix, if there is one: a smaller name, or a directory there
@@ -61,8 +61,21 @@ no_root [] [] e none = refl
 no_root [] (m ∷ q) e none = refl
 no_root (n ∷ path) q e none = absurd (omega arith)
 
--- it is so of names that end with a name
-pub stands_last : {C : Type 0} (names path q : List (List ℕ)) (n : List ℕ) (e : Entry C) (b : Bool) → names ≡ path → 0 < length names → n ≡ get_or names (length names - 1) n
-    → is_prefix (parent names) q ≡ true → Decides (slice_get q (length (parent names))) n e b → b ≡ stands_after (q, e) path
-stands_last names path q n e b same some is prefix decided =
-    stands_below path (parent names) q n e b (sym same ∙ ends names n some is) (ap parent (sym same)) prefix decided
+-- what the rest of a path decides, after names that both begin with
+rest_decides : {C : Type 0} (p rest : List (List ℕ)) (n : List ℕ) (e : Entry C) (b : Bool) → b ≡ name_comes_after rest e n → Decides (slice_get (p ++ rest) (length p)) n e b
+rest_decides [] [] n e b is = is
+rest_decides [] (m ∷ rest) n e b is = is
+rest_decides (k ∷ p) rest n e b is = rest_decides p rest n e b is
+
+-- the last path begins with the path's parent: what follows decides
+pub stands_rest : {C : Type 0} (path p q rest : List (List ℕ)) (n : List ℕ) (e : Entry C) (b : Bool) → path ≡ p ++ n ∷ [] → q ≡ p ++ rest → b ≡ name_comes_after rest e n → b ≡ stands_after (q, e) path
+stands_rest path p q rest n e b whole split decided =
+    stands_below path p q n e b whole (ap parent whole ∙ parent_child p n)
+    (ap (is_prefix p) split ∙ prefix_append p rest)
+    (subst (λ (l : List (List ℕ)). Decides (slice_get l (length p)) n e b) (sym split) (rest_decides p rest n e b decided))
+
+-- and where it does not, the path stands after no such path
+pub stands_apart : {C : Type 0} (path p q : List (List ℕ)) (n : List ℕ) (e : Entry C) → path ≡ p ++ n ∷ [] → is_prefix p q ≡ false → false ≡ stands_after (q, e) path
+stands_apart path p q n e whole apart =
+    let directory : parent path ≡ p = ap parent whole ∙ parent_child p n in
+    sym (and_right (is_lt (path_cmp q path)) _ (and_left (is_prefix (parent path) q) (nat_lt (length (parent path)) (length q) || is_directory e) (ap (λ (d : List (List ℕ)). is_prefix d q) directory ∙ apart)))

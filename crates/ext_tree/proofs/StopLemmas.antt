@@ -12,7 +12,7 @@ use Rattle.ext_tree.specs.declared.stamp.Stamp.{Stamp}
 use Rattle.ext_tree.specs.declared.reading.TreeTextErr.{TreeTextErr}
 use Rattle.ext_tree.specs.declared.reading.TreeTextErr.TheVariants.{OutOfMemory, BadTree}
 use Rattle.ext_tree.specs.Tree.{Entries}
-use Rattle.ext_tree.specs.TreeText.{HasText, IsLoose, IsSequence, header, loose_lines, need_version_2, text_lines, tree_line, tree_lines, tree_text}
+use Rattle.ext_tree.specs.TreeText.{HasText, IsLoose, IsSequence, header, loose_lines, need_version_2, printed_lines, tree_line, tree_lines, tree_text}
 use Rattle.ext_lines.specs.Lines.{lines_text}
 use Rattle.ext_tree.specs.FirstFault.{Begins, EndsIdle, IsFirstFault, IsOne, AtLeastOne, ReadsTree, ReadsSequence}
 use Rattle.ext_tree.specs.Reading.{IsHeader, MayStand, NoneNext, StopsBody, StopsText, BeginsText, TextFault}
@@ -24,8 +24,6 @@ use Rattle.ext_tree.proofs.IdleLemmas.{none_ends_idle, open_unended}
 use Rattle.ext_tree.proofs.TreeLineLemmas.{one_version}
 use Rattle.ext_tree.proofs.DecisionLemmas.{same_text}
 use Rattle.ext_tree.proofs.FirstFaultLemmas.{IsStuck, stuck_fault, sequence_text, sequence_lacks, tree_lacks, header_lacks, entries_lack}
-
--- ---- sequences of trees and the lines that begin one more
 
 one_more : (done : List (Entries Stamp)) (t : Bool × Entries Stamp) → flat_map loose_lines (map loosely done ++ t ∷ []) ≡ flat_map tree_lines done ++ loose_lines t
 one_more done t =
@@ -86,8 +84,6 @@ unended_entries done trees two es hd ht same =
         let parts = head_of (header two) (header (need_version_2 u)) (map tree_line es) (map tree_line u ++ codes "end" ∷ flat_map tree_lines more) (is ∙ ended (need_version_2 u) u (flat_map tree_lines more)) in
         open_body es u (flat_map tree_lines more) parts.1
 
--- ---- stuck in a sequence
-
 stuck_header : (wanted : List (Entries Stamp) → Type 0) (bytes : List ℕ) (done : List (Entries Stamp)) (rest : List ℕ) → AllByRecursion HasText done → ((t : Entries Stamp) → wanted (done ++ t ∷ [])) → (wanted [] → ⊥) → bytes ≡ flat_map tree_text done ++ rest
     → (done ≡ []) ⊎ (0 < length rest) → NoneNext IsHeader rest → IsStuck wanted bytes (flat_map tree_lines done) rest
 stuck_header wanted bytes done rest hd longer none text unended stop = record {
@@ -95,7 +91,7 @@ stuck_header wanted bytes done rest hd longer none text unended stop = record {
   lacks = sequence_lacks done hd;
   before = record {
     texts = map loosely done ++ (false, []) ∷ [];
-    more = text_lines false [];
+    more = printed_lines false [];
     as_many = subst wanted (sym (loosely_push done (false, []))) (longer []);
     each = all_append IsLoose (map loosely done) ((false, []) ∷ []) (loosely_each done hd) (record { tree = empty_text; version = λ needs. needs }, tt);
     text = sym (one_more done (false, []));
@@ -134,7 +130,7 @@ stuck_line wanted done two es l hd text version stop = elim (same_text l (codes 
         none = gap.0;
         text = append_assoc (flat_map tree_lines done) (header two ∷ map tree_line es) (l ∷ [])
             ∙ ap (λ x. flat_map tree_lines done ++ (header two ∷ (map tree_line es ++ x ∷ []))) end
-            ∙ ap (λ v. flat_map tree_lines done ++ text_lines v es) gap.1;
+            ∙ ap (λ v. flat_map tree_lines done ++ printed_lines v es) gap.1;
       })
   | inr not_end ↦ inr (λ begins. elim (next_entry done begins.texts two es l begins.more hd begins.each text begins.text) [
     | inl end ↦ not_end end
@@ -166,8 +162,6 @@ stuck_entries wanted bytes done rest body two first line hd longer text split st
         ∙ sym (append_assoc (lines_text (flat_map tree_lines done ++ header two ∷ [])) (lines_text (map tree_line stops.entries)) stops.rest)
         ∙ ap (λ xs. xs ++ stops.rest) (sym (lines_text-append (flat_map tree_lines done ++ header two ∷ []) (map tree_line stops.entries)))
         ∙ ap (λ ls. lines_text ls ++ stops.rest) (append_assoc (flat_map tree_lines done) (header two ∷ []) (map tree_line stops.entries))
-
--- ---- what the readers give
 
 sequence_stops : (wanted : List (Entries Stamp) → Type 0) (bytes : List ℕ) (done : List (Entries Stamp)) (rest : List ℕ) (line : ℕ) → AllByRecursion HasText done → ((t : Entries Stamp) → wanted (done ++ t ∷ [])) → (wanted [] → ⊥) → bytes ≡ flat_map tree_text done ++ rest
     → (done ≡ []) ⊎ (0 < length rest) → StopsText rest (1 + length (flat_map tree_lines done)) line → IsFirstFault wanted bytes line
@@ -213,8 +207,6 @@ sequence_err bytes done rest first OutOfMemory each text counted unended fault =
 sequence_err bytes done rest first (BadTree line) each text counted unended stops =
     sequence_stops AtLeastOne bytes done rest line each (λ t. omega (arith, length-append done (t ∷ []))) (λ some. omega arith) text unended (subst (λ n. StopsText rest n line) counted stops)
 
--- ---- one more text
-
 one_tree_more : (done : List (Entries Stamp)) (t : Entries Stamp) → flat_map tree_lines (done ++ t ∷ []) ≡ flat_map tree_lines done ++ tree_lines t
 one_tree_more done t = flat_map-append tree_lines done (t ∷ []) ∙ ap (λ xs. flat_map tree_lines done ++ xs) (append-nil (tree_lines t))
 
@@ -252,8 +244,6 @@ text_room rest first t after next begins =
 pub text_next : (rest : List ℕ) (first : ℕ) (t : Entries Stamp) (after : List ℕ) (next : ℕ) → BeginsText rest first t after next → first + 2 ≤ next
 text_next rest first t after next begins = omega (arith, begins.counted, length-text_lines (need_version_2 t) t)
 
--- ---- the last text
-
 nothing_left : (xs : List ℕ) → length xs ≤ 0 → xs ≡ []
 nothing_left [] empty = refl
 nothing_left (x ∷ xs) empty = absurd (omega arith)
@@ -268,8 +258,6 @@ sequence_ends bytes done longer t rest first after next each text begins grown e
       ∙ ap (λ xs. flat_map tree_text longer ++ xs) (nothing_left after empty)
       ∙ append-nil (flat_map tree_text longer);
 }
-
--- ---- bytes that are empty or not
 
 pub some_bytes : (bytes : List ℕ) (test : Bool) → test ≡ eqb (length bytes) 0 → test ≡ false → 0 < length bytes
 some_bytes bytes test is fails =

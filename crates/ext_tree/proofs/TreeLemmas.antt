@@ -1,19 +1,21 @@
 -- What keeps a list of entries a tree.
-use Rattle.std.proofs.Common.{◌≡◌, ℕ, ◌+◌, ◌<◌, ◌≤◌, Bool, true, false, cond, not, ◌||◌, List, [], ◌∷◌, length, Option, Some, None, is_some, refl, sym, ap, ◌∙◌, subst, arith}
+use Rattle.std.proofs.Common.{◌≡◌, ℕ, ◌+◌, ◌<◌, ◌≤◌, Bool, true, false, cond, not, ◌||◌, List, [], ◌∷◌, length, Option, Some, None, Err, is_some, refl, sym, ap, ◌∙◌, subst, arith}
 use Rattle.std.specs.Prelude.{IsTrue, slice_get, nat_le}
 use Rattle.std.specs.List.{insert}
 use Rattle.std.specs.Ordering.{eq_by_cmp}
 use Rattle.std.specs.FinMap.{put}
 use Rattle.std.specs.FinMap.Entries.{is_sorted-put, find-put, length-put}
 use Rattle.std.proofs.lemmas.Bool.{true≢false, false≢true, or_parts, leb-false}
+use Rattle.std.proofs.lemmas.Option.{same_Some}
 use Rattle.std.proofs.lemmas.Float.{T_from_true}
 use Rattle.ext_text.specs.Path.{IsPath, path_cmp, parent}
 use Rattle.ext_text.specs.Order.{paths_total}
 use Rattle.ext_text.proofs.ForCallers.{true_from_T, same_path}
 use Rattle.ext_tree.specs.declared.entry.Entry.{Entry}
+use Rattle.ext_tree.specs.declared.tree.TreeErr.{TreeErr}
 use Rattle.ext_tree.specs.declared.tree.TreeErr.TheVariants.{Exists, NotDirectory, Limit}
 use Rattle.ext_tree.specs.Tree.{Entries, IsTree, IsTreeWithin, lookup, is_directory_at, is_directory_or_root, most_entries}
-use Rattle.ext_tree.specs.Refusals.{insert_refusal, is_root}
+use Rattle.ext_tree.specs.Refusals.{Refuses, insert_refusal, is_root}
 use Rattle.ext_tree.specs.InsertionPoint.{insertion_point}
 use Rattle.ext_tree.proofs.InsertionPointLemmas.{find_there, insert_here}
 
@@ -95,6 +97,17 @@ put_at {es = es} {p = p} e same named at free =
     ap (λ n. insert es n (p, e)) (at ∙ (λ j. insertion_point path_cmp (named j) (same j)))
     ∙ insert_here path_cmp paths_total p e es (no_entry _ (is_free es p (ap (λ es. insert_refusal es p) (sym same) ∙ sym free)).absent)
 
+-- an entry put at its insertion point leaves a tree
 pub tree_put_at : {C : Type 0} {es seen : Entries C} {p names : List (List ℕ)} {i : ℕ} (e : Entry C) → IsTreeWithin es → IsPath p → seen ≡ es → names ≡ p → i ≡ insertion_point path_cmp names seen → None ≡ insert_refusal seen p → IsTreeWithin (insert es i (p, e))
 tree_put_at {es = es} {p = p} e is path same named at free =
     subst IsTreeWithin (sym (put_at e same named at free)) (tree_put es p e is path (ap (λ es. insert_refusal es p) (sym same) ∙ sym free))
+
+refusal_kinds : (T : Type 0) (there outside full : Bool) (r : TreeErr) → Some r ≡ cond there (Some Exists) (cond outside (Some NotDirectory) (cond full (Some Limit) None)) → Refuses {T = T} (Err r) (cond there (Some Exists) (cond outside (Some NotDirectory) (cond full (Some Limit) None)))
+refusal_kinds T true outside full r is = subst (λ (x : TreeErr). Refuses {T = T} (Err x) (Some Exists)) (sym (same_Some r Exists is)) refl
+refusal_kinds T false true full r is = subst (λ (x : TreeErr). Refuses {T = T} (Err x) (Some NotDirectory)) (sym (same_Some r NotDirectory is)) refl
+refusal_kinds T false false true r is = subst (λ (x : TreeErr). Refuses {T = T} (Err x) (Some Limit)) (sym (same_Some r Limit is)) refl
+refusal_kinds T false false false r is = cc is
+
+-- an insertion that is refused is refused for this reason
+pub refused_so : {C : Type 0} (T : Type 0) (es : Entries C) (p : List (List ℕ)) (r : TreeErr) → Some r ≡ insert_refusal es p → Refuses {T = T} (Err r) (insert_refusal es p)
+refused_so T es p r is = refusal_kinds T (is_root p || is_some (lookup es p)) (not (is_directory_or_root es (parent p))) (nat_le most_entries (length es)) r is

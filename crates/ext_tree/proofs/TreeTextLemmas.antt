@@ -20,8 +20,7 @@ use Rattle.ext_tree.proofs.OrderLemmas.{each_found}
 use Rattle.ext_tree.proofs.PrefixLemmas.{root_none}
 use Rattle.ext_tree.proofs.FollowingLemmas.{pop_tree, empty_tree}
 
--- ---- texts
-
+-- the tree without entries has a text
 pub empty_text : HasText []
 empty_text = record { within = record { tree = empty_tree; count = omega arith }; each = tt }
 
@@ -74,8 +73,6 @@ adds es p follows text room tree e line = (
   (λ longer. (tree e).1 longer.within.tree),
 )
 
--- ---- lines that may not stand after the entries
-
 -- the last line where the entries and the version do not fit
 pub not_ended : (two needs : Bool) (es : Entries Stamp) (line : List ℕ) → line ≡ codes "end" → needs ≡ need_version_2 es → (two ≡ needs → ⊥) → MayStand two es line → ⊥
 not_ended two needs es line end is other (inl last) = other (sym last.1 ∙ sym is)
@@ -112,8 +109,6 @@ not_of_version two es line found p e test read is fits failed may =
     not_fitting read (inr (y, add, same)) =
         let entry : y ≡ (p, e) = line_injective y (p, e) (last_line es y add.longer) read.0 (sym same ∙ read.1) in
         false≢true (sym failed ∙ fits.1 (subst (λ z. needs_version_2 z.1 ≡ true → two ≡ true) entry add.version))
-
--- ---- one entry more
 
 -- whether some entry needs version 2
 pub needs_more : (es longer : Entries Stamp) (x : List (List ℕ) × Entry Stamp) (needs more : Bool) → needs ≡ need_version_2 es → more ≡ (needs || needs_version_2 x.1) → longer ≡ es ++ x ∷ [] → more ≡ need_version_2 longer

@@ -9,7 +9,7 @@ use Rattle.ext_tree.specs.declared.entry.Entry.TheVariants.{Dir, Opaque, File, L
 use Rattle.ext_lines.specs.Lines.{lines_text}
 use Rattle.ext_tree.specs.declared.stamp.Stamp.{Stamp}
 use Rattle.ext_tree.specs.Tree.{Entries, all_shown, as_shown, is_hide}
-use Rattle.ext_tree.specs.TreeText.{header, need_version_2, needs_version_2, text_lines, tree_line, tree_text}
+use Rattle.ext_tree.specs.TreeText.{header, need_version_2, needs_version_2, printed_lines, tree_line, tree_text}
 
 -- an entry's line with its newline
 abbrev pub whole_line : List (List ℕ) × Entry Stamp → List ℕ
@@ -25,7 +25,7 @@ all_printed es two i text h version is =
     ap (λ t. t ++ codes "end\n") (is ∙ ap (λ done. (header two ++ 10 ∷ []) ++ flat_map whole_line done) (take_all i es h))
     ∙ append_assoc (header two ++ 10 ∷ []) (flat_map whole_line es) (codes "end\n")
     ∙ ap (λ rest. (header two ++ 10 ∷ []) ++ rest) (sym (lines_then_end es))
-    ∙ ap (λ v. lines_text (text_lines v es)) version
+    ∙ ap (λ v. lines_text (printed_lines v es)) version
 
 -- an entry as it shows, with its path
 abbrev pub shown : Bor (List (List ℕ) × Entry Stamp) → List (List ℕ) × Entry Stamp

@@ -7,7 +7,7 @@ use Rattle.std.specs.Prelude.{◌≡◌, ℕ, ◌+◌, ◌-◌, ◌<◌, ◌≤�
 use Rattle.std.specs.List.{AllByRecursion, flat_map}
 use Rattle.ext_lines.specs.Lines.{whole_lines}
 use Rattle.ext_tree.specs.Tree.{Entries}
-use Rattle.ext_tree.specs.TreeText.{HasText, IsLoose, IsTreeText, IsSequence, loose_lines, need_version_2, text_lines}
+use Rattle.ext_tree.specs.TreeText.{HasText, IsLoose, IsTreeText, IsSequence, loose_lines, need_version_2, printed_lines}
 use Rattle.ext_tree.specs.declared.stamp.Stamp.{Stamp}
 use Rattle.ext_tree.specs.declared.reading.TreeTextErr.{TreeTextErr}
 use Rattle.ext_tree.specs.declared.reading.TreeTextErr.TheVariants.{OutOfMemory, BadTree}
@@ -16,6 +16,7 @@ use Rattle.ext_tree.specs.declared.reading.TreeTextErr.TheVariants.{OutOfMemory,
 abbrev pub IsOne : List (Entries Stamp) → Type 0
 IsOne trees = length trees ≡ 1
 
+-- some text is there
 abbrev pub AtLeastOne : List (Entries Stamp) → Type 0
 AtLeastOne trees = 0 < length trees
 
@@ -33,7 +34,7 @@ pub record EndsIdle (lines : List (List ℕ)) : Type 0 where
   pub entries : Entries Stamp
   pub tree : HasText entries
   pub none : need_version_2 entries ≡ false
-  pub text : lines ≡ before ++ text_lines true entries
+  pub text : lines ≡ before ++ printed_lines true entries
 
 -- the least faulty line
 pub record IsFaultyLine (wanted : List (Entries Stamp) → Type 0) (lines : List (List ℕ)) (line : ℕ) : Type 0 where

@@ -9,6 +9,7 @@ module _ {K X : Type 0} (R : K → K → Ordering) where
   abbrev pub is_past : K → K × X → Bool
   is_past k e = is_gt (R k e.0)
 
+  -- how many entries of a list in order come before the key
   abbrev pub insertion_point : K → List (K × X) → ℕ
   insertion_point k [] = 0
   insertion_point k (e ∷ es) = if is_past k e then suc (insertion_point k es) else 0

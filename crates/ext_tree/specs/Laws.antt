@@ -7,8 +7,6 @@ use Rattle.ext_tree.specs.TreeText.{IsTreeText, IsSequence}
 use Rattle.ext_tree.specs.FirstFault.{Begins, EndsIdle, IsFirstFault, IsOne, AtLeastOne}
 use Rattle.ext_tree.specs.declared.stamp.Stamp.{Stamp}
 
--- ---- what follows for the prefixes of a path from the rule that an entry stands directly in a directory or in the root
-
 -- a directory stands at each non-empty proper prefix of the path
 abbrev pub HasPrefixes : {C : Type 0} → Entries C → List (List ℕ) → Type 0
 HasPrefixes es path = (prefix : List (List ℕ)) → prefix ≢ [] → IsTrue (is_proper_prefix prefix path) → IsTrue (is_directory_at (lookup es prefix))
@@ -20,8 +18,6 @@ EntriesHavePrefixes C = (es : Entries C) (path : List (List ℕ)) → IsTree es 
 -- an entry may stand at a path below the root exactly where every non-empty proper prefix of that path is a directory
 abbrev pub DirectoriesHavePrefixes : Type 0 → Type 0
 DirectoriesHavePrefixes C = (es : Entries C) (path : List (List ℕ)) → IsTree es → path ≢ [] → IsTrue (is_directory_or_root es (parent path)) ↔ HasPrefixes es path
-
--- ---- texts
 
 -- a text belongs to one tree
 abbrev pub OneTreeOfText : Type 0

@@ -6,6 +6,7 @@ pub mod Part
 pub mod Cut
 pub mod Graft
 pub mod Grafting
+pub mod Joining
 pub mod Following
 pub mod Fields
 pub mod EntryLine

@@ -48,6 +48,7 @@ pub record StopsBody (two : Bool) (bytes : List ℕ) (first line : ℕ) : Type 0
   pub counted : line ≡ first + length entries
   pub stop : NoneNext (MayStand two entries) rest
 
+-- why the lines after a header are read no further
 abbrev pub BodyFault : Bool → List ℕ → ℕ → TreeTextErr → Type 0
 BodyFault two bytes first OutOfMemory = Unit {0}
 BodyFault two bytes first (BadTree line) = StopsBody two bytes first line
@@ -68,6 +69,7 @@ StopsText bytes first line =
     ((line ≡ first) × NoneNext IsHeader bytes)
     ⊎ ((two : Bool) × (body : List ℕ) × IsSplit 10 bytes (header two) body × StopsBody two body (first + 1) line)
 
+-- why a text is read no further
 abbrev pub TextFault : List ℕ → ℕ → TreeTextErr → Type 0
 TextFault bytes first OutOfMemory = Unit {0}
 TextFault bytes first (BadTree line) = StopsText bytes first line

@@ -5,6 +5,7 @@ use Rattle.ext_tree.specs.Tree.{Entries, lookup, is_directory_or_root, most_entr
 use Rattle.ext_tree.specs.declared.tree.TreeErr.{TreeErr}
 use Rattle.ext_tree.specs.declared.tree.TreeErr.TheVariants.{OutOfMemory, Exists, NotDirectory, Limit, Path}
 
+-- the path is the root
 abbrev pub is_root : List (List ℕ) → Bool
 is_root [] = true
 is_root (n ∷ p) = false

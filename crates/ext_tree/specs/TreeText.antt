@@ -44,13 +44,14 @@ abbrev pub header : Bool → List ℕ
 header two = if two then codes "hostext-tree 2" else codes "hostext-tree 1"
 
 -- the lines of a text with this header
-abbrev pub text_lines : Bool → Entries Stamp → List (List ℕ)
-text_lines two es = header two ∷ map tree_line es ++ codes "end" ∷ []
+abbrev pub printed_lines : Bool → Entries Stamp → List (List ℕ)
+printed_lines two es = header two ∷ map tree_line es ++ codes "end" ∷ []
 
 -- the lines of a tree's text
 abbrev pub tree_lines : Entries Stamp → List (List ℕ)
-tree_lines es = text_lines (need_version_2 es) es
+tree_lines es = printed_lines (need_version_2 es) es
 
+-- the text of a tree
 abbrev pub tree_text : Entries Stamp → List ℕ
 tree_text es = lines_text (tree_lines es)
 
@@ -81,4 +82,4 @@ pub record IsLoose (t : Bool × Entries Stamp) : Type 0 where
 
 -- its lines
 abbrev pub loose_lines : Bool × Entries Stamp → List (List ℕ)
-loose_lines t = text_lines t.0 t.1
+loose_lines t = printed_lines t.0 t.1

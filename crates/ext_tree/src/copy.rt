@@ -21,7 +21,7 @@ impl<C: Held1 + Drop> Tree<C> {
 }
 
 // Equal entries with equal paths.
-fn copies_of<C: Held1 + Drop>(
+pub(crate) fn copies_of<C: Held1 + Drop>(
     alloc: Global,
     pairs: &[(Path, Entry<C>)],
 ) -> Result<Vec<(Path, Entry<C>)>, OutOfMemory>

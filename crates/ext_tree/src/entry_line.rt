@@ -27,7 +27,7 @@ pub trait LineContent: Sized {
     /// Adds the fields to a text, a space after each.
     ///
     /// # Errors
-    /// `OutOfMemory`; a prefix of these bytes may have been added.
+    /// `OutOfMemory`. A prefix of these bytes may have been added.
     fn append_to(&self, text: &mut Vec<u8>) -> Result<(), OutOfMemory>
         ensures ok { OnOk result (text.new.items ≡ text.old.items ++ spaced (form.fields self.now) []) }
         ensures err { OnErr result (AppendsPrefix text.old.items text.new.items (spaced (form.fields self.now) [])) };
@@ -151,7 +151,7 @@ pub fn path_of(alloc: Global, text: &[u8]) -> Result<Option<Path>, OutOfMemory>
 /// Adds an entry's line to a text, without a newline.
 ///
 /// # Errors
-/// `OutOfMemory`; a prefix of the line may have been added.
+/// `OutOfMemory`. A prefix of the line may have been added.
 pub fn append_line<C: LineContent>(
     text: &mut Vec<u8>,
     path: &Path,
@@ -167,7 +167,7 @@ pub fn append_line<C: LineContent>(
 /// Adds the fields of an entry's line to a text, a space after each.
 ///
 /// # Errors
-/// `OutOfMemory`; a prefix of these bytes may have been added.
+/// `OutOfMemory`. A prefix of these bytes may have been added.
 pub fn append_fields<C: LineContent>(
     text: &mut Vec<u8>,
     entry: &Entry<C>,
@@ -200,7 +200,8 @@ fn append_file<C: LineContent>(
     content: &C,
 ) -> Result<(), OutOfMemory>
     ensures ok { OnOk result (text.new.items ≡ text.old.items ++ (102 ∷ 32 ∷ (octal mode ++ 32 ∷ spaced (C.form.fields content.now) []))) }
-    ensures err { OnErr result (AppendsPrefix text.old.items text.new.items (102 ∷ 32 ∷ (octal mode ++ 32 ∷ spaced (C.form.fields content.now) []))) }
+    ensures err { OnErr result (AppendsPrefix text.old.items text.new.items
+        (102 ∷ 32 ∷ (octal mode ++ 32 ∷ spaced (C.form.fields content.now) []))) }
 {
     append_kind_and_mode(text, b"f ", mode)?;
     content.append_to(text)
@@ -209,7 +210,8 @@ fn append_file<C: LineContent>(
 // Adds the fields of a link.
 fn append_link(text: &mut Vec<u8>, target: &[u8]) -> Result<(), OutOfMemory>
     ensures ok { OnOk result (text.new.items ≡ text.old.items ++ (108 ∷ 32 ∷ spaced (decimal (length target.now) ∷ target.now ∷ []) [])) }
-    ensures err { OnErr result (AppendsPrefix text.old.items text.new.items (108 ∷ 32 ∷ spaced (decimal (length target.now) ∷ target.now ∷ []) [])) }
+    ensures err { OnErr result (AppendsPrefix text.old.items text.new.items
+        (108 ∷ 32 ∷ spaced (decimal (length target.now) ∷ target.now ∷ []) [])) }
 {
     append_bytes(text, b"l ")?;
     append_target(text, target)

@@ -127,7 +127,7 @@ pub(crate) fn split_target(text: &[u8]) -> Option<(&[u8], &[u8])>
 /// Adds a mode to a text, in octal digits, and a space.
 ///
 /// # Errors
-/// `OutOfMemory`; a prefix of these bytes may have been added.
+/// `OutOfMemory`. A prefix of these bytes may have been added.
 pub fn append_mode(text: &mut Vec<u8>, mode: Mode) -> Result<(), OutOfMemory>
     ensures ok { OnOk result (text.new.items ≡ text.old.items ++ (octal mode ++ 32 ∷ [])) }
     ensures err { OnErr result (AppendsPrefix text.old.items text.new.items (octal mode ++ 32 ∷ [])) }
@@ -139,7 +139,7 @@ pub fn append_mode(text: &mut Vec<u8>, mode: Mode) -> Result<(), OutOfMemory>
 /// Adds a number to a text, in decimal digits, and a space.
 ///
 /// # Errors
-/// `OutOfMemory`; a prefix of these bytes may have been added.
+/// `OutOfMemory`. A prefix of these bytes may have been added.
 pub fn append_number(text: &mut Vec<u8>, number: u64) -> Result<(), OutOfMemory>
     ensures ok { OnOk result (text.new.items ≡ text.old.items ++ (decimal number ++ 32 ∷ [])) }
     ensures err { OnErr result (AppendsPrefix text.old.items text.new.items (decimal number ++ 32 ∷ [])) }
@@ -151,7 +151,7 @@ pub fn append_number(text: &mut Vec<u8>, number: u64) -> Result<(), OutOfMemory>
 /// Adds a digest to a text, in lower-case hexadecimal digits, and a space.
 ///
 /// # Errors
-/// `OutOfMemory`; a prefix of these bytes may have been added.
+/// `OutOfMemory`. A prefix of these bytes may have been added.
 pub fn append_digest(text: &mut Vec<u8>, digest: &Digest) -> Result<(), OutOfMemory>
     ensures ok { OnOk result (text.new.items ≡ text.old.items ++ (encode_lower digest.now.0 ++ 32 ∷ [])) }
     ensures err { OnErr result (AppendsPrefix text.old.items text.new.items (encode_lower digest.now.0 ++ 32 ∷ [])) }
@@ -162,7 +162,7 @@ pub fn append_digest(text: &mut Vec<u8>, digest: &Digest) -> Result<(), OutOfMem
 /// Adds the fields of a stamp to a text, a space after each.
 ///
 /// # Errors
-/// `OutOfMemory`; a prefix of these bytes may have been added.
+/// `OutOfMemory`. A prefix of these bytes may have been added.
 pub fn append_stamp(text: &mut Vec<u8>, stamp: &Stamp) -> Result<(), OutOfMemory>
     ensures ok { OnOk result (text.new.items ≡ text.old.items ++ spaced (stamp_fields stamp.now) []) }
     ensures err { OnErr result (AppendsPrefix text.old.items text.new.items (spaced (stamp_fields stamp.now) [])) }

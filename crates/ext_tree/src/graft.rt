@@ -14,8 +14,8 @@ use crate::entry::Entry;
 use crate::insertion_point::entry_of;
 use crate::slices::count_through;
 use crate::tree::{MOST_ENTRIES, Tree, TreeErr};
-use ext_lines::{OutOfMemory, grown};
-use ext_text::{Mode, Name, Path, PathErr};
+use ext_lines::{OutOfMemory, allocated};
+use ext_text::{Mode, Path, PathErr, PathRef};
 use std::alloc::Global;
 
 // The mode of made directories.
@@ -26,16 +26,19 @@ impl<C: Drop> Tree<C> {
     /// directories of mode 755, and the part's entries stand below it. At the root the tree becomes the part.
     ///
     /// # Errors
-    /// The first of these: `NotDirectory` exactly where an entry that is no directory stands at a proper prefix of the
-    /// path; `Path` exactly where a path grows past its limits; `Limit` exactly where there would be more than 262,144
-    /// entries. `OutOfMemory` may come in place of the last two, and `Exists` never. After any of them the tree is as
-    /// before.
+    /// The first of these:
+    ///
+    /// - `NotDirectory` exactly where an entry that is no directory stands at a proper prefix of the path.
+    /// - `Path` exactly where a path grows past its limits.
+    /// - `Limit` exactly where there would be more than 262,144 entries.
+    ///
+    /// `OutOfMemory` may come in place of the last two, and `Exists` never. After any of them the tree is as before.
     pub fn graft(&mut self, path: &Path, part: Tree<C>) -> Result<(), TreeErr>
         ensures ok { OnOk result (IsGraft self.old path.now part self.new) }
         ensures answers { AnswersGraft self.old path.now part result }
         ensures err { OnErr result (self.new ≡ self.old) }
     {
-        if path.names().is_empty() {
+        if path.names().is_root() {
             self.entries = part.into_pairs();
             return Ok(());
         }
@@ -55,10 +58,10 @@ fn standing_at<C>(entries: &[(Path, Entry<C>)], path: &Path) -> Option<usize>
     ensures { StandsTo entries.now path.now result }
 {
     let names = path.names();
+    let depth = names.depth();
     let mut standing = 0;
-    'names: while standing + 1 < names.len() {
-        let (first, _rest) = names.split_at(standing + 1);
-        match entry_of(entries, first) {
+    'names: while standing + 1 < depth {
+        match entry_of(entries, &names.prefix(standing + 1)) {
             None => return Some(standing),
             Some(entry) if entry.is_directory() => standing += 1,
             Some(_) => return None,
@@ -94,8 +97,9 @@ fn push_directories<C: Drop>(
     requires { standing < length path.now }
     ensures { OnOk result (new.new.items ≡ new.old.items ++ directories path.now (suc standing) (length path.now - standing)) }
 {
+    let depth = path.depth();
     let mut count = standing;
-    'names: while count < path.names().len() {
+    'names: while count < depth {
         count += 1;
         new.push(directory_at(path, count)?)?;
     }
@@ -119,11 +123,12 @@ fn push_hung<C: Drop>(
     part: Vec<(Path, Entry<C>)>,
 ) -> Result<(), TreeErr>
     requires { IsTree part.items }
-    ensures ok { OnOk result ((new.new.items ≡ new.old.items ++ map (hung path.now) part.items) × AllByRecursion (λ e. IsPath (path.now ++ e.0)) part.items) }
+    ensures ok { OnOk result ((new.new.items ≡ new.old.items ++ map (hung path.now) part.items)
+        × AllByRecursion (λ e. IsPath (path.now ++ e.0)) part.items) }
     ensures err { IfErr result (IsLongPath (IsTooLong path.now part.items)) }
 {
     for entry in part {
-        grown(new.push(hung(path, entry)?))?;
+        allocated(new.push(hung(path, entry)?))?;
     }
     Ok(())
 }
@@ -152,7 +157,7 @@ fn hang<C: Drop>(
     ensures limit { AnswersLimit (length (joined path.now entries.old.items new.items)) result }
     ensures err { OnErr result (entries.new.items ≡ entries.old.items) }
 {
-    let (from, to) = span(entries.as_slice(), path.names());
+    let (from, to) = span(entries.as_slice(), &path.names());
     let kept = from + (entries.len() - to);
     if is_over(kept, new.len()) {
         return Err(TreeErr::Limit);
@@ -185,7 +190,7 @@ fn replace<C: Drop>(
 }
 
 // Where the entries at and below the path begin, and where they end.
-fn span<C>(entries: &[(Path, Entry<C>)], names: &[Name]) -> (usize, usize)
+fn span<C>(entries: &[(Path, Entry<C>)], names: &PathRef) -> (usize, usize)
     requires { IsTrue (is_sorted path_cmp entries.now) }
     ensures order { result.0 ≤ result.1 }
     ensures within { result.1 ≤ length entries.now }
@@ -196,7 +201,7 @@ fn span<C>(entries: &[(Path, Entry<C>)], names: &[Name]) -> (usize, usize)
 }
 
 // How many entries stand before the path.
-fn count_before<C>(entries: &[(Path, Entry<C>)], names: &[Name]) -> usize
+fn count_before<C>(entries: &[(Path, Entry<C>)], names: &PathRef) -> usize
     requires { IsTrue (is_sorted path_cmp entries.now) }
     ensures within { result ≤ length entries.now }
     ensures before { take result entries.now ≡ where_key path_cmp (λ q. is_lt (path_cmp q names.now)) entries.now }
@@ -205,7 +210,7 @@ fn count_before<C>(entries: &[(Path, Entry<C>)], names: &[Name]) -> usize
 }
 
 // Whether the entry stands before the path.
-fn is_before<C>(names: &[Name], entry: &(Path, Entry<C>)) -> bool
+fn is_before<C>(names: &PathRef, entry: &(Path, Entry<C>)) -> bool
     ensures { result ≡ is_lt (path_cmp entry.now.0 names.now) }
 {
     entry.0.names().cmp(names).is_lt()

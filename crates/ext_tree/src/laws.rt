@@ -38,7 +38,7 @@ pub fn first_fault_of_text()
     ensures one { OneFirstFault IsOne }
 {}
 
-/// A sequence of texts has no first faulty line, since with each prefix of its lines a sequence begins; bytes that are
+/// A sequence of texts has no first faulty line, since with each prefix of its lines a sequence begins. Bytes that are
 /// none have exactly one.
 pub fn first_fault_of_sequence()
     ensures none { NoFaultInSequence }

@@ -1,7 +1,7 @@
 //! Trees of entries, and their text.
 //!
 //! A [`Tree`] is a finite map from paths to entries in which each non-empty proper prefix of a path is a directory. A tree
-//! text is read into its tree and a tree is printed as its one text; bytes that are no text are refused at their first
+//! text is read into its tree and a tree is printed as its one text. Bytes that are no text are refused at their first
 //! faulty line. The lines of entries are read and printed for any content of a file ([`LineContent`]). The crates that
 //! layer, search and change trees stand on this one.
 #![tactic(auto)]
@@ -14,6 +14,7 @@ mod fields;
 mod following;
 mod graft;
 mod insertion_point;
+mod joining;
 pub mod laws;
 mod part;
 mod reading;
@@ -29,6 +30,7 @@ pub use fields::{
     split_number, split_stamp,
 };
 pub use following::may_follow;
+pub use joining::joined;
 pub use reading::{TreeTextErr, read_tree, read_trees};
 pub use slices::{after, cmp_child};
 pub use stamp::Stamp;

@@ -23,10 +23,10 @@ impl<C: Held1 + Drop> Tree<C> {
         ensures each { IfOk result (λ tree. IsPart self.now path.now tree) }
         ensures refused { Refuses result (part_refusal self.now path.now) }
     {
-        if !is_directory_or_root(self.pairs(), path.names()) {
+        if !is_directory_or_root(self.pairs(), &path.names()) {
             return Err(TreeErr::NotDirectory);
         }
-        let entries = copies_from(self.allocator(), self.below(path.names()), path)?;
+        let entries = copies_from(self.allocator(), self.below(&path.names()), path)?;
         Ok(Tree::from_pairs(entries))
     }
 }
@@ -54,7 +54,7 @@ fn copy_from<C: Held1 + Drop>(
 ) -> Result<(Path, Entry<C>), OutOfMemory>
     ensures { IfOk result (λ copy. copy ≡ seen_from prefix.now pair.now) }
 {
-    let path = pair.0.rest(prefix.names().len())?;
+    let path = pair.0.rest(prefix.depth())?;
     let entry = pair.1.copy(alloc)?;
     Ok((path, entry))
 }

@@ -33,7 +33,7 @@ pub enum TreeTextErr {
     /// An allocation failed.
     #[error("out of memory")]
     OutOfMemory,
-    /// The bytes are no tree text, or no sequence of them; the line is the first faulty one, counted from 1.
+    /// The bytes are no tree text, or no sequence of them. The line is the first faulty one, counted from 1.
     #[error("faulty tree text at line {line}")]
     BadTree {
         /// The first faulty line.
@@ -77,7 +77,7 @@ struct Body<'a> {
 ///
 /// # Errors
 /// `BadTree` exactly where the bytes are no tree text. Its line, counted from 1, is the first with which no tree text
-/// begins, or the `end` line of a text of version 2 without lines `o` and `w`; where the bytes stop early, it is the line
+/// begins, or the `end` line of a text of version 2 without lines `o` and `w`. Where the bytes stop early, it is the line
 /// after their last newline, also where that line has begun. `OutOfMemory` may come at any time.
 pub fn read_tree(alloc: Global, bytes: &[u8]) -> Result<Tree<Stamp>, TreeTextErr>
     ensures { ReadsTree bytes.now result }
@@ -93,7 +93,7 @@ pub fn read_tree(alloc: Global, bytes: &[u8]) -> Result<Tree<Stamp>, TreeTextErr
 /// The trees of a sequence of tree texts, of one at least, in their order.
 ///
 /// # Errors
-/// `BadTree` exactly where the bytes are no such sequence; the empty bytes are none. Its line is as for `read_tree`, and
+/// `BadTree` exactly where the bytes are no such sequence. The empty bytes are none. Its line is as for `read_tree`, and
 /// the lines are counted through all the texts. `OutOfMemory` may come at any time.
 pub fn read_trees(alloc: Global, bytes: &[u8]) -> Result<Trees, TreeTextErr>
     ensures { ReadsSequence bytes.now result }
@@ -142,7 +142,8 @@ fn version_of(line: &[u8]) -> Option<bool>
 // The entries and the last line of a text at the start of the bytes; their first line has this number.
 fn read_body(alloc: Global, bytes: &[u8], first: u64, two: bool) -> Result<Body, TreeTextErr>
     requires { first + length bytes.now < 2 ^ 64 }
-    ensures { MatchResult result (λ body. BeginsBody two bytes.now first body.entries.items body.rest.now body.line) (BodyFault two bytes.now first) }
+    ensures { MatchResult result (λ body. BeginsBody two bytes.now first body.entries.items body.rest.now body.line)
+        (BodyFault two bytes.now first) }
 {
     let mut entries = Vec::new(alloc);
     let mut needs = false;

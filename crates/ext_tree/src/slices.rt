@@ -8,15 +8,14 @@ ghost use Rattle.ext_tree.specs.Slices.{IsChild, is_after, is_before_name, is_na
 ghost use Rattle.ext_tree.specs.Tree.{IsTree, is_directory_or_root};
 
 use crate::entry::Entry;
-use crate::following::is_prefix;
 use crate::insertion_point::is_directory_or_root;
 use crate::tree::Tree;
-use ext_text::{Name, Path};
+use ext_text::{Path, PathRef};
 use std::cmp::Ordering;
 
 impl<C> Tree<C> {
     /// The entries below the path of these names, in path order. Below the root that is all of them.
-    pub fn below(&self, directory: &[Name]) -> &[(Path, Entry<C>)]
+    pub fn below(&self, directory: &PathRef) -> &[(Path, Entry<C>)]
         ensures same { result.now ≡ where_key path_cmp (is_proper_prefix directory.now) self.now }
         ensures sorted { IsTrue (is_sorted path_cmp result.now) }
     {
@@ -24,7 +23,7 @@ impl<C> Tree<C> {
     }
 
     /// The entries at and below those names of the directory that begin with these bytes, in path order.
-    pub fn named(&self, directory: &[Name], start: &[u8]) -> &[(Path, Entry<C>)]
+    pub fn named(&self, directory: &PathRef, start: &[u8]) -> &[(Path, Entry<C>)]
         ensures same { result.now ≡ where_key path_cmp (is_named directory.now start.now) self.now }
         ensures sorted { IsTrue (is_sorted path_cmp result.now) }
     {
@@ -33,7 +32,7 @@ impl<C> Tree<C> {
 
     /// The entry of this name directly in the directory, with its own path; `None` exactly where there is none. The name
     /// may be any bytes.
-    pub fn child(&self, directory: &[Name], name: &[u8]) -> Option<&(Path, Entry<C>)>
+    pub fn child(&self, directory: &PathRef, name: &[u8]) -> Option<&(Path, Entry<C>)>
         ensures found { IsChild self.now (directory.now ++ name.now ∷ []) result }
         ensures tree { IsTree self.now }
     {
@@ -44,7 +43,7 @@ impl<C> Tree<C> {
     }
 
     /// Whether these are no names, and so the root's, or the names of a directory.
-    pub fn is_directory_or_root(&self, names: &[Name]) -> bool
+    pub fn is_directory_or_root(&self, names: &PathRef) -> bool
         ensures { result ≡ is_directory_or_root self.now names.now }
     {
         is_directory_or_root(self.pairs(), names)
@@ -53,7 +52,7 @@ impl<C> Tree<C> {
 
 /// Of entries in path order those after the path of these names and after all that is below it. Where the path is that
 /// of an entry directly in a directory, and the entries are some of that directory, the first one is the next such entry.
-pub fn after<'a, C>(entries: &'a [(Path, Entry<C>)], names: &[Name]) -> &'a [(Path, Entry<C>)]
+pub fn after<'a, C>(entries: &'a [(Path, Entry<C>)], names: &PathRef) -> &'a [(Path, Entry<C>)]
     requires { IsTrue (is_sorted path_cmp entries.now) }
     ensures same { result.now ≡ where_key path_cmp (is_after names.now) entries.now }
     ensures sorted { IsTrue (is_sorted path_cmp result.now) }
@@ -62,7 +61,7 @@ pub fn after<'a, C>(entries: &'a [(Path, Entry<C>)], names: &[Name]) -> &'a [(Pa
 }
 
 // The entries after the path and after all that is below it.
-fn rest_after<'a, C>(entries: &'a [(Path, Entry<C>)], names: &[Name]) -> &'a [(Path, Entry<C>)]
+fn rest_after<'a, C>(entries: &'a [(Path, Entry<C>)], names: &PathRef) -> &'a [(Path, Entry<C>)]
     requires { IsTrue (is_sorted path_cmp entries.now) }
     ensures { result.now ≡ where_key path_cmp (is_after names.now) entries.now }
 {
@@ -71,7 +70,7 @@ fn rest_after<'a, C>(entries: &'a [(Path, Entry<C>)], names: &[Name]) -> &'a [(P
 }
 
 // How many entries stand before what comes after the path and all that is below it.
-pub(crate) fn count_through<C>(entries: &[(Path, Entry<C>)], names: &[Name]) -> usize
+pub(crate) fn count_through<C>(entries: &[(Path, Entry<C>)], names: &PathRef) -> usize
     requires { IsTrue (is_sorted path_cmp entries.now) }
     ensures within { result ≤ length entries.now }
     ensures after { drop result entries.now ≡ where_key path_cmp (is_after names.now) entries.now }
@@ -81,37 +80,43 @@ pub(crate) fn count_through<C>(entries: &[(Path, Entry<C>)], names: &[Name]) -> 
 
 /// How a path's names stand to those of a directory and one more name, which are not joined for it. The name may be any
 /// bytes.
-pub fn cmp_child(names: &[Name], directory: &[Name], name: &[u8]) -> Ordering
+pub fn cmp_child(names: &PathRef, directory: &PathRef, name: &[u8]) -> Ordering
     ensures { result ≡ path_cmp names.now (directory.now ++ name.now ∷ []) }
 {
-    match (names, directory) {
-        ([], []) => Ordering::Less,
-        ([], [_first, ..]) => Ordering::Less,
-        ([first, more @ ..], []) => match first.bytes().cmp(name) {
-            Ordering::Equal => cmp_root(more),
-            other => other,
-        },
-        ([first, more @ ..], [above, below @ ..]) => match first.bytes().cmp(above.bytes()) {
-            Ordering::Equal => cmp_child(more, below, name),
+    match names.after(directory) {
+        None => names.cmp(directory),
+        Some(rest) => cmp_name(&rest, name),
+    }
+}
+
+// How names stand to a single one.
+fn cmp_name(names: &PathRef, name: &[u8]) -> Ordering
+    ensures { result ≡ path_cmp names.now (name.now ∷ []) }
+{
+    match names.split_first() {
+        None => Ordering::Less,
+        Some((first, below)) => match first.cmp(name) {
+            Ordering::Equal => cmp_root(&below),
             other => other,
         },
     }
 }
 
-// How a path's names stand to the root, which has none.
-fn cmp_root(names: &[Name]) -> Ordering
+// How names stand to the root, which has none.
+fn cmp_root(names: &PathRef) -> Ordering
     ensures { result ≡ path_cmp names.now [] }
 {
-    match names {
-        [] => Ordering::Equal,
-        [_first, ..] => Ordering::Greater,
+    if names.is_root() {
+        Ordering::Equal
+    } else {
+        Ordering::Greater
     }
 }
 
 // Of entries in path order those at and below the names of the directory that begin with these bytes.
 fn named<'a, C>(
     entries: &'a [(Path, Entry<C>)],
-    directory: &[Name],
+    directory: &PathRef,
     start: &[u8],
 ) -> &'a [(Path, Entry<C>)]
     requires { IsTrue (is_sorted path_cmp entries.now) }
@@ -126,7 +131,7 @@ fn named<'a, C>(
 // Of entries in path order those that do not come before the name of the directory.
 fn from_name<'a, C>(
     entries: &'a [(Path, Entry<C>)],
-    directory: &[Name],
+    directory: &PathRef,
     name: &[u8],
 ) -> &'a [(Path, Entry<C>)]
     requires { IsTrue (is_sorted path_cmp entries.now) }
@@ -138,43 +143,49 @@ fn from_name<'a, C>(
 }
 
 // Whether the entry is the one of this name directly in the directory.
-fn is_child<C>(directory: &[Name], name: &[u8], entry: &(Path, Entry<C>)) -> bool
+fn is_child<C>(directory: &PathRef, name: &[u8], entry: &(Path, Entry<C>)) -> bool
     ensures { result ≡ is_eq (path_cmp entry.now.0 (directory.now ++ name.now ∷ [])) }
 {
-    cmp_child(entry.0.names(), directory, name).is_eq()
+    cmp_child(&entry.0.names(), directory, name).is_eq()
 }
 
 // Whether the entry comes before the name of the directory.
-fn is_before_name<C>(directory: &[Name], name: &[u8], entry: &(Path, Entry<C>)) -> bool
+fn is_before_name<C>(directory: &PathRef, name: &[u8], entry: &(Path, Entry<C>)) -> bool
     ensures { result ≡ is_before_name directory.now name.now entry.now.0 }
 {
-    cmp_child(entry.0.names(), directory, name).is_lt()
+    cmp_child(&entry.0.names(), directory, name).is_lt()
 }
 
 // Whether the entry is at or below a name of the directory that begins with these bytes.
-fn is_named<C>(directory: &[Name], start: &[u8], entry: &(Path, Entry<C>)) -> bool
+fn is_named<C>(directory: &PathRef, start: &[u8], entry: &(Path, Entry<C>)) -> bool
     ensures { result ≡ is_named directory.now start.now entry.now.0 }
 {
-    begins_named(directory, start, entry.0.names())
+    begins_named(directory, start, &entry.0.names())
 }
 
 // Whether the names are at or below a name of the directory that begins with these bytes.
-fn begins_named(directory: &[Name], start: &[u8], names: &[Name]) -> bool
+fn begins_named(directory: &PathRef, start: &[u8], names: &PathRef) -> bool
     ensures { result ≡ is_named directory.now start.now names.now }
 {
-    match (directory, names) {
-        ([], []) => false,
-        ([], [first, ..]) => first.bytes().starts_with(start),
-        ([_above, ..], []) => false,
-        ([above, below @ ..], [first, more @ ..]) => {
-            above.bytes().cmp(first.bytes()).is_eq() && begins_named(below, start, more)
-        }
+    match names.after(directory) {
+        None => false,
+        Some(rest) => first_begins(&rest, start),
+    }
+}
+
+// Whether there is a first name, and it begins with these bytes.
+fn first_begins(names: &PathRef, start: &[u8]) -> bool
+    ensures { result ≡ is_named [] start.now names.now }
+{
+    match names.split_first() {
+        None => false,
+        Some((first, _below)) => first.starts_with(start),
     }
 }
 
 // Whether the entry comes after the path and all that is below it.
-fn is_after<C>(names: &[Name], entry: &(Path, Entry<C>)) -> bool
+fn is_after<C>(names: &PathRef, entry: &(Path, Entry<C>)) -> bool
     ensures { result ≡ is_after names.now entry.now.0 }
 {
-    names.cmp(entry.0.names()).is_lt() && !is_prefix(names, entry.0.names())
+    names.cmp(&entry.0.names()).is_lt() && !entry.0.names().starts_with(names)
 }

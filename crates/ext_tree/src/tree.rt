@@ -10,7 +10,7 @@ ghost use Rattle.ext_tree.specs.Refusals.{Refuses, insert_refusal};
 use crate::entry::Entry;
 use crate::insertion_point::{entry_at, entry_of, insertion_point_of, is_directory_or_root};
 use ext_lines::OutOfMemory;
-use ext_text::Path;
+use ext_text::{Path, PathRef};
 use std::alloc::Global;
 use std::marker::Model;
 use thiserror::Error;
@@ -49,7 +49,7 @@ impl From<OutOfMemory> for TreeErr {
     }
 }
 
-/// A finite map from paths to entries in which there is a directory at every non-empty proper prefix of a path; it has at
+/// A finite map from paths to entries in which there is a directory at every non-empty proper prefix of a path. It has at
 /// most 262,144 entries. Contracts see it as the list of its entries in path order.
 #[derive(Debug, Drop)]
 pub struct Tree<C> {
@@ -104,7 +104,14 @@ impl<C> Tree<C> {
     pub fn get(&self, path: &Path) -> Option<&Entry<C>>
         ensures { option_copied result ≡ lookup self.now path.now }
     {
-        entry_of(self.entries.as_slice(), path.names())
+        self.entry_at(&path.names())
+    }
+
+    /// What stands at the path of these names; `None` exactly where nothing does.
+    pub fn entry_at(&self, names: &PathRef) -> Option<&Entry<C>>
+        ensures { option_copied result ≡ lookup self.now names.now }
+    {
+        entry_of(self.entries.as_slice(), names)
     }
 
     /// How many entries there are.
@@ -133,8 +140,12 @@ impl<C: Drop> Tree<C> {
     /// Puts an entry at a path where none stands.
     ///
     /// # Errors
-    /// The first of these: `Exists` exactly where an entry stands there or the path is the root; `NotDirectory` exactly
-    /// where a non-empty proper prefix of the path is absent or no directory; `Limit` exactly at 262,144 entries.
+    /// The first of these:
+    ///
+    /// - `Exists` exactly where an entry stands there or the path is the root.
+    /// - `NotDirectory` exactly where a non-empty proper prefix of the path is absent or no directory.
+    /// - `Limit` exactly at 262,144 entries.
+    ///
     /// `OutOfMemory` comes only where none of them does, and `Path` never. After any of them the tree is as before.
     pub fn insert(&mut self, path: Path, entry: Entry<C>) -> Result<(), TreeErr>
         ensures ok { OnOk result (self.new ≡ put path_cmp path entry self.old) }
@@ -142,7 +153,7 @@ impl<C: Drop> Tree<C> {
         ensures err { OnErr result (self.new ≡ self.old) }
     {
         let entries = self.entries.as_slice();
-        let index = insertion_point_of(entries, path.names());
+        let index = insertion_point_of(entries, &path.names());
         match refusal_at(entries, &path, index) {
             Some(refusal) => Err(refusal),
             None => Ok(insert_at(&mut self.entries, index, (path, entry))?),
@@ -163,9 +174,9 @@ fn refusal_at<C>(entries: &[(Path, Entry<C>)], path: &Path, index: usize) -> Opt
     requires index { index ≡ insertion_point path_cmp path.now entries.now }
     ensures { result ≡ insert_refusal entries.now path.now }
 {
-    if path.names().is_empty() || entry_at(entries, path.names(), index).is_some() {
+    if path.names().is_root() || entry_at(entries, &path.names(), index).is_some() {
         Some(TreeErr::Exists)
-    } else if !is_directory_or_root(entries, path.parent()) {
+    } else if !is_directory_or_root(entries, &path.parent()) {
         Some(TreeErr::NotDirectory)
     } else if is_full(entries.len()) {
         Some(TreeErr::Limit)

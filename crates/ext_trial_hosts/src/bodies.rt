@@ -1,7 +1,7 @@
 // Where the bytes of a described host's files are.
-use crate::parts::{tree, tree_trouble};
+use crate::parts::tree;
+use crate::samples::tree_of_text;
 use ext_case::Trouble;
-use ext_host::samples::tree_of_text;
 use ext_host::{Held, from_depot};
 use ext_text::{Path, Text};
 use ext_tree::{Tree, TreeErr};
@@ -12,7 +12,7 @@ use std::alloc::Global;
 pub(crate) enum Bodies {
     /// In a store, each at a home of its own.
     Kept,
-    /// Here, of each file that has these bytes; those of the others are in a store.
+    /// Here, of each file that has these bytes. Those of the others are in a store.
     Here(Text),
     /// In the depot, below this path.
     Depot(Path),
@@ -44,7 +44,7 @@ fn kept_tree(
     generation: u32,
     contents: &[&[u8]],
 ) -> Result<Tree<Held>, Trouble> {
-    tree_of_text(alloc, text.bytes(), generation, contents).map_err(tree_trouble)
+    tree_of_text(alloc, text.bytes(), generation, contents)
 }
 
 // The tree of a text, with files in the depot.

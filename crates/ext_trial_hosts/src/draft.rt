@@ -1,15 +1,12 @@
 // A host is described clause by clause.
 use crate::bodies::Bodies;
 use crate::clauses::Clause;
-use crate::parts::{first_part, name, names, path_and_paths, tree_trouble};
+use crate::parts::{first_part, name, names, path_and_paths};
+use crate::samples::empty_host;
 use ext_case::{Trouble, path, small};
-use ext_host::samples::host_of_texts;
 use ext_host::{Attachment, Host, Item, Items, Manifest, Past};
 use ext_text::{Digest, Paths, Text};
 use std::alloc::Global;
-
-/// The text of the tree without entries.
-const EMPTY: &[u8] = b"hostext-tree 1\nend\n";
 
 // What the clauses so far say.
 #[derive(Drop)]
@@ -39,11 +36,6 @@ pub(crate) fn host_of(alloc: Global, clauses: &[Text]) -> Result<Host, Trouble> 
         draft.add(clause)?;
     }
     draft.finish()
-}
-
-// The host without entries.
-fn empty_host(alloc: Global) -> Result<Host, Trouble> {
-    host_of_texts(alloc, EMPTY, EMPTY, &[]).map_err(tree_trouble)
 }
 
 impl Draft {

@@ -4,7 +4,7 @@ use crate::showing::tree_text;
 use ext_case::{
     Trouble, append_line, append_number, line_of, one, one_and_more, path, path_line, three, two,
 };
-use ext_host::{Body, Held, HereShelf, ShelfErr, bytes_of_both, from_depot};
+use ext_host::{Body, Held, HereShelf, Shelf, ShelfErr, from_depot};
 use ext_text::{Path, Text};
 use ext_tree::{Entry, Held1, Tree, TreeErr};
 use std::alloc::Global;
@@ -30,10 +30,10 @@ fn bytes(alloc: Global, arguments: &[Text]) -> Result<Text, Trouble> {
     let first = Held::here(first.copy()?);
     let copy = first.copy(alloc)?;
     let second = Held::here(second.copy()?);
-    match bytes_of_both(alloc, &mut HereShelf, &copy, &second) {
-        Ok((first, second)) => lines_of(alloc, &first, &second),
-        Err(failed) => Err(trouble(failed)),
-    }
+    let mut shelf = HereShelf;
+    let first = shelf.bytes(alloc, &copy).map_err(trouble)?;
+    let second = shelf.bytes(alloc, &second).map_err(trouble)?;
+    lines_of(alloc, &first, &second)
 }
 
 // A line each.
@@ -49,7 +49,7 @@ fn trouble(failed: ShelfErr) -> Trouble {
     match failed {
         ShelfErr::OutOfMemory => Trouble::OutOfMemory,
         ShelfErr::Fault => Trouble::Unreadable("the shelf failed"),
-        ShelfErr::Damaged { .. } => Trouble::Unreadable("a file is damaged"),
+        ShelfErr::Damaged(_) => Trouble::Unreadable("a file is damaged"),
     }
 }
 

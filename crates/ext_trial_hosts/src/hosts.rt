@@ -1,16 +1,13 @@
-// What a described host comes to.
+// What calls give of a described host.
 use crate::draft::host_of;
-use crate::parts::class;
+use crate::parts::extension;
 use crate::showing::{append_hierarchies, append_manifests, append_names, append_pasts, tree_text};
 use ext_case::{Trouble, line_of, number_line, one, one_and_more, path, small};
 use ext_host::{Held, Host, default_hierarchies};
 use ext_index::{index_size, write_index};
-use ext_text::{Class, Text};
-use ext_tree::Tree;
+use ext_text::{Extension, Text};
+use ext_tree::{MOST_ENTRIES, Tree};
 use std::alloc::Global;
-
-/// The most entries of a host.
-const MOST_ENTRIES: u64 = 262_144;
 
 /// What `host` writes: `host WHAT ..`, most with the clauses of a host.
 ///
@@ -38,7 +35,7 @@ fn base(alloc: Global, clauses: &[Text]) -> Result<Text, Trouble> {
 
 // The base of a host whose trees are within the limit.
 fn base_of(host: &Host) -> Result<Tree<Held>, Trouble> {
-    if host.root.entries() + host.lower.entries() > MOST_ENTRIES {
+    if host.root.entries() + host.lower.entries() > MOST_ENTRIES as u64 {
         return Err(Trouble::Unreadable("a host of too many entries"));
     }
     Ok(host.base()?)
@@ -49,8 +46,8 @@ fn copy(alloc: Global, clauses: &[Text]) -> Result<Text, Trouble> {
     let copy = host_of(alloc, clauses)?.copy()?;
     let mut text = Text::new(alloc);
     append_trees(alloc, &mut text, &copy)?;
-    append_hierarchies(&mut text, &copy, Class::Sysext)?;
-    append_hierarchies(&mut text, &copy, Class::Confext)?;
+    append_hierarchies(&mut text, &copy, Extension::Sysext)?;
+    append_hierarchies(&mut text, &copy, Extension::Confext)?;
     append_pasts(alloc, &mut text, copy.past.as_slice())?;
     Ok(text)
 }
@@ -64,7 +61,7 @@ fn append_trees(alloc: Global, text: &mut Text, host: &Host) -> Result<(), Troub
 
 // `hierarchies CLASS`: those of a host that chose none, a line each.
 fn hierarchies(alloc: Global, argument: &Text) -> Result<Text, Trouble> {
-    let names = default_hierarchies(alloc, class(argument)?)?;
+    let names = default_hierarchies(alloc, extension(argument)?)?;
     let mut text = Text::new(alloc);
     append_names(&mut text, names.as_slice())?;
     Ok(text)

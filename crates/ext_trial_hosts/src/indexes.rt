@@ -8,7 +8,7 @@ use std::alloc::Global;
 
 /// What `index` writes: `index WHAT GENERATION TEXT..`, where the texts one after another are the bytes of an index of the
 /// generation. After `read` it is the index printed again, after `number` the number of its text, after `size` the length of
-/// the index printed again; or `fault LINE` where the bytes are no such index.
+/// the index printed again, or `fault LINE` where the bytes are no such index.
 ///
 /// # Errors
 /// `Unreadable` where the arguments are other ones, and `OutOfMemory`.

@@ -1,8 +1,10 @@
 // The items of a list of what was found.
 use crate::parts::first_part;
 use ext_case::{Trouble, name, path};
-use ext_cmd::{Item, ItemKind, Items, Verdict, Why};
+use ext_cmd::{Item, ItemKind, Items};
+use ext_find::BreakWhy;
 use ext_lines::read_decimal;
+use ext_match::Verdict;
 use ext_text::Text;
 use std::alloc::Global;
 
@@ -36,7 +38,7 @@ fn kind_of(word: &[u8]) -> Result<ItemKind, Trouble> {
         b"raw" => Ok(ItemKind::Raw),
         _ => match verdict_of(word) {
             Some(verdict) => Ok(ItemKind::Image(verdict)),
-            None => Ok(ItemKind::Broken(why_of(word)?)),
+            None => broken_kind(word),
         },
     }
 }
@@ -54,19 +56,19 @@ fn verdict_of(word: &[u8]) -> Option<Verdict> {
     }
 }
 
-fn why_of(word: &[u8]) -> Result<Why, Trouble> {
+fn broken_kind(word: &[u8]) -> Result<ItemKind, Trouble> {
     match first_part(word) {
-        (b"not-directory", None) => Ok(Why::NotDirectory),
-        (b"has-os-release", None) => Ok(Why::HasOsRelease),
-        (b"no-release", None) => Ok(Why::NoRelease),
+        (b"not-directory", None) => Ok(ItemKind::Broken(BreakWhy::NotDirectory)),
+        (b"has-os-release", None) => Ok(ItemKind::Broken(BreakWhy::HasOsRelease)),
+        (b"no-release", None) => Ok(ItemKind::Broken(BreakWhy::NoRelease)),
         (b"bad-release", Some(line)) => bad_release(line),
         _ => Err(Trouble::Unreadable("no item is of this kind")),
     }
 }
 
-fn bad_release(line: &[u8]) -> Result<Why, Trouble> {
+fn bad_release(line: &[u8]) -> Result<ItemKind, Trouble> {
     match read_decimal(line, u64::MAX) {
-        Some(line) => Ok(Why::BadRelease { line }),
+        Some(line) => Ok(ItemKind::BadRelease { line }),
         None => Err(Trouble::Unreadable("not the number of a line")),
     }
 }

@@ -1,7 +1,7 @@
 // The laws of commands, hosts, indexes, searches and views.
 use ext_tree::Stamp;
 
-/// Calls each law, a generic one for stamps. A law has no body that could do anything; its contract is a theorem.
+/// Calls each law, a generic one for stamps. A law has no body that could do anything. Its contract is a theorem.
 pub(crate) fn call_laws() {
     call_laws_of_hosts();
     call_laws_of_indexes();
@@ -21,9 +21,9 @@ fn call_laws_of_hosts() {
 }
 
 fn call_laws_of_indexes() {
-    ext_reading::laws::lines_are_read_in_one_way();
-    ext_reading::laws::what_is_said_is_listed();
-    ext_reading::laws::what_is_listed_is_said();
+    ext_index_reader::laws::lines_are_read_in_one_way();
+    ext_index_reader::laws::what_is_said_is_listed();
+    ext_index_reader::laws::what_is_listed_is_said();
     ext_index::laws::an_index_is_of_one_host();
     ext_index::laws::an_index_is_not_faulty();
     ext_index::laws::empty_host_has_this_index();

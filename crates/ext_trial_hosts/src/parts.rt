@@ -1,6 +1,6 @@
 // Arguments of several parts, with a `:` between each two.
 use ext_case::Trouble;
-use ext_text::{Class, Name, NameErr, Names, Path, PathErr, Paths, Text};
+use ext_text::{Class, Extension, Name, NameErr, Names, Path, PathErr, Paths, Text};
 use ext_tree::{Stamp, Tree, TreeTextErr, read_tree};
 use std::alloc::Global;
 
@@ -95,5 +95,17 @@ pub(crate) fn class(argument: &Text) -> Result<Class, Trouble> {
     match Class::read(argument.bytes()) {
         Some(class) => Ok(class),
         None => Err(Trouble::Unreadable("not a class")),
+    }
+}
+
+/// The class of extensions of a name.
+///
+/// # Errors
+/// `Unreadable` where the argument is none.
+pub(crate) fn extension(argument: &Text) -> Result<Extension, Trouble> {
+    match class(argument)? {
+        Class::Sysext => Ok(Extension::Sysext),
+        Class::Confext => Ok(Extension::Confext),
+        Class::Portable => Err(Trouble::Unreadable("not a class of extensions")),
     }
 }

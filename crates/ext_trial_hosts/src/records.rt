@@ -1,6 +1,6 @@
 // Lines of an index, each read and printed again.
 use ext_case::{Trouble, line_of, number, number_line, one_and_more, two_and_more};
-use ext_record::{
+use ext_index_lines::{
     Homed, Printed, host_of, item_of, kept_entry, manifest_of, name_after, number_after,
     path_after, put_entry, put_host, put_item, put_manifest, put_path, put_worded, version_of,
 };

@@ -1,17 +1,17 @@
-// Searches for images, and what is amiss with one.
+// Searches for images, and why one can't be used.
 use crate::found::{found_text, why_word};
-use crate::parts::{class, name, names, tree, tree_trouble};
+use crate::parts::{class, name, names, tree};
+use crate::samples::tree_of_text;
 use ext_case::{Trouble, five, line_of, one_and_more, path, two, two_and_more};
 use ext_find::{find, why_broken};
 use ext_host::Held;
-use ext_host::samples::tree_of_text;
 use ext_text::{Arch, Class, Names, Text};
 use ext_tree::Tree;
 use std::alloc::Global;
 
-/// What `find` writes: `find CLASS TREE`, on a host of `x86-64` whose hierarchies are `opt` and `usr`, `etc`, or for portable
-/// services both `etc` and `usr`; or `find held CLASS ARCH TREE BYTES`, in a tree of held files, of which those of the bytes
-/// are here, without hierarchies.
+/// What `find` writes: `find CLASS TREE`, on a host of `x86-64` whose hierarchies are `opt` and `usr`, `etc`, or for
+/// portable services both `etc` and `usr`. Or `find held CLASS ARCH TREE BYTES`, in a tree of held files, of which those of
+/// the bytes are here, without hierarchies.
 ///
 /// # Errors
 /// `Unreadable` where the arguments are other ones, and `OutOfMemory`.
@@ -66,7 +66,7 @@ fn search_held(alloc: Global, arguments: &[Text]) -> Result<Text, Trouble> {
 
 // A tree of held files, of which those of the bytes are here.
 fn held_tree(alloc: Global, text: &Text, bytes: &Text) -> Result<Tree<Held>, Trouble> {
-    tree_of_text(alloc, text.bytes(), 1, &[bytes.bytes()]).map_err(tree_trouble)
+    tree_of_text(alloc, text.bytes(), 1, &[bytes.bytes()])
 }
 
 /// What `why-broken CLASS TREE IMAGE NAME HIERARCHIES` writes: why the image of the name can't be used, or `whole`. It stands
@@ -81,7 +81,7 @@ pub(crate) fn why(alloc: Global, arguments: &[Text]) -> Result<Text, Trouble> {
     let image = path(alloc, image)?;
     let name = name(alloc, called.bytes())?;
     let chosen = names(alloc, chosen)?;
-    match why_broken(alloc, &tree, image.names(), class, &chosen, &name)? {
+    match why_broken(alloc, &tree, &image.names(), class, &chosen, &name)? {
         Some(why) => line_of(alloc, why_word(why)),
         None => line_of(alloc, "whole"),
     }

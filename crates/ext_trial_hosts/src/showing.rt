@@ -1,7 +1,7 @@
 // What a word writes: trees, lists and parts of a host.
 use ext_case::{Trouble, append_line, append_number, append_path};
 use ext_host::{Held, Host, Manifest, Past, stamps};
-use ext_text::{Class, Name, Text};
+use ext_text::{Extension, Name, Text};
 use ext_tree::{Tree, write_tree};
 use std::alloc::Global;
 
@@ -48,7 +48,7 @@ pub(crate) fn append_manifests(
 pub(crate) fn append_hierarchies(
     text: &mut Text,
     host: &Host,
-    class: Class,
+    class: Extension,
 ) -> Result<(), Trouble> {
     for name in host.hierarchies(class) {
         text.append(class.name().as_bytes())?;

@@ -11,7 +11,7 @@ pub(crate) enum Subject {
     Release,
     /// `find`: what a search finds.
     Find,
-    /// `why-broken`: what is amiss with an image.
+    /// `why-broken`: why an image can't be used.
     WhyBroken,
     /// `record`: a line of an index.
     Record,

@@ -1,6 +1,6 @@
--- Hosts of what is seen alone, with small files, are valid; and changes of them make plans.
-use Rattle.std.proofs.Common.{◌≡◌, ℕ, suc, zero, ◌*◌, ◌≤◌, true, false, cond, List, [], ◌∷◌, ◌++◌, length, get_or, Option, Some, None, is_some, refl, sym, ap, ◌∙◌, subst, arith}
-use Rattle.std.specs.Prelude.{Contains, IfOk, IsTrue, Result, Ok, Err, codes, eqb}
+-- Hosts with small files are valid, and changes of them make plans.
+use Rattle.std.proofs.Common.{◌≡◌, ℕ, suc, zero, ◌*◌, ◌≤◌, Bool, true, false, ◌||◌, cond, List, [], ◌∷◌, ◌++◌, length, get_or, Option, Some, None, is_some, refl, sym, ap, ◌∙◌, subst, arith}
+use Rattle.std.specs.Prelude.{Contains, IfOk, IfSome, IsTrue, Result, Ok, Err, codes, eqb}
 use Rattle.std.specs.List.{AllByRecursion, flat_map}
 use Rattle.std.specs.FinMap.{put}
 use Rattle.std.specs.FinMap.Entries.{find-put}
@@ -8,10 +8,11 @@ use Rattle.std.specs.Ordering.{eq_by_cmp}
 use Rattle.std.proofs.lemmas.Bool.{false≢true}
 use Rattle.std.proofs.lemmas.List.Sums.{sum_by-cons}
 use Rattle.ext_text.specs.Order.{paths_total}
-use Rattle.ext_text.specs.Path.{path_cmp}
+use Rattle.ext_text.specs.Path.{is_prefix, path_cmp}
 use Rattle.ext_text.specs.declared.arch.Arch.{Arch}
-use Rattle.ext_text.specs.declared.class.Class.TheVariants.{Sysext, Confext}
+use Rattle.ext_text.specs.declared.extension.Extension.TheVariants.{Sysext, Confext}
 use Rattle.ext_text.specs.declared.scope.Scope.TheVariants.{System, Portable}
+use Rattle.ext_text.proofs.ForCallers.{same_path}
 use Rattle.ext_tree.specs.Tree.{Entries, lookup}
 use Rattle.ext_tree.specs.declared.entry.Entry.{Entry}
 use Rattle.ext_tree.specs.declared.entry.Entry.TheVariants.{Dir, Opaque, File, Link, Hide}
@@ -20,8 +21,8 @@ use Rattle.ext_tree.specs.declared.stamp.Stamp.{Stamp}
 use Rattle.ext_host.specs.DepotBodies.{from_depot, in_depot}
 use Rattle.ext_host.specs.Drawn.{AreDrawnFrom, HasFile, IsFileOf}
 use Rattle.ext_host.specs.Held.{HeldFile}
-use Rattle.ext_host.specs.Host.{Hierarchies, default_hierarchies, present}
-use Rattle.ext_host.specs.Valid.{AreInRange, AreOfClasses, IsValidTree, all_bytes, bytes_of}
+use Rattle.ext_host.specs.Host.{Hierarchies, default_hierarchies, is_in, present, where_merged}
+use Rattle.ext_host.specs.Valid.{AreInRange, AreMerged, AreOfClasses, IsValidTree, all_bytes, bytes_of}
 use Rattle.ext_host.specs.declared.attachment.Attachment.{Attachment}
 use Rattle.ext_host.specs.declared.body.Body.{Body}
 use Rattle.ext_host.specs.declared.body.Body.TheVariants.{Here, Kept, Depot}
@@ -33,9 +34,7 @@ use Rattle.ext_host.specs.declared.manifest.Manifest.{Manifest}
 use Rattle.ext_host.specs.declared.past.Past.{Past}
 use Rattle.ext_gen.specs.Opened.{Generation}
 use Rattle.ext_gen.specs.Preparing.{host_before}
-use Rattle.ext_trial_plans.specs.Plans.{IsPlain, IsPlanAfter, IsSmall, root_before}
-
--- ---- the default hierarchies
+use Rattle.ext_trial_plans.specs.Plans.{AreNamesOf, IsMadeOf, IsPlain, IsPlanAfter, IsSmall, MayLieUnder, host_made_of, root_before}
 
 letter : List ℕ → ℕ
 letter name = get_or name 0 0
@@ -60,8 +59,6 @@ default_classes = record {
 first_among : {X : Type 0} (x : X) (xs : List X) → Contains (x ∷ xs) x
 first_among x xs = (zero, omega arith, refl)
 
--- ---- valid hosts
-
 small_in_range : (es : Entries HeldFile) → AllByRecursion (λ e. IsSmall e.1) es → AreInRange es
 small_in_range [] small = tt
 small_in_range (x ∷ es) small = (small.0.0, small_in_range es small.1)
@@ -79,40 +76,56 @@ no_portable same = cc
 nothing_there : (path : List (List ℕ)) → IsTrue (is_some (lookup {C = HeldFile} [] path)) → ⊥
 nothing_there path there = false≢true there
 
--- a host of which this is seen and nothing else is
-abbrev plain : Arch → Entries HeldFile → Host
-plain arch root = record {
-  arch = arch;
-  scope = System;
-  root = root;
-  lower = [];
-  sysext = None;
-  confext = None;
-  attached = [];
-  kept = [];
-  sysext_hier = default_hierarchies Sysext;
-  confext_hier = default_hierarchies Confext;
-  past = [];
-}
+in_usr : (path : List (List ℕ)) → IsTrue (is_prefix (codes "usr" ∷ []) path) → IsTrue (is_in (codes "opt" ∷ codes "usr" ∷ []) path)
+in_usr path usr =
+    elim (is_prefix (codes "opt" ∷ []) path) as (λ b. IsTrue (b || (is_prefix (codes "usr" ∷ []) path || false))) [
+      | true ↦ refl
+      | false ↦ ap (λ b. b || false) usr
+    ]
 
-plain_tree : (arch : Arch) (root : Entries HeldFile) → length root ≤ 1000 → AllByRecursion (λ e. IsSmall e.1) root → IsValidTree defaults (present (plain arch root))
-plain_tree arch root few small =
+-- a path at which one of the entries stands is in `/usr`, where each of them is
+entry_in_usr : (es : Entries HeldFile) → MayLieUnder true es → (path : List (List ℕ)) → IsTrue (is_some (lookup es path)) → IsTrue (is_prefix (codes "usr" ∷ []) path)
+entry_in_usr [] all path there = absurd (nothing_there path there)
+entry_in_usr (x ∷ es) all path there =
+    elim (eq_by_cmp path_cmp path x.0) as (λ b. eq_by_cmp path_cmp path x.0 ≡ b → IsTrue (is_some (cond b (Some x.1) (lookup es path))) → IsTrue (is_prefix (codes "usr" ∷ []) path)) [
+      | true ↦ λ same here. subst (λ p. IsTrue (is_prefix (codes "usr" ∷ []) p)) (sym (same_path path x.0 same)) all.0
+      | false ↦ λ other after. entry_in_usr es all.1 path after
+    ] refl there
+
+-- what lies under a merge lies in its hierarchies
+lies_in : (merged : Bool) (names : Option (List (List ℕ))) (es : Entries HeldFile) → AreNamesOf merged names → MayLieUnder merged es
+    → (path : List (List ℕ)) → IsTrue (is_some (lookup es path)) → IsTrue (is_in (where_merged names (default_hierarchies Sysext) ++ []) path)
+lies_in true names es are may path there =
+    subst (λ n. IsTrue (is_in (where_merged n (default_hierarchies Sysext) ++ []) path)) (sym are.1) (in_usr path (entry_in_usr es may path there))
+lies_in false names es are may path there = absurd (nothing_there path (subst (λ l. IsTrue (is_some (lookup l path))) may there))
+
+are_merged : (merged : Bool) (names : Option (List (List ℕ))) → AreNamesOf merged names → IfSome names AreMerged
+are_merged true names are = subst (λ n. IfSome n AreMerged) (sym are.1) (record { non_empty = omega arith; order = (tt, tt) })
+are_merged false names are = subst (λ n. IfSome n AreMerged) (sym are) tt
+
+made_tree : (arch : Arch) (root lower : Entries HeldFile) (merged : Bool) (names : Option (List (List ℕ))) → AreNamesOf merged names → MayLieUnder merged lower
+    → length root ≤ 1000 → AllByRecursion (λ e. IsSmall e.1) root → length lower ≤ 1000 → AllByRecursion (λ e. IsSmall e.1) lower
+    → IsValidTree defaults (present (host_made_of arch root lower names))
+made_tree arch root lower merged names are may few small few_under small_under =
     let bytes = small_bytes root small in
+    let under = small_bytes lower small_under in
     record {
-      lower = λ path there. absurd (nothing_there path there);
-      limits = record { root = small_in_range root small; lower = tt; entries = omega arith; bytes = omega arith };
-      sysext = tt;
+      lower = lies_in merged names lower are may;
+      limits = record { root = small_in_range root small; lower = small_in_range lower small_under; entries = omega arith; bytes = omega arith };
+      sysext = are_merged merged names are;
       confext = tt;
       attached = record { each = tt; order = tt };
       kept = record { each = tt; order = tt; apart = tt; items = tt };
     }
 
-plain_valid : (arch : Arch) (root : Entries HeldFile) → length root ≤ 1000 → AllByRecursion (λ e. IsSmall e.1) root → IsPlain root (plain arch root)
-plain_valid arch root few small = record {
+made_valid : (arch : Arch) (root lower : Entries HeldFile) (merged : Bool) (names : Option (List (List ℕ))) → AreNamesOf merged names → MayLieUnder merged lower
+    → length root ≤ 1000 → AllByRecursion (λ e. IsSmall e.1) root → length lower ≤ 1000 → AllByRecursion (λ e. IsSmall e.1) lower
+    → IsPlain root lower (host_made_of arch root lower names)
+made_valid arch root lower merged names are may few small few_under small_under = record {
   valid = record {
     scope = no_portable;
     hierarchies = default_classes;
-    present = plain_tree arch root few small;
+    present = made_tree arch root lower merged names are may few small few_under small_under;
     past = tt;
     past_count = omega arith;
     past_order = tt;
@@ -122,28 +135,34 @@ plain_valid arch root few small = record {
   past_is = refl;
 }
 
--- it is made of such parts
-pub made_plain : (arch : Arch) (root pairs lower : Entries HeldFile) (attached : List Attachment) (kept : List Manifest) (sysext_hier confext_hier : List (List ℕ)) (past : List Past) → lower ≡ [] → attached ≡ [] → kept ≡ []
-    → sysext_hier ≡ default_hierarchies Sysext → confext_hier ≡ default_hierarchies Confext → past ≡ [] → pairs ≡ root → length pairs ≤ 1000 → AllByRecursion (λ e. IsSmall e.1) pairs
-    → IsPlain root (record { arch = arch; scope = System; root = root; lower = lower; sysext = None; confext = None; attached = attached; kept = kept; sysext_hier = sysext_hier; confext_hier = confext_hier; past = past })
-made_plain arch root pairs lower attached kept sysext_hier confext_hier past lower_is attached_is kept_is first second past_is same few small =
-    let host : plain arch root ≡ record { arch = arch; scope = System; root = root; lower = lower; sysext = None; confext = None; attached = attached; kept = kept; sysext_hier = sysext_hier; confext_hier = confext_hier; past = past } =
-    λ i. record {
-      arch = arch;
-      scope = System;
-      root = root;
-      lower = sym lower_is i;
-      sysext = None;
-      confext = None;
-      attached = sym attached_is i;
-      kept = sym kept_is i;
-      sysext_hier = sym first i;
-      confext_hier = sym second i;
-      past = sym past_is i;
-    } in
-    subst (IsPlain root) host (plain_valid arch root (subst (λ (l : Entries HeldFile). length l ≤ 1000) same few) (subst (λ l. AllByRecursion (λ e. IsSmall e.1) l) same small))
+-- a host that is made so
+pub made_plain : (root lower : Entries HeldFile) (merged : Bool) (names : Option (List (List ℕ))) → AreNamesOf merged names → MayLieUnder merged lower
+    → length root ≤ 1000 → AllByRecursion (λ e. IsSmall e.1) root → length lower ≤ 1000 → AllByRecursion (λ e. IsSmall e.1) lower
+    → {E : Type 0} (r : Result Host E) → IfOk r (IsMadeOf root lower names) → IfOk r (IsPlain root lower)
+made_plain root lower merged names are may few small few_under small_under (Ok host) made =
+    subst (IsPlain root lower) (sym made.1) (made_valid made.0 root lower merged names are may few small few_under small_under)
+made_plain root lower merged names are may few small few_under small_under (Err e) made = tt
 
--- ---- changes
+-- it is made of such parts
+pub made_of : (arch : Arch) (root lower : Entries HeldFile) (names : Option (List (List ℕ))) (attached : List Attachment) (kept : List Manifest) (sysext_hier confext_hier : List (List ℕ)) (past : List Past)
+    → attached ≡ [] → kept ≡ [] → sysext_hier ≡ default_hierarchies Sysext → confext_hier ≡ default_hierarchies Confext → past ≡ []
+    → IsMadeOf root lower names (record { arch = arch; scope = System; root = root; lower = lower; sysext = names; confext = None; attached = attached; kept = kept; sysext_hier = sysext_hier; confext_hier = confext_hier; past = past })
+made_of arch root lower names attached kept sysext_hier confext_hier past attached_is kept_is first second past_is = (
+  arch,
+  λ i. record {
+    arch = arch;
+    scope = System;
+    root = root;
+    lower = lower;
+    sysext = names;
+    confext = None;
+    attached = attached_is i;
+    kept = kept_is i;
+    sysext_hier = first i;
+    confext_hier = second i;
+    past = past_is i;
+  },
+)
 
 abbrev body_in : List (List ℕ) → Entry HeldFile → Body
 body_in path (Dir m) = Depot path
@@ -224,32 +243,43 @@ pub then_drawn : {E : Type 0} (a b : Entries HeldFile) (r : Result (Entries Held
 then_drawn a b (Ok c) first second = drawn_twice a b c first second
 then_drawn a b (Err e) first second = tt
 
--- ---- plans
-
 no_file : (held : HeldFile) → HasFile [] held → ⊥
 no_file held has = false≢true (ap is_some has.stands)
 
-tree_of_plain : (old host_root : Entries HeldFile) (lower : Entries HeldFile) (past : List Past) (held : HeldFile) → lower ≡ [] → past ≡ []
-    → IsFileOf (host_root ∷ lower ∷ flat_map (λ p. p.root ∷ p.lower ∷ []) past) held → IsFileOf (host_root ∷ []) held
-tree_of_plain old host_root lower past held lower_is past_is is =
-    at_index is.tree (subst (λ l. Contains l is.tree) (λ i. host_root ∷ lower_is i ∷ flat_map (λ p. p.root ∷ p.lower ∷ []) (past_is i)) is.among) is.file
+-- what is seen was drawn, and what lies under it was brought
+pub both_drawn : (old none new lower : Entries HeldFile) → none ≡ [] → AreDrawnFrom (old ∷ []) (new ∷ []) → AreDrawnFrom (none ∷ []) (lower ∷ []) → AreDrawnFrom (old ∷ []) (new ∷ lower ∷ [])
+both_drawn old none new lower is first second held home kept file = at_index file.tree file.among file.file
   where
-    at_index : (tree : Entries HeldFile) → Contains (host_root ∷ [] ∷ []) tree → HasFile tree held → IsFileOf (host_root ∷ []) held
-    at_index tree (zero, inside, same) file = record { tree = host_root; among = first_among host_root []; file = subst (λ t. HasFile t held) (sym same) file }
-    at_index tree (suc zero, inside, same) file = absurd (no_file held (subst (λ t. HasFile t held) (sym same) file))
-    at_index tree (suc (suc k), inside, same) file = absurd (omega arith)
+    at_index : (tree : Entries HeldFile) → Contains (new ∷ lower ∷ []) tree → HasFile tree held → IsFileOf (old ∷ []) held
+    at_index tree (zero, inside, same) has = first held home kept (record { tree = new; among = first_among new []; file = subst (λ t. HasFile t held) (sym same) has })
+    at_index tree (suc zero, inside, same) has =
+        let brought = second held home kept (record { tree = lower; among = first_among lower []; file = subst (λ t. HasFile t held) (sym same) has }) in
+        absurd (no_file held (subst (λ t. HasFile t held) is (only none held brought)))
+    at_index tree (suc (suc k), inside, same) has = absurd (omega arith)
+
+-- nothing lies under what was drawn
+pub seen_drawn : (old new root lower : Entries HeldFile) → root ≡ new → lower ≡ [] → AreDrawnFrom (old ∷ []) (new ∷ []) → AreDrawnFrom (old ∷ []) (root ∷ lower ∷ [])
+seen_drawn old new root lower same is drawn =
+    both_drawn old [] root lower refl (subst (λ t. AreDrawnFrom (old ∷ []) (t ∷ [])) (sym same) drawn) (λ held home kept file. subst (λ t. IsFileOf (t ∷ []) held) is file)
 
 one_of_before : (from : Option Generation) (held : HeldFile) → IsFileOf (root_before from ∷ []) held → IsFileOf (trees_before (host_before from)) held
 one_of_before None held is = absurd (no_file held (only [] held is))
 one_of_before (Some g) held is = record { tree = g.host.root; among = first_among g.host.root (g.host.lower ∷ flat_map (λ p. p.root ∷ p.lower ∷ []) g.host.past); file = only g.host.root held is }
 
+-- the trees of a host without a past
+both_trees : (root lower : Entries HeldFile) (past : List Past) (held : HeldFile) → past ≡ []
+    → IsFileOf (root ∷ lower ∷ flat_map (λ p. p.root ∷ p.lower ∷ []) past) held → IsFileOf (root ∷ lower ∷ []) held
+both_trees root lower past held past_is is = subst (λ l. IsFileOf (root ∷ lower ∷ flat_map (λ p. p.root ∷ p.lower ∷ []) l) held) past_is is
+
 -- a change of what was seen makes a plan
-pub plan_after : (from : Option Generation) (old new : Entries HeldFile) (host : Host) → old ≡ root_before from → AreDrawnFrom (old ∷ []) (new ∷ []) → IsPlain new host → IsPlanAfter from host
-plan_after from old new host old_is drawn plain_host = record {
+pub plan_after : (from : Option Generation) (old new lower : Entries HeldFile) (host : Host) → old ≡ root_before from → AreDrawnFrom (old ∷ []) (new ∷ lower ∷ []) → IsPlain new lower host → IsPlanAfter from host
+plan_after from old new lower host old_is drawn plain_host = record {
   valid = plain_host.valid;
   drawn = λ held home kept file.
       one_of_before from held
       (subst (λ t. IsFileOf (t ∷ []) held) old_is
-      (drawn held home kept (subst (λ t. IsFileOf (t ∷ []) held) plain_host.root_is (tree_of_plain old host.root host.lower host.past held plain_host.lower_is plain_host.past_is file))));
+      (drawn held home kept
+      (subst (λ t. IsFileOf t held) (λ i. plain_host.root_is i ∷ plain_host.lower_is i ∷ [])
+      (both_trees host.root host.lower host.past held plain_host.past_is file))));
   past_is = plain_host.past_is;
 }

@@ -8,6 +8,7 @@ use ext_disk::{Disk, MemoryDisk};
 use ext_gen::{Prepared, StoreErr, check, commit, open, prepare};
 use ext_host::ShelfErr;
 use ext_io::Calls;
+use ext_store_files::StoreFault;
 use std::alloc::Global;
 
 /// Carries out a change, or tells why it wasn't.
@@ -38,7 +39,7 @@ fn switch<D: Disk>(disk: &mut D, prepared: Prepared) -> Option<StoreErr>
 {
     match commit(disk, prepared) {
         Ok(_) => None,
-        Err(_) => Some(StoreErr::DiskFault),
+        Err(_) => Some(StoreErr::Fault(StoreFault::DiskFault)),
     }
 }
 

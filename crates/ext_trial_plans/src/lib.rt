@@ -1,8 +1,8 @@
-//! Changes of a store that no command makes alone: a host is opened, a plan of what comes after it is prepared, and
-//! committed; and what a store stands for.
+//! Changes of a store that no command makes alone, and what a store stands for. A host is opened, and a plan of what
+//! comes after it is prepared and committed.
 //!
-//! The cases of `ext_trial` look through this crate at the calls below the commands. A plan is made of a host of which
-//! only small files are seen, so that it is a valid one.
+//! The cases of `ext_trial` look through this crate at the calls below the commands. A plan is made of a host that has only
+//! small files, so that it is a valid one.
 #![tactic(auto)]
 
 mod changes;
@@ -10,5 +10,5 @@ mod plans;
 mod refused;
 
 pub use changes::{Standing, carry_out, prepare_first, stands_for};
-pub use plans::Change;
+pub use plans::{Brought, Change, is_in_usr};
 pub use refused::Refused;

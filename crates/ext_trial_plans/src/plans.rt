@@ -1,16 +1,16 @@
-// Plans: what a change makes of a host of which only small files are seen.
-ghost use Rattle.std.specs.Prelude.{◌≡◌, ◌≤◌, [], ◌∷◌, length, IsTrue, IfOk, OnOk};
+// Plans: what a change makes of a host that has only small files.
+ghost use Rattle.std.specs.Prelude.{◌≡◌, ◌≤◌, [], ◌∷◌, codes, true, length, IsTrue, IfOk, OnOk};
 ghost use Rattle.std.specs.List.{AllByRecursion};
 ghost use Rattle.std.specs.Option.{option_copied};
-ghost use Rattle.ext_text.specs.Digest.{IsDigest};
+ghost use Rattle.ext_text.specs.Path.{is_prefix};
 ghost use Rattle.ext_tree.specs.Fields.{IsStamp};
 ghost use Rattle.ext_host.specs.Drawn.{AreDrawnFrom};
-ghost use Rattle.ext_trial_plans.specs.Plans.{IsPlain, IsPlanAfter, IsSmall, root_before};
+ghost use Rattle.ext_trial_plans.specs.Plans.{AreNamesOf, IsMadeOf, IsPlain, IsPlanAfter, IsSmall, MayLieUnder, root_before};
 
 use crate::refused::Refused;
 use ext_gen::Opened;
 use ext_host::{Attachments, Held, Host, Manifests, Pasts, Plan, default_hierarchies, from_depot};
-use ext_text::{Arch, Class, Mode, Path, Scope, Text};
+use ext_text::{Arch, Extension, Mode, Name, Names, Path, Scope, Text};
 use ext_tree::{Entry, Stamp, Tree, read_tree};
 use std::alloc::Global;
 
@@ -19,11 +19,39 @@ use std::alloc::Global;
 pub enum Change {
     /// Nothing: it makes a generation all the same.
     Keep,
-    /// Hangs the tree of a text in at a path. Its files are in the depot, below `files`. Then files are put at paths where
-    /// nothing stands, whose bytes are here.
-    Import(Path, Text, Vec<(Path, Text)>),
+    /// Hangs a tree in at a path.
+    Import(Path, Brought),
     /// Takes away what stands at and below a path.
     Remove(Path),
+    /// Hangs a tree in at a path, and has another one, of `/usr`, lie under a merge of one image.
+    Cover {
+        /// The path.
+        at: Path,
+        /// What is seen there.
+        seen: Brought,
+        /// What lies under the merge.
+        under: Brought,
+    },
+}
+
+/// A tree that a change brings.
+#[derive(Debug, Drop)]
+pub struct Brought {
+    /// The text of a tree, whose files are in the depot, below `files`.
+    pub text: Text,
+    /// Files that are put at paths where nothing stands. Their bytes are here.
+    pub here: Vec<(Path, Text)>,
+}
+
+// What a host has at its paths.
+#[derive(Drop)]
+pub(crate) struct Trees {
+    // What is seen.
+    root: Tree<Held>,
+    // What lies under a merge; nothing without one.
+    lower: Tree<Held>,
+    // Whether an image is merged.
+    merged: bool,
 }
 
 // The plan of a change.
@@ -35,7 +63,8 @@ pub(crate) fn planned(
     ensures { IfOk result (λ plan. IsPlanAfter (option_copied from.entry) plan.next) }
 {
     let root = root_of(alloc, from)?;
-    let next = host_of(alloc, changed(alloc, root, change)?)?;
+    let trees = changed(alloc, root, change)?;
+    let next = host_of(alloc, trees)?;
     Ok(Plan { next })
 }
 
@@ -50,19 +79,56 @@ fn root_of(alloc: Global, from: Option<&Opened>) -> Result<Tree<Held>, Refused>
 }
 
 // What a change makes of it.
-fn changed(alloc: Global, root: Tree<Held>, change: &Change) -> Result<Tree<Held>, Refused>
-    ensures { IfOk result (λ new. AreDrawnFrom (root ∷ []) (new ∷ [])) }
+fn changed(alloc: Global, root: Tree<Held>, change: &Change) -> Result<Trees, Refused>
+    ensures { IfOk result (λ new. AreDrawnFrom (root ∷ []) (new.root ∷ new.lower ∷ [])) }
 {
     match change {
-        Change::Keep => Ok(root),
-        Change::Import(at, text, here) => {
-            let new = imported(alloc, root, at, text)?;
-            with_files(new, here.as_slice())
+        Change::Keep => Ok(only_seen(alloc, root)),
+        Change::Import(at, brought) => {
+            let new = brought_to(alloc, root, at, brought)?;
+            Ok(only_seen(alloc, new))
         }
-        Change::Remove(at) => removed(root, at),
+        Change::Remove(at) => {
+            let new = removed(root, at)?;
+            Ok(only_seen(alloc, new))
+        }
+        Change::Cover { at, seen, under } => {
+            let new = brought_to(alloc, root, at, seen)?;
+            let lower = brought_to(alloc, Tree::new(alloc), &Path::root(alloc), under)?;
+            Ok(Trees {
+                root: new,
+                lower,
+                merged: true,
+            })
+        }
     }
 }
 
+// What is seen, without a merge.
+fn only_seen(alloc: Global, root: Tree<Held>) -> Trees
+    ensures { (result.root ≡ root) × (result.lower ≡ []) }
+{
+    Trees {
+        root,
+        lower: Tree::new(alloc),
+        merged: false,
+    }
+}
+
+// The tree with another hung in at a path, and with the files that are brought with it.
+fn brought_to(
+    alloc: Global,
+    root: Tree<Held>,
+    at: &Path,
+    brought: &Brought,
+) -> Result<Tree<Held>, Refused>
+    ensures { IfOk result (λ new. AreDrawnFrom (root ∷ []) (new ∷ [])) }
+{
+    let new = imported(alloc, root, at, &brought.text)?;
+    with_files(new, brought.here.as_slice())
+}
+
+// The tree with another hung in at a path.
 fn imported(
     alloc: Global,
     root: Tree<Held>,
@@ -108,21 +174,58 @@ fn removed(root: Tree<Held>, path: &Path) -> Result<Tree<Held>, Refused>
     Ok(new)
 }
 
-// The host of which this is seen and nothing else is.
-fn host_of(alloc: Global, root: Tree<Held>) -> Result<Host, Refused>
-    ensures { IfOk result (IsPlain root) }
+// The host that has these trees and nothing else.
+fn host_of(alloc: Global, trees: Trees) -> Result<Host, Refused>
+    ensures { IfOk result (IsPlain trees.root trees.lower) }
 {
+    let Trees {
+        root,
+        lower,
+        merged,
+    } = trees;
     if !are_small(root.pairs()) {
         return Err(Refused);
     }
-    let sysext_hier = default_hierarchies(alloc, Class::Sysext)?;
-    let confext_hier = default_hierarchies(alloc, Class::Confext)?;
+    if !are_small(lower.pairs()) {
+        return Err(Refused);
+    }
+    if !may_lie_under(merged, lower.pairs()) {
+        return Err(Refused);
+    }
+    let names = names_of(alloc, merged)?;
+    host_with(alloc, root, lower, names)
+}
+
+// The names of what is merged: `x`, where something is.
+fn names_of(alloc: Global, merged: bool) -> Result<Option<Names>, Refused>
+    ensures { IfOk result (AreNamesOf merged) }
+{
+    if !merged {
+        return Ok(None);
+    }
+    let name = Name::read(alloc, b"x")?;
+    let mut names = Names::new(alloc);
+    names.push(name)?;
+    Ok(Some(names))
+}
+
+// The host that has these trees and these names.
+fn host_with(
+    alloc: Global,
+    root: Tree<Held>,
+    lower: Tree<Held>,
+    sysext: Option<Names>,
+) -> Result<Host, Refused>
+    ensures { IfOk result (λ host. IsMadeOf root lower sysext host) }
+{
+    let sysext_hier = default_hierarchies(alloc, Extension::Sysext)?;
+    let confext_hier = default_hierarchies(alloc, Extension::Confext)?;
     Ok(Host {
         arch: Arch::X86_64,
         scope: Scope::System,
         root,
-        lower: Tree::new(alloc),
-        sysext: None,
+        lower,
+        sysext,
         confext: None,
         attached: Attachments::new(alloc),
         kept: Manifests::new(alloc),
@@ -130,6 +233,39 @@ fn host_of(alloc: Global, root: Tree<Held>) -> Result<Host, Refused>
         confext_hier,
         past: Pasts::new(alloc),
     })
+}
+
+// Whether these entries may lie under what is merged: each at or below `/usr`, and none where nothing is.
+fn may_lie_under(merged: bool, pairs: &[(Path, Entry<Held>)]) -> bool
+    ensures { IsTrue result → MayLieUnder merged pairs.now }
+{
+    if merged {
+        lie_in_usr(pairs)
+    } else {
+        pairs.is_empty()
+    }
+}
+
+// Whether each entry is at or below `/usr`.
+fn lie_in_usr(pairs: &[(Path, Entry<Held>)]) -> bool
+    ensures { IsTrue result → MayLieUnder true pairs.now }
+{
+    'pairs: for pair in pairs {
+        if !is_in_usr(&pair.0) {
+            return false;
+        }
+    }
+    true
+}
+
+/// Whether a path is at or below `/usr`.
+pub fn is_in_usr(path: &Path) -> bool
+    ensures { result ≡ is_prefix (codes "usr" ∷ []) path.now }
+{
+    match path.names().split_first() {
+        None => false,
+        Some((first, _below)) => first == b"usr".as_slice(),
+    }
 }
 
 // Whether there are few entries, each of them a directory or a small file.
@@ -161,11 +297,7 @@ fn is_small(entry: &Entry<Held>) -> bool
 fn is_small_stamp(stamp: &Stamp) -> bool
     ensures { IsTrue result → IsStamp stamp.now × (stamp.now.size ≤ 1000000) }
 {
-    is_digest(&stamp.digest.0) && stamp.size <= 1_000_000
-}
-
-fn is_digest(bytes: &[u8]) -> bool
-    ensures { IsTrue result → IsDigest bytes.now }
-{
-    bytes.len() == 32
+    // `bytes` says of a digest that it has 32.
+    let _bytes = stamp.digest.bytes();
+    stamp.size <= 1_000_000
 }

@@ -1,4 +1,4 @@
-use ext_text::{OutOfMemory, PathErr};
+use ext_text::{NameErr, OutOfMemory, PathErr};
 use ext_tree::{TreeErr, TreeTextErr};
 use thiserror::Error;
 
@@ -9,6 +9,12 @@ pub struct Refused;
 
 impl From<OutOfMemory> for Refused {
     fn from(_refused: OutOfMemory) -> Refused {
+        Refused
+    }
+}
+
+impl From<NameErr> for Refused {
+    fn from(_refused: NameErr) -> Refused {
         Refused
     }
 }

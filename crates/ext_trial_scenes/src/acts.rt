@@ -2,7 +2,7 @@
 use crate::changing::carry_change;
 use crate::disk_calls::call_text;
 use crate::outcome::Outcome;
-use crate::placing::{put_file, put_files, put_folder, settle};
+use crate::placing::{put_file, put_files, put_folder, sync};
 use crate::streams::{Streams, run_over};
 use ext_case::Trouble;
 use ext_depot::MemoryDepot;
@@ -20,8 +20,8 @@ pub(crate) enum Act {
     File(Text, Text),
     /// So many empty files are made in a folder.
     Files(Text, u32),
-    /// The names in a folder are settled.
-    Settle(Text),
+    /// The names in a folder are synced.
+    Sync(Text),
     /// The disk is asked for a call.
     Call(Words),
     /// A command is run.
@@ -57,7 +57,7 @@ fn place(alloc: Global, act: &Act, disk: &mut MemoryDisk) -> Result<(), Trouble>
         Act::Folder(at) => put_folder(alloc, disk, at),
         Act::File(at, bytes) => put_file(alloc, disk, at, bytes.bytes()),
         Act::Files(dir, count) => put_files(alloc, disk, dir, *count),
-        Act::Settle(dir) => settle(alloc, disk, dir),
+        Act::Sync(dir) => sync(alloc, disk, dir),
         Act::Call(_) | Act::Run(_) | Act::Change(_) => Ok(()),
     }
 }

@@ -8,11 +8,13 @@ use ext_depot::MemoryDepot;
 use ext_disk::MemoryDisk;
 use ext_gen::StoreErr;
 use ext_host::ShelfErr;
+use ext_store_files::StoreFault;
 use ext_text::{Path, Text, Which};
-use ext_trial_plans::{Change, Standing, carry_out, stands_for};
+use ext_trial_plans::{Brought, Change, Standing, carry_out, is_in_usr, stands_for};
 use std::alloc::Global;
 
-/// The change that words are: `keep`, `import PATH TEXT [FILE BYTES] ..` or `remove PATH`.
+/// The change that words are: `keep`, `import PATH TEXT [FILE BYTES] ..`, `remove PATH` or
+/// `cover PATH TEXT UNDER [FILE BYTES] ..`.
 ///
 /// # Errors
 /// `Unreadable` where they are none, and `OutOfMemory`.
@@ -25,6 +27,7 @@ pub(crate) fn change_of(alloc: Global, arguments: &[Text]) -> Result<Change, Tro
         }
         "import" => import_of(alloc, rest),
         "remove" => Ok(Change::Remove(path(alloc, one(rest)?)?)),
+        "cover" => cover_of(alloc, rest),
         _ => Err(Trouble::Unreadable("no such change")),
     }
 }
@@ -32,7 +35,37 @@ pub(crate) fn change_of(alloc: Global, arguments: &[Text]) -> Result<Change, Tro
 fn import_of(alloc: Global, arguments: &[Text]) -> Result<Change, Trouble> {
     let (at, text, files) = two_and_more(arguments)?;
     let here = files_of(alloc, files)?;
-    Ok(Change::Import(path(alloc, at)?, text.copy()?, here))
+    let brought = Brought {
+        text: text.copy()?,
+        here,
+    };
+    Ok(Change::Import(path(alloc, at)?, brought))
+}
+
+// What is seen, and what lies under a merge: of the files, those at or below `/usr`.
+fn cover_of(alloc: Global, arguments: &[Text]) -> Result<Change, Trouble> {
+    let (at, more) = one_and_more(arguments)?;
+    let (seen, under, files) = two_and_more(more)?;
+    let mut here = Vec::new(alloc);
+    let mut here_under = Vec::new(alloc);
+    for (at, bytes) in files_of(alloc, files)? {
+        if is_in_usr(&at) {
+            here_under.push((at, bytes))?;
+        } else {
+            here.push((at, bytes))?;
+        }
+    }
+    Ok(Change::Cover {
+        at: path(alloc, at)?,
+        seen: Brought {
+            text: seen.copy()?,
+            here,
+        },
+        under: Brought {
+            text: under.copy()?,
+            here: here_under,
+        },
+    })
 }
 
 // Files whose bytes are here: a path and bytes, in turn.
@@ -71,10 +104,10 @@ fn outcome(alloc: Global, status: &str, reply: Text) -> Result<Outcome, Trouble>
 
 fn number_of(refused: &StoreErr) -> &'static str {
     match refused {
-        StoreErr::DiskFault => "5",
-        StoreErr::DepotFault => "6",
-        StoreErr::OutOfMemory => "7",
-        StoreErr::Broken { .. } | StoreErr::Damaged { .. } => "8",
+        StoreErr::Fault(StoreFault::DiskFault) => "5",
+        StoreErr::Fault(StoreFault::DepotFault) => "6",
+        StoreErr::Fault(StoreFault::OutOfMemory) => "7",
+        StoreErr::Broken { .. } | StoreErr::Fault(StoreFault::Damaged(_)) => "8",
         StoreErr::Unfinished => "9",
         StoreErr::Mismatch { .. } | StoreErr::NotInDepot { .. } | StoreErr::Limit { .. } => "1",
     }
@@ -93,9 +126,7 @@ pub(crate) fn refusal_text(alloc: Global, refused: &StoreErr) -> Result<Text, Tr
 
 fn append_refusal(alloc: Global, text: &mut Text, refused: &StoreErr) -> Result<(), Trouble> {
     match refused {
-        StoreErr::OutOfMemory => append_str(text, "out of memory"),
-        StoreErr::DiskFault => append_str(text, "disk fault"),
-        StoreErr::DepotFault => append_str(text, "depot fault"),
+        StoreErr::Fault(fault) => append_fault(alloc, text, fault),
         StoreErr::Unfinished => append_str(text, "unfinished"),
         StoreErr::Limit { which } => append_limit(text, which),
         StoreErr::Broken { line } => {
@@ -103,6 +134,15 @@ fn append_refusal(alloc: Global, text: &mut Text, refused: &StoreErr) -> Result<
             append_field(alloc, text, *line)
         }
         _ => append_file_refusal(alloc, text, refused),
+    }
+}
+
+fn append_fault(alloc: Global, text: &mut Text, fault: &StoreFault) -> Result<(), Trouble> {
+    match fault {
+        StoreFault::OutOfMemory => append_str(text, "out of memory"),
+        StoreFault::DiskFault => append_str(text, "disk fault"),
+        StoreFault::DepotFault => append_str(text, "depot fault"),
+        StoreFault::Damaged(damage) => append_damage(alloc, text, damage),
     }
 }
 
@@ -125,17 +165,12 @@ fn append_file_refusal(alloc: Global, text: &mut Text, refused: &StoreErr) -> Re
             append_str(text, "not in the depot ")?;
             append_path(alloc, text, path)
         }
-        StoreErr::Damaged {
-            home,
-            listed,
-            found,
-        } => append_damage(alloc, text, home, listed, found),
         _ => Ok(()),
     }
 }
 
-/// A line that says what a store stands for: `nothing`; the number of its generation and of its text, how many files its
-/// host has, and how many bytes, all of them verified; or what is wrong.
+/// A line that says what a store stands for. It is `nothing`, or the number of its generation and of its text, how many
+/// files its host has, and how many bytes, all of them verified. Or it says what is wrong.
 ///
 /// # Errors
 /// `OutOfMemory`.
@@ -177,11 +212,7 @@ fn append_counts(alloc: Global, text: &mut Text, files: u64, bytes: u64) -> Resu
 
 fn append_shelf_err(alloc: Global, text: &mut Text, refused: &ShelfErr) -> Result<(), Trouble> {
     match refused {
-        ShelfErr::Damaged {
-            home,
-            listed,
-            found,
-        } => append_damage(alloc, text, home, listed, found),
+        ShelfErr::Damaged(damage) => append_damage(alloc, text, damage),
         _ => append_str(text, "a fault"),
     }
 }

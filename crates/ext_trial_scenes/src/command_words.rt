@@ -7,7 +7,7 @@ use ext_text::Text;
 use ext_top::may_change;
 use std::alloc::Global;
 
-/// Whether the command of these words may change a store, `yes` or `no`; or `usage PLACE` where they are none.
+/// Whether the command of these words may change a store, `yes` or `no`, or `usage PLACE` where they are none.
 ///
 /// # Errors
 /// `OutOfMemory`.

@@ -42,7 +42,7 @@ fn sizes(alloc: Global, arguments: &[Text]) -> Result<Vec<usize>, Trouble> {
     Ok(sizes)
 }
 
-// `disk folder PATH`, `disk file PATH TEXT`, `disk files PATH COUNT` or `disk settle PATH`.
+// `disk folder PATH`, `disk file PATH TEXT`, `disk files PATH COUNT` or `disk sync PATH`.
 fn put_on_disk(alloc: Global, scene: &mut Scene, arguments: &[Text]) -> Result<(), Trouble> {
     let _outcome = scene.act(alloc, put_of(arguments)?)?;
     Ok(())
@@ -52,7 +52,7 @@ fn put_of(arguments: &[Text]) -> Result<Act, Trouble> {
     let (kind, rest) = one_and_more(arguments)?;
     match string(kind)? {
         "folder" => Ok(Act::Folder(one(rest)?.copy()?)),
-        "settle" => Ok(Act::Settle(one(rest)?.copy()?)),
+        "sync" => Ok(Act::Sync(one(rest)?.copy()?)),
         "file" => {
             let (at, bytes) = two(rest)?;
             Ok(Act::File(at.copy()?, bytes.copy()?))

@@ -17,9 +17,9 @@ use std::alloc::Global;
 /// What comes of a call of the disk, `CALL ARGUMENT ..`: what it gives, `done`, `failed`, or `not allowed` where its condition
 /// does not hold there.
 ///
-/// The condition is looked for by two calls `kind`, at the folder around the path and at the path; of a rename at both paths,
-/// and the root is its own folder. So the call is the third of three, but for `kind` itself, which has no condition, and for
-/// the removal of a folder, which is listed first.
+/// The condition is looked for by two calls `kind`, at the folder around the path and at the path, of a rename at both
+/// paths, and the root is its own folder. So the call is the third of three, but for `kind` itself, which has no condition,
+/// and for the removal of a folder, which is listed first.
 ///
 /// # Errors
 /// `Unreadable` where it is no call, and `OutOfMemory`.
@@ -55,7 +55,7 @@ fn spot_text(alloc: Global, disk: &mut MemoryDisk, call: &str, at: &Text) -> Res
 
 // The path of the folder around a path; the root is its own.
 fn folder_around(path: &Path) -> Result<Path, Trouble> {
-    Ok(path.prefix(path.names().len().saturating_sub(1))?)
+    Ok(path.prefix(path.depth().saturating_sub(1))?)
 }
 
 fn done_text(alloc: Global, done: Result<bool, Failed>) -> Result<Text, Trouble> {
@@ -380,7 +380,7 @@ fn is_empty<D: Disk>(alloc: Global, disk: &mut D, dir: &Path) -> Result<bool, Li
     requires { MayList (D.state disk.old) dir.now }
     ensures { IfOk result (λ empty. IsTrue empty → MayCall (remove dir.now) (D.state disk.new)) }
 {
-    if dir.names().is_empty() {
+    if dir.is_root() {
         return Ok(false);
     }
     let names = disk.list(alloc, dir)?;

@@ -10,8 +10,8 @@ use ext_io::Calls;
 use ext_text::{Text, Words};
 use std::alloc::Global;
 
-/// What a store tells: of a command its tree and a check of its files, of a change what it stands for; how the change ends
-/// there; and then the first again.
+/// What a store tells. First it tells of a command its tree and a check of its files, and of a change what it stands for.
+/// Then comes how the change ends there, and then the first again.
 #[derive(Debug, Drop)]
 pub(crate) struct Told {
     before: Vec<Outcome>,
@@ -116,7 +116,7 @@ pub(crate) fn prepared(
 /// The ends of a change.
 ///
 /// # Errors
-/// `Unreadable` where an act is not done, or the ends can't be told apart; and `OutOfMemory`.
+/// `Unreadable` where an act is not done, or the ends can't be told apart, and `OutOfMemory`.
 pub(crate) fn ends_of(
     alloc: Global,
     acts: &[Act],

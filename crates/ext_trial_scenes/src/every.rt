@@ -192,8 +192,8 @@ pub(crate) enum Stream {
     Sink,
 }
 
-/// Lets each call of a stream fail alone that a command makes. It ends with a fault of that stream; it has written nothing where
-/// a read failed, and a proper prefix where a write did. Writes how many calls there are, and those where it does not.
+/// Lets each call of a stream fail alone that a command makes. It ends with a fault of that stream. It has written nothing
+/// where a read failed, and a proper prefix where a write did. Writes how many calls there are, and those where it does not.
 ///
 /// # Errors
 /// `Unreadable` where the command makes too many calls, and `OutOfMemory`.

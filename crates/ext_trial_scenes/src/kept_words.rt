@@ -7,8 +7,9 @@ use ext_depot::{Depot, MemoryDepot};
 use ext_disk::{Disk, MemoryDisk};
 use ext_host::{Held, Home, Shelf, ShelfErr, stamp_of};
 use ext_io::Failed;
-use ext_store::{
-    CompareErr, CopyErr, GenShelf, copy_from_depot, file, is_same_as_kept, piece, verify,
+use ext_store_files::{
+    CompareErr, CopyErr, GenShelf, StoreFault, copy_from_depot, file, is_same_as_kept, piece,
+    verify,
 };
 use ext_text::{Name, Path, Text};
 use ext_tree::Stamp;
@@ -120,9 +121,11 @@ fn compare_err(alloc: Global, refused: &CompareErr) -> Result<Text, Trouble> {
     match refused {
         CompareErr::Mismatch { .. } => line_of(alloc, "mismatch"),
         CompareErr::NotInDepot => line_of(alloc, "not in the depot"),
-        CompareErr::Damaged { .. } => line_of(alloc, "damaged"),
-        CompareErr::OutOfMemory => Err(Trouble::OutOfMemory),
-        CompareErr::DiskFault | CompareErr::DepotFault => line_of(alloc, "a fault"),
+        CompareErr::Fault(StoreFault::Damaged(_)) => line_of(alloc, "damaged"),
+        CompareErr::Fault(StoreFault::OutOfMemory) => Err(Trouble::OutOfMemory),
+        CompareErr::Fault(StoreFault::DiskFault | StoreFault::DepotFault) => {
+            line_of(alloc, "a fault")
+        }
     }
 }
 
@@ -160,7 +163,7 @@ fn append_given(
     match given {
         Ok(bytes) if bytes.bytes() == listed.bytes() => text.append(b" given\n")?,
         Ok(_) => text.append(b" other\n")?,
-        Err(ShelfErr::Damaged { .. }) => text.append(b" damaged\n")?,
+        Err(ShelfErr::Damaged(_)) => text.append(b" damaged\n")?,
         Err(_) => text.append(b" fault\n")?,
     }
     Ok(())
@@ -169,7 +172,7 @@ fn append_given(
 fn append_verified(text: &mut Text, verified: Result<(), ShelfErr>) -> Result<(), Trouble> {
     match verified {
         Ok(()) => text.append(b"verified\n")?,
-        Err(ShelfErr::Damaged { .. }) => text.append(b"damaged\n")?,
+        Err(ShelfErr::Damaged(_)) => text.append(b"damaged\n")?,
         Err(_) => text.append(b"fault\n")?,
     }
     Ok(())

@@ -10,18 +10,18 @@ pub(crate) fn call_laws() {
     ext_disk::laws::fixed_paths_stay();
     ext_homes::laws::a_brought_file_takes_the_least_home_of_its_bytes();
     ext_homes::laws::a_host_is_placed_in_one_way();
-    ext_store::laws::a_name_is_of_one_generation();
-    ext_store::laws::left_overs();
-    ext_store::laws::worked_rows();
+    ext_store_files::laws::a_name_is_of_one_generation();
+    ext_store_files::laws::left_overs();
+    ext_store_files::laws::worked_rows();
     ext_gen::laws::a_store_points_to_one_generation();
     ext_gen::laws::a_broken_store_points_to_nothing();
     ext_gen::laws::a_broken_store_is_broken_in_one_line();
     ext_gen::laws::a_store_stands_for_one_generation();
     ext_gen::laws::an_empty_disk_stands_for_none();
-    ext_gen::laws::firm_stores_are_sound();
+    ext_gen::laws::durable_stores_are_sound();
     ext_gen::laws::a_stop_leaves_a_state();
-    ext_gen::laws::a_settled_store_is_firm();
-    ext_gen::laws::a_fixed_store_is_firm();
+    ext_gen::laws::a_synced_store_is_durable();
+    ext_gen::laws::a_fixed_store_is_durable();
     ext_top::laws::one_reply();
     ext_top::laws::compare_is_done();
 }

@@ -4,7 +4,7 @@ use crate::outcome::append_field;
 use crate::placing::{below, told};
 use ext_case::{Trouble, append_line, append_number, append_path, append_str, line_of, path};
 use ext_disk::{Disk, DiskCall, DiskOp, Kind, MemoryDisk};
-use ext_store::{Found, read_file, store_folder};
+use ext_store_files::{Found, read_file, store_folder};
 use ext_text::{Name, Path, Text};
 use std::alloc::Global;
 
@@ -44,7 +44,7 @@ pub(crate) fn append_kind(
     }
 }
 
-/// The bytes of a file of at most so many bytes; or a line that says why there are none.
+/// The bytes of a file of at most so many bytes, or a line that says why there are none.
 ///
 /// # Errors
 /// `OutOfMemory`.
@@ -107,7 +107,7 @@ fn push_below(dir: &Path, names: &[Name], left: &mut Vec<Path>) -> Result<(), Tr
 }
 
 fn append_folder(alloc: Global, text: &mut Text, path: &Path) -> Result<(), Trouble> {
-    if path.names().is_empty() {
+    if path.is_root() {
         return Ok(());
     }
     append_str(text, "folder ")?;
@@ -152,7 +152,7 @@ pub(crate) fn calls_text(alloc: Global, disk: &MemoryDisk, count: u64) -> Result
 
 fn append_call(alloc: Global, text: &mut Text, call: &DiskCall) -> Result<(), Trouble> {
     append_str(text, name_of(call.op))?;
-    if !call.path.names().is_empty() {
+    if !call.path.is_root() {
         append_str(text, " ")?;
         append_path(alloc, text, &call.path)?;
     }

@@ -1,6 +1,6 @@
 // How a command or a change ended.
 use ext_case::{Trouble, append_number, append_str};
-use ext_host::Home;
+use ext_host::Damage;
 use ext_text::Text;
 use ext_top::{BadStore, Status};
 use ext_tree::Stamp;
@@ -27,8 +27,8 @@ impl Outcome {
     }
 }
 
-/// A status as a statement states it: its number; of words that are no command, with the place of the fault; of a bad store,
-/// with what is wrong.
+/// A status as a statement states it: its number, of words that are no command with the place of the fault, and of a bad
+/// store with what is wrong.
 ///
 /// # Errors
 /// `OutOfMemory`.
@@ -49,13 +49,9 @@ fn append_bad_store(alloc: Global, text: &mut Text, bad: &BadStore) -> Result<()
             append_str(text, " broken")?;
             append_field(alloc, text, *line)
         }
-        BadStore::Damaged {
-            home,
-            listed,
-            found,
-        } => {
+        BadStore::Damaged(damage) => {
             append_str(text, " ")?;
-            append_damage(alloc, text, home, listed, found)
+            append_damage(alloc, text, damage)
         }
     }
 }
@@ -67,15 +63,13 @@ fn append_bad_store(alloc: Global, text: &mut Text, bad: &BadStore) -> Result<()
 pub(crate) fn append_damage(
     alloc: Global,
     text: &mut Text,
-    home: &Home,
-    listed: &Stamp,
-    found: &Option<Stamp>,
+    damage: &Damage,
 ) -> Result<(), Trouble> {
     append_str(text, "damaged")?;
-    append_field(alloc, text, u64::from(home.generation))?;
-    append_field(alloc, text, u64::from(home.file))?;
-    append_stamp(alloc, text, listed)?;
-    match found {
+    append_field(alloc, text, u64::from(damage.home.generation))?;
+    append_field(alloc, text, u64::from(damage.home.file))?;
+    append_stamp(alloc, text, &damage.listed)?;
+    match &damage.found {
         Some(stamp) => append_stamp(alloc, text, stamp),
         None => append_str(text, " -"),
     }

@@ -5,7 +5,7 @@ ghost use Rattle.ext_disk.specs.Calls.{make_file, MayCall};
 use ext_case::{Trouble, name, number_text, path};
 use ext_disk::{Disk, Kind, MemoryDisk};
 use ext_io::Failed;
-use ext_store::{make_folder, settle_folder, write_file};
+use ext_store_files::{make_folder, sync_folder, write_file};
 use ext_text::{Name, Path, Text};
 use std::alloc::Global;
 
@@ -64,7 +64,7 @@ pub(crate) fn is_free<D: Disk>(
 /// Makes a folder where nothing stands.
 ///
 /// # Errors
-/// `Unreadable` where something does, or the disk fails; and `OutOfMemory`.
+/// `Unreadable` where something does, or the disk fails, and `OutOfMemory`.
 pub(crate) fn put_folder(alloc: Global, disk: &mut MemoryDisk, at: &Text) -> Result<(), Trouble> {
     let (dir, name) = cut(alloc, at.bytes())?;
     let path = below(&dir, &name)?;
@@ -95,10 +95,10 @@ fn placed(outcome: Result<bool, Failed>) -> Result<(), Trouble> {
     }
 }
 
-/// Makes a file of these bytes where nothing stands, and settles them.
+/// Makes a file of these bytes where nothing stands, and syncs them.
 ///
 /// # Errors
-/// `Unreadable` where something does, or the disk fails; and `OutOfMemory`.
+/// `Unreadable` where something does, or the disk fails, and `OutOfMemory`.
 pub(crate) fn put_file(
     alloc: Global,
     disk: &mut MemoryDisk,
@@ -129,7 +129,7 @@ fn file_where_free<D: Disk>(
 /// Makes so many empty files in a folder, whose names are numbers from 0 on.
 ///
 /// # Errors
-/// `Unreadable` where something stands at one of them, or the disk fails; and `OutOfMemory`.
+/// `Unreadable` where something stands at one of them, or the disk fails, and `OutOfMemory`.
 pub(crate) fn put_files(
     alloc: Global,
     disk: &mut MemoryDisk,
@@ -165,18 +165,18 @@ fn empty_where_free<D: Disk>(
     Ok(true)
 }
 
-/// Settles the names in a folder, if one is there.
+/// Syncs the names in a folder, if one is there.
 ///
 /// # Errors
 /// `Unreadable` where the disk fails, and `OutOfMemory`.
-pub(crate) fn settle(alloc: Global, disk: &mut MemoryDisk, dir: &Text) -> Result<(), Trouble> {
+pub(crate) fn sync(alloc: Global, disk: &mut MemoryDisk, dir: &Text) -> Result<(), Trouble> {
     let dir = path(alloc, dir)?;
-    told(settle_there(disk, &dir))
+    told(sync_there(disk, &dir))
 }
 
-fn settle_there<D: Disk>(disk: &mut D, dir: &Path) -> Result<(), Failed> {
+fn sync_there<D: Disk>(disk: &mut D, dir: &Path) -> Result<(), Failed> {
     match disk.kind(dir)? {
-        Some(Kind::Dir) => settle_folder(disk, dir),
+        Some(Kind::Dir) => sync_folder(disk, dir),
         Some(Kind::File(_)) | None => Ok(()),
     }
 }

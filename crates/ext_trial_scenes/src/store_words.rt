@@ -3,7 +3,7 @@ use ext_case::{
     Trouble, append_line, append_path, line_of, number_line, one, one_and_more, small, two,
 };
 use ext_disk::MemoryDisk;
-use ext_store::{
+use ext_store_files::{
     CleanErr, current_path, generation_path, home_path, index_path, is_left_over, next_path,
     read_current, remove_left_overs, store_folder,
 };
@@ -47,25 +47,25 @@ fn append(alloc: Global, text: &mut Text, path: &Path) -> Result<(), Trouble> {
     append_line(text, b"")
 }
 
-// Generations that are spared.
-fn spared_of(alloc: Global, arguments: &[Text]) -> Result<BTreeSet<u32>, Trouble> {
-    let mut spared = BTreeSet::new(alloc);
+// Generations that are needed.
+fn needed_of(alloc: Global, arguments: &[Text]) -> Result<BTreeSet<u32>, Trouble> {
+    let mut needed = BTreeSet::new(alloc);
     for argument in arguments {
-        spared.insert(small(argument)?)?;
+        needed.insert(small(argument)?)?;
     }
-    Ok(spared)
+    Ok(needed)
 }
 
-/// Whether a name is one of a left-over where these generations are spared.
+/// Whether a name is one of a left-over where these generations are needed.
 ///
 /// # Errors
 /// `Unreadable` where these are none, and `OutOfMemory`.
 pub(crate) fn left_over_text(alloc: Global, arguments: &[Text]) -> Result<Text, Trouble> {
-    let (name, spared) = one_and_more(arguments)?;
-    let spared = spared_of(alloc, spared)?;
+    let (name, needed) = one_and_more(arguments)?;
+    let needed = needed_of(alloc, needed)?;
     line_of(
         alloc,
-        if is_left_over(name.bytes(), &spared) {
+        if is_left_over(name.bytes(), &needed) {
             "yes"
         } else {
             "no"
@@ -73,7 +73,7 @@ pub(crate) fn left_over_text(alloc: Global, arguments: &[Text]) -> Result<Text, 
     )
 }
 
-/// Removes the left-overs where these generations are spared; writes nothing, or why it did not.
+/// Removes the left-overs where these generations are needed, and writes nothing, or why it did not.
 ///
 /// # Errors
 /// `Unreadable` where these are none, and `OutOfMemory`.
@@ -82,8 +82,8 @@ pub(crate) fn clean(
     disk: &mut MemoryDisk,
     arguments: &[Text],
 ) -> Result<Text, Trouble> {
-    let spared = spared_of(alloc, arguments)?;
-    match remove_left_overs(alloc, disk, &spared) {
+    let needed = needed_of(alloc, arguments)?;
+    match remove_left_overs(alloc, disk, &needed) {
         Ok(()) => Ok(Text::new(alloc)),
         Err(CleanErr::OutOfMemory) => Err(Trouble::OutOfMemory),
         Err(CleanErr::DiskFault) => line_of(alloc, "a fault"),

@@ -1,4 +1,5 @@
 // Words that change a tree and write what it is afterwards.
+use crate::paths::sorted_paths;
 use crate::replies::{tree, tree_refusal};
 use ext_case::{Trouble, append_line, one_and_more, path, three, two};
 use ext_text::{Mode, Text};
@@ -11,7 +12,7 @@ const MODE: u16 = 0o755;
 /// `tree insert TREE PATH..`: a directory is put at each path in turn. A line for each that is refused, and then the tree.
 ///
 /// # Errors
-/// `Unreadable` where the arguments are none of these; `OutOfMemory`.
+/// `Unreadable` where the arguments are none of these, and `OutOfMemory`.
 pub(crate) fn insert(alloc: Global, rest: &[Text]) -> Result<Text, Trouble> {
     let (text, paths) = one_and_more(rest)?;
     let mut tree = tree(alloc, text)?;
@@ -70,5 +71,16 @@ pub(crate) fn cut(alloc: Global, rest: &[Text]) -> Result<Text, Trouble> {
     let (text, at) = two(rest)?;
     let mut without = tree(alloc, text)?.copy()?;
     without.cut(&path(alloc, at)?);
+    Ok(write_tree(alloc, &without)?)
+}
+
+/// `tree cut-all TREE PATH..`: a copy of the tree without what stands at and below the paths.
+///
+/// # Errors
+/// As for [`insert`].
+pub(crate) fn cut_all(alloc: Global, rest: &[Text]) -> Result<Text, Trouble> {
+    let (text, paths) = one_and_more(rest)?;
+    let mut without = tree(alloc, text)?.copy()?;
+    without.cut_all(&sorted_paths(alloc, paths)?);
     Ok(write_tree(alloc, &without)?)
 }

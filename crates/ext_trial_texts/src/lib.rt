@@ -33,7 +33,7 @@ use std::alloc::Global;
 /// is asked, as `read` in `name read a`: it is the first argument.
 ///
 /// # Errors
-/// `Unreadable` where the arguments are no arguments of the word; `OutOfMemory`.
+/// `Unreadable` where the arguments are no arguments of the word, and `OutOfMemory`.
 pub fn answer(alloc: Global, word: &str, arguments: &[Text]) -> Result<Option<Text>, Trouble> {
     match arguments {
         [asked, rest @ ..] => reply(alloc, word, asked.bytes(), rest),

@@ -1,9 +1,10 @@
 // The words `split`, `line`, `blanks`, `word` and `plain`: texts are split into lines and words.
-use crate::replies::{bytes_line, two_lines, two_lines_or_none, yes_or_no};
+use crate::replies::{bytes_line, line_or_none, two_lines, two_lines_or_none, yes_or_no};
 use ext_case::{Trouble, one, string, two};
 use ext_lines::{
-    has_word, is_plain, next_line, next_word, plain_text, plain_text_with_tabs, split_at_byte,
-    split_str_at_byte, strip_carriage_return, trimmed,
+    after_blanks, before_blanks, before_last, begins_with, has_word, is_plain, next_line,
+    next_text_line, next_word, plain_text, plain_text_with_tabs, split_at_byte, split_str_at_byte,
+    strip_carriage_return, trimmed, trimmed_str,
 };
 use ext_text::Text;
 use std::alloc::Global;
@@ -11,7 +12,7 @@ use std::alloc::Global;
 /// What a word of this file writes.
 ///
 /// # Errors
-/// `Unreadable` where the arguments are no arguments of the word; `OutOfMemory`.
+/// `Unreadable` where the arguments are no arguments of the word, and `OutOfMemory`.
 pub(crate) fn reply(
     alloc: Global,
     word: &str,
@@ -21,9 +22,12 @@ pub(crate) fn reply(
     match (word, asked) {
         ("split", b"bytes") => Ok(Some(split_bytes(alloc, rest)?)),
         ("split", b"text") => Ok(Some(split_text(alloc, rest)?)),
+        ("split", b"last") => Ok(Some(split_last(alloc, rest)?)),
         ("line", b"next") => Ok(Some(first_line(alloc, rest)?)),
+        ("line", b"text") => Ok(Some(first_text_line(alloc, rest)?)),
+        ("line", b"begins") => Ok(Some(begins(alloc, rest)?)),
         ("line", b"strip") => Ok(Some(strip(alloc, rest)?)),
-        ("blanks", b"trim") => Ok(Some(trim(alloc, rest)?)),
+        ("blanks", _) => without_blanks(alloc, asked, rest),
         ("word", b"next") => Ok(Some(first_word(alloc, rest)?)),
         ("word", b"has") => Ok(Some(has(alloc, rest)?)),
         ("plain", _) => is_plain_as(alloc, asked, rest),
@@ -43,6 +47,12 @@ fn byte(argument: &Text) -> Result<u8, Trouble> {
 fn split_bytes(alloc: Global, rest: &[Text]) -> Result<Text, Trouble> {
     let (at, text) = two(rest)?;
     two_lines_or_none(alloc, split_at_byte(text.bytes(), byte(at)?))
+}
+
+// `split last BYTE TEXT`: what stands before the last byte, where it is this one.
+fn split_last(alloc: Global, rest: &[Text]) -> Result<Text, Trouble> {
+    let (at, text) = two(rest)?;
+    line_or_none(alloc, before_last(text.bytes(), byte(at)?))
 }
 
 // `split text BYTE TEXT`: the same of text, at a byte of ASCII.
@@ -66,14 +76,33 @@ fn first_line(alloc: Global, rest: &[Text]) -> Result<Text, Trouble> {
     }
 }
 
+// `line text TEXT`: the first line of a text whose last line may lack its newline, and the text after it.
+fn first_text_line(alloc: Global, rest: &[Text]) -> Result<Text, Trouble> {
+    two_lines_or_none(alloc, next_text_line(one(rest)?.bytes()))
+}
+
+// `line begins TEXT PREFIX`: whether the text begins so.
+fn begins(alloc: Global, rest: &[Text]) -> Result<Text, Trouble> {
+    let (text, prefix) = two(rest)?;
+    yes_or_no(alloc, begins_with(text.bytes(), prefix.bytes()))
+}
+
 // `line strip LINE`: the line without one carriage return at its end.
 fn strip(alloc: Global, rest: &[Text]) -> Result<Text, Trouble> {
     bytes_line(alloc, strip_carriage_return(one(rest)?.bytes()))
 }
 
-// `blanks trim TEXT`: the text without the blanks at both ends.
-fn trim(alloc: Global, rest: &[Text]) -> Result<Text, Trouble> {
-    bytes_line(alloc, trimmed(string(one(rest)?)?).as_bytes())
+// `blanks trim TEXT`, `blanks bytes|first|last BYTES`: the text, and bytes, without the blanks at both ends, and bytes
+// without those that they begin with and those at their end.
+fn without_blanks(alloc: Global, asked: &[u8], rest: &[Text]) -> Result<Option<Text>, Trouble> {
+    let text = one(rest)?;
+    match asked {
+        b"trim" => Ok(Some(bytes_line(alloc, trimmed_str(string(text)?).as_bytes())?)),
+        b"bytes" => Ok(Some(bytes_line(alloc, trimmed(text.bytes()))?)),
+        b"first" => Ok(Some(bytes_line(alloc, after_blanks(text.bytes()))?)),
+        b"last" => Ok(Some(bytes_line(alloc, before_blanks(text.bytes()))?)),
+        _ => Ok(None),
+    }
 }
 
 // `word next TEXT`: the first word, and the text after it.

@@ -8,7 +8,7 @@ use std::hash::{Hash, Hasher};
 /// What a word of this file writes.
 ///
 /// # Errors
-/// `Unreadable` where the arguments are no arguments of the word; `OutOfMemory`.
+/// `Unreadable` where the arguments are no arguments of the word, and `OutOfMemory`.
 pub(crate) fn reply(
     alloc: Global,
     word: &str,

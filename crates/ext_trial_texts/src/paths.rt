@@ -1,13 +1,15 @@
 // The word `path`: paths are read, lengthened, cut and compared.
 use crate::replies::{append_where, count_line, names_line, order_word, path_refusal};
-use ext_case::{Trouble, line_of, name, none, one, path, path_line, size, two};
-use ext_text::{Path, PathErr, Text};
+use ext_case::{
+    Trouble, append_path, line_of, name, none, one, one_and_more, path, path_line, size, two,
+};
+use ext_text::{Path, PathErr, SortedPaths, Text};
 use std::alloc::Global;
 
 /// What the word writes.
 ///
 /// # Errors
-/// `Unreadable` where the arguments are no arguments of the word; `OutOfMemory`.
+/// `Unreadable` where the arguments are no arguments of the word, and `OutOfMemory`.
 pub(crate) fn reply(alloc: Global, asked: &[u8], rest: &[Text]) -> Result<Option<Text>, Trouble> {
     match asked {
         b"read" => Ok(Some(read(alloc, rest)?)),
@@ -17,6 +19,9 @@ pub(crate) fn reply(alloc: Global, asked: &[u8], rest: &[Text]) -> Result<Option
         b"parent" => Ok(Some(parent(alloc, rest)?)),
         b"prefix" => Ok(Some(prefix(alloc, rest)?)),
         b"compare" => Ok(Some(compare(alloc, rest)?)),
+        b"absolute" => Ok(Some(absolute(alloc, rest)?)),
+        b"sorted" => Ok(Some(sorted(alloc, rest)?)),
+        b"among" => Ok(Some(among(alloc, rest)?)),
         _ => Ok(None),
     }
 }
@@ -31,13 +36,13 @@ fn read(alloc: Global, rest: &[Text]) -> Result<Text, Trouble> {
 
 // How many names a path has.
 fn depth(alloc: Global, path: &Path) -> Result<Text, Trouble> {
-    count_line(alloc, "names", path.names().len() as u64)
+    count_line(alloc, "names", path.depth() as u64)
 }
 
 // `path root`: how many names the path of no names has.
 fn root(alloc: Global, rest: &[Text]) -> Result<Text, Trouble> {
     none(rest)?;
-    depth(alloc, &Path::from_names(Vec::new(alloc)))
+    depth(alloc, &Path::root(alloc))
 }
 
 // `path child PATH NAME`: the path of a name below a path.
@@ -65,7 +70,7 @@ fn longer(alloc: Global, path: Result<Path, PathErr>) -> Result<Text, Trouble> {
 // `path parent PATH`: all names but the last.
 fn parent(alloc: Global, rest: &[Text]) -> Result<Text, Trouble> {
     let path = path(alloc, one(rest)?)?;
-    names_line(alloc, path.parent())
+    names_line(alloc, &path.parent())
 }
 
 // `path prefix PATH COUNT`: the path of the first names.
@@ -93,4 +98,49 @@ fn relations(alloc: Global, path: &Path, other: &Path) -> Result<Text, Trouble> 
     append_where(&mut text, path.is_related(other), b" related")?;
     text.append(b"\n")?;
     Ok(text)
+}
+
+// `path absolute PATH`: the path as it is written for a reader.
+fn absolute(alloc: Global, rest: &[Text]) -> Result<Text, Trouble> {
+    let mut text = Vec::new(alloc);
+    path(alloc, one(rest)?)?.append_absolute(&mut text)?;
+    text.push(b'\n')?;
+    Ok(Text::from_vec(text))
+}
+
+// `path sorted PATH..`: the paths in path order, each once, each on a line.
+fn sorted(alloc: Global, rest: &[Text]) -> Result<Text, Trouble> {
+    let mut text = Text::new(alloc);
+    for path in sorted_paths(alloc, rest)?.into_vec() {
+        append_path(alloc, &mut text, &path)?;
+        text.append(b"\n")?;
+    }
+    Ok(text)
+}
+
+// `path among PATH PATH..`: whether the first path is one of the others, is covered by one, has one at or below it, and is
+// related to one.
+fn among(alloc: Global, rest: &[Text]) -> Result<Text, Trouble> {
+    let (first, others) = one_and_more(rest)?;
+    let first = path(alloc, first)?;
+    let paths = sorted_paths(alloc, others)?;
+    let mut text = Text::from_bytes(alloc, b"paths")?;
+    append_where(&mut text, paths.has(&first.names()), b" has")?;
+    append_where(&mut text, paths.covers(&first.names()), b" covers")?;
+    append_where(&mut text, paths.has_below(&first.names()), b" below")?;
+    append_where(&mut text, paths.meets(&first.names()), b" meets")?;
+    text.append(b"\n")?;
+    Ok(text)
+}
+
+/// The paths of arguments, in path order, each once.
+///
+/// # Errors
+/// `Unreadable` where an argument is no path, and `OutOfMemory`.
+pub(crate) fn sorted_paths(alloc: Global, rest: &[Text]) -> Result<SortedPaths, Trouble> {
+    let mut paths = Vec::new(alloc);
+    for argument in rest {
+        paths.push(path(alloc, argument)?)?;
+    }
+    Ok(SortedPaths::of(paths))
 }

@@ -3,13 +3,13 @@ use crate::replies::{fault_line, line_or_none, yes_or_no};
 use ext_case::{Trouble, append_line, five, line_of, one, string, three, two};
 use ext_match::{Verdict, judge};
 use ext_release::{Release, ReleaseErr, read_release};
-use ext_text::{Arch, Class, Lines, Scope, Text};
+use ext_text::{Arch, Class, Extension, Lines, Scope, Text};
 use std::alloc::Global;
 
 /// What a word of this file writes.
 ///
 /// # Errors
-/// `Unreadable` where the arguments are no arguments of the word; `OutOfMemory`.
+/// `Unreadable` where the arguments are no arguments of the word, and `OutOfMemory`.
 pub(crate) fn reply(
     alloc: Global,
     word: &str,
@@ -81,29 +81,19 @@ fn has(alloc: Global, rest: &[Text]) -> Result<Text, Trouble> {
 // `verdict of|forced CLASS SCOPE ARCH HOST EXTENSION`: the verdict on the extension of that release file.
 fn verdict(alloc: Global, rest: &[Text], force: bool) -> Result<Text, Trouble> {
     let (class, scope, arch, host, extension) = five(rest)?;
-    let kind = (class_of(class)?, scope_of(scope)?, arch_of(arch)?);
+    let (class, scope, arch) = (extension_of(class)?, scope_of(scope)?, arch_of(arch)?);
     let host = release(alloc, host)?;
     let extension = release(alloc, extension)?;
-    line_of(alloc, verdict_word(judged(&host, &extension, kind, force)?))
+    let verdict = judge(&host, &extension, class, scope, arch, force);
+    line_of(alloc, verdict_word(verdict))
 }
 
-// The verdict, where images of the class extend a host.
-fn judged(
-    host: &Release,
-    extension: &Release,
-    kind: (Class, Scope, Arch),
-    force: bool,
-) -> Result<Verdict, Trouble> {
-    let (class, scope, arch) = kind;
-    match class {
-        Class::Sysext => Ok(judge(host, extension, Class::Sysext, scope, arch, force)),
-        Class::Confext => Ok(judge(host, extension, Class::Confext, scope, arch, force)),
-        Class::Portable => Err(Trouble::Unreadable("not a class of extensions")),
+fn extension_of(argument: &Text) -> Result<Extension, Trouble> {
+    match Class::read(argument.bytes()) {
+        Some(Class::Sysext) => Ok(Extension::Sysext),
+        Some(Class::Confext) => Ok(Extension::Confext),
+        Some(Class::Portable) | None => Err(Trouble::Unreadable("not a class of extensions")),
     }
-}
-
-fn class_of(argument: &Text) -> Result<Class, Trouble> {
-    Class::read(argument.bytes()).ok_or(Trouble::Unreadable("not a class"))
 }
 
 fn scope_of(argument: &Text) -> Result<Scope, Trouble> {

@@ -1,6 +1,6 @@
 // What words have in common: answers of yes or no, orders, refusals and counts as text.
 use ext_case::{Trouble, append_line, append_number, line_of};
-use ext_text::{Name, PathErr, Text};
+use ext_text::{PathErr, PathRef, Text};
 use ext_tree::{Stamp, Tree, TreeErr, TreeTextErr, read_tree};
 use std::alloc::Global;
 use std::cmp::Ordering;
@@ -102,22 +102,10 @@ pub(crate) fn order_word(order: Ordering) -> &'static str {
 ///
 /// # Errors
 /// `OutOfMemory`.
-pub(crate) fn names_line(alloc: Global, names: &[Name]) -> Result<Text, Trouble> {
-    let mut text = Text::new(alloc);
-    for name in names {
-        append_name(&mut text, name)?;
-    }
+pub(crate) fn names_line(alloc: Global, names: &PathRef) -> Result<Text, Trouble> {
+    let mut text = Text::from_bytes(alloc, names.text())?;
     text.append(b"\n")?;
     Ok(text)
-}
-
-// Adds a name, after a slash where one stands before it.
-fn append_name(text: &mut Text, name: &Name) -> Result<(), Trouble> {
-    if !text.bytes().is_empty() {
-        text.append(b"/")?;
-    }
-    text.append(name.bytes())?;
-    Ok(())
 }
 
 /// Why there is no such path.

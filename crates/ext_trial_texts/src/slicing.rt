@@ -8,11 +8,11 @@ use std::alloc::Global;
 /// `tree below TREE PATH`: the entries below a path.
 ///
 /// # Errors
-/// `Unreadable` where the arguments are none of these; `OutOfMemory`.
+/// `Unreadable` where the arguments are none of these, and `OutOfMemory`.
 pub(crate) fn below(alloc: Global, rest: &[Text]) -> Result<Text, Trouble> {
     let (text, at) = two(rest)?;
     let tree = tree(alloc, text)?;
-    entries_line(alloc, tree.below(path(alloc, at)?.names()))
+    entries_line(alloc, tree.below(&path(alloc, at)?.names()))
 }
 
 /// `tree named TREE PATH START`: the entries at and below those names of a directory that begin so.
@@ -22,7 +22,7 @@ pub(crate) fn below(alloc: Global, rest: &[Text]) -> Result<Text, Trouble> {
 pub(crate) fn named(alloc: Global, rest: &[Text]) -> Result<Text, Trouble> {
     let (text, at, start) = three(rest)?;
     let tree = tree(alloc, text)?;
-    entries_line(alloc, tree.named(path(alloc, at)?.names(), start.bytes()))
+    entries_line(alloc, tree.named(&path(alloc, at)?.names(), start.bytes()))
 }
 
 /// `tree after TREE PATH START FROM`: those of them after the path FROM and what is below it.
@@ -34,8 +34,8 @@ pub(crate) fn after_of(alloc: Global, rest: &[Text]) -> Result<Text, Trouble> {
     let tree = tree(alloc, text)?;
     let at = path(alloc, at)?;
     let from = path(alloc, from)?;
-    let named = tree.named(at.names(), start.bytes());
-    entries_line(alloc, after(named, from.names()))
+    let named = tree.named(&at.names(), start.bytes());
+    entries_line(alloc, after(named, &from.names()))
 }
 
 // How many entries these are, and the path of the first of them.
@@ -63,7 +63,7 @@ fn from_first(alloc: Global, count: u64, first: &Path) -> Result<Text, Trouble> 
 pub(crate) fn child(alloc: Global, rest: &[Text]) -> Result<Text, Trouble> {
     let (text, at, name) = three(rest)?;
     let tree = tree(alloc, text)?;
-    match tree.child(path(alloc, at)?.names(), name.bytes()) {
+    match tree.child(&path(alloc, at)?.names(), name.bytes()) {
         Some((path, _entry)) => path_line(alloc, path),
         None => line_of(alloc, "nothing"),
     }
@@ -76,5 +76,5 @@ pub(crate) fn child(alloc: Global, rest: &[Text]) -> Result<Text, Trouble> {
 pub(crate) fn is_directory(alloc: Global, rest: &[Text]) -> Result<Text, Trouble> {
     let (text, at) = two(rest)?;
     let tree = tree(alloc, text)?;
-    yes_or_no(alloc, tree.is_directory_or_root(path(alloc, at)?.names()))
+    yes_or_no(alloc, tree.is_directory_or_root(&path(alloc, at)?.names()))
 }

@@ -13,7 +13,7 @@ use std::alloc::Global;
 /// What a word of this file writes.
 ///
 /// # Errors
-/// `Unreadable` where the arguments are no arguments of the word; `OutOfMemory`.
+/// `Unreadable` where the arguments are no arguments of the word, and `OutOfMemory`.
 pub(crate) fn reply(
     alloc: Global,
     word: &str,

@@ -1,7 +1,7 @@
 // The words `entry` and `trees`: lines of entries, and sequences of tree texts.
 use crate::replies::{concatenated, count_line, fault_line};
 use ext_case::{Trouble, line_of, path_line};
-use ext_lines::{append_decimal, append_octal, grown};
+use ext_lines::{allocated, append_decimal, append_octal};
 use ext_text::{Mode, Path, Text};
 use ext_tree::{Entry, Stamp, TreeTextErr, append_line, entry_of_line, read_tree, read_trees};
 use std::alloc::Global;
@@ -9,7 +9,7 @@ use std::alloc::Global;
 /// What a word of this file writes.
 ///
 /// # Errors
-/// `Unreadable` where the arguments are no arguments of the word; `OutOfMemory`.
+/// `Unreadable` where the arguments are no arguments of the word, and `OutOfMemory`.
 pub(crate) fn reply(
     alloc: Global,
     word: &str,
@@ -76,7 +76,7 @@ fn append_mode(text: &mut Vec<u8>, word: &[u8], mode: Mode) -> Result<(), Troubl
 // Adds a file's mode, its size and its digest.
 fn append_file(text: &mut Vec<u8>, mode: Mode, stamp: &Stamp) -> Result<(), Trouble> {
     append_mode(text, b"file ", mode)?;
-    grown(text.push(b' '))?;
+    allocated(text.push(b' '))?;
     append_decimal(text, stamp.size)?;
     append_both(text, b" ", &stamp.digest.digits())
 }

@@ -1,5 +1,5 @@
 // The word `tree`: trees are written, asked and looked through.
-use crate::changing::{cut, graft, insert};
+use crate::changing::{cut, cut_all, graft, insert};
 use crate::replies::{append_where, count_line, tree, tree_refusal, yes_or_no};
 use crate::slicing::{after_of, below, child, is_directory, named};
 use crate::tree_texts::read_one;
@@ -11,7 +11,7 @@ use std::alloc::Global;
 /// What the word writes.
 ///
 /// # Errors
-/// `Unreadable` where the arguments are no arguments of the word; `OutOfMemory`.
+/// `Unreadable` where the arguments are no arguments of the word, and `OutOfMemory`.
 pub(crate) fn reply(alloc: Global, asked: &[u8], rest: &[Text]) -> Result<Option<Text>, Trouble> {
     match asked {
         b"read" => Ok(Some(read_one(alloc, rest)?)),
@@ -32,6 +32,7 @@ fn reply_of_parts(alloc: Global, asked: &[u8], rest: &[Text]) -> Result<Option<T
         b"insert" => Ok(Some(insert(alloc, rest)?)),
         b"graft" => Ok(Some(graft(alloc, rest)?)),
         b"cut" => Ok(Some(cut(alloc, rest)?)),
+        b"cut-all" => Ok(Some(cut_all(alloc, rest)?)),
         b"part" => Ok(Some(part(alloc, rest)?)),
         b"below" => Ok(Some(below(alloc, rest)?)),
         b"named" => Ok(Some(named(alloc, rest)?)),

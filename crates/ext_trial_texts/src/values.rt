@@ -1,7 +1,7 @@
 // The words `digest`, `mode`, `arch`, `scope`, `class` and `memory`: values that are read from their text and written.
 use crate::replies::{bytes_line, yes_or_no};
 use ext_case::{Trouble, append_line, line_of, none, one};
-use ext_lines::{append_octal, grown, read_octal};
+use ext_lines::{allocated, append_octal, read_octal};
 use ext_text::{Arch, Class, Digest, Mode, OutOfMemory, Scope, Text};
 use ext_tree::TreeErr;
 use std::alloc::Global;
@@ -12,7 +12,7 @@ const MOST_DIGITS: usize = 4;
 /// What a word of this file writes.
 ///
 /// # Errors
-/// `Unreadable` where the arguments are no arguments of the word; `OutOfMemory`.
+/// `Unreadable` where the arguments are no arguments of the word, and `OutOfMemory`.
 pub(crate) fn reply(
     alloc: Global,
     word: &str,
@@ -59,7 +59,7 @@ fn mode_line(alloc: Global, mode: Option<Mode>) -> Result<Text, Trouble> {
     let Some(mode) = mode else {
         return line_of(alloc, "none");
     };
-    let mut digits = grown(Vec::with_capacity(alloc, MOST_DIGITS))?;
+    let mut digits = allocated(Vec::with_capacity(alloc, MOST_DIGITS))?;
     append_octal(&mut digits, u64::from(mode.bits()))?;
     bytes_line(alloc, digits.as_slice())
 }

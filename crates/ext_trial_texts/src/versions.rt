@@ -1,22 +1,23 @@
 // The word `version`: versions are told from other texts and ordered.
 use crate::replies::{order_word, yes_or_no};
-use ext_case::{Trouble, line_of, one, two};
+use ext_case::{Trouble, append_line, line_of, one, two};
 use ext_lines::next_line;
 use ext_text::Text;
-use ext_vers::{compare, is_version, order};
+use ext_vers::{Version, compare, is_version, order};
 use std::alloc::Global;
 use std::cmp::Ordering;
 
 /// What the word writes.
 ///
 /// # Errors
-/// `Unreadable` where the arguments are no arguments of the word; `OutOfMemory`.
+/// `Unreadable` where the arguments are no arguments of the word, and `OutOfMemory`.
 pub(crate) fn reply(alloc: Global, asked: &[u8], rest: &[Text]) -> Result<Option<Text>, Trouble> {
     match asked {
         b"is" => Ok(Some(yes_or_no(alloc, is_version(one(rest)?.bytes()))?)),
         b"compare" => Ok(Some(by_tokens(alloc, rest)?)),
         b"order" => Ok(Some(by_bytes_too(alloc, rest)?)),
         b"ascending" => Ok(Some(ascending(alloc, rest)?)),
+        b"sorted" => Ok(Some(sorted(alloc, rest)?)),
         _ => Ok(None),
     }
 }
@@ -31,6 +32,26 @@ fn by_tokens(alloc: Global, rest: &[Text]) -> Result<Text, Trouble> {
 fn by_bytes_too(alloc: Global, rest: &[Text]) -> Result<Text, Trouble> {
     let (first, second) = two(rest)?;
     line_of(alloc, order_word(order(first.bytes(), second.bytes())))
+}
+
+// `version sorted TEXT..`: the texts in the order of versions, each once, each on a line.
+fn sorted(alloc: Global, rest: &[Text]) -> Result<Text, Trouble> {
+    let mut versions = Vec::new(alloc);
+    for argument in rest {
+        versions.push(Version::new(argument.copy()?))?;
+    }
+    versions.sort_unstable();
+    versions.dedup();
+    lines_of(alloc, versions)
+}
+
+// The texts of versions, each on a line.
+fn lines_of(alloc: Global, versions: Vec<Version>) -> Result<Text, Trouble> {
+    let mut text = Text::new(alloc);
+    for version in versions {
+        append_line(&mut text, version.copy()?.into_text().bytes())?;
+    }
+    Ok(text)
 }
 
 // `version ascending RUNGS..`: whether the texts of each line are below those of each later line, and those of one line,

@@ -1,14 +1,15 @@
 // The word `walk`: where paths and texts of names lead through the links of a tree.
 use crate::replies::{names_line, tree};
 use ext_case::{Trouble, line_of, path, three, two};
-use ext_text::{Name, Text};
+use ext_text::{Path, PathRef, Text};
+use ext_tree::{Stamp, Tree};
 use ext_walk::{end_of_path, end_of_text, resolve};
 use std::alloc::Global;
 
 /// What the word writes.
 ///
 /// # Errors
-/// `Unreadable` where the arguments are no arguments of the word; `OutOfMemory`.
+/// `Unreadable` where the arguments are no arguments of the word, and `OutOfMemory`.
 pub(crate) fn reply(alloc: Global, asked: &[u8], rest: &[Text]) -> Result<Option<Text>, Trouble> {
     match asked {
         b"text" => Ok(Some(along_text(alloc, rest)?)),
@@ -19,9 +20,9 @@ pub(crate) fn reply(alloc: Global, asked: &[u8], rest: &[Text]) -> Result<Option
 }
 
 // The path of an end, or `none`.
-fn end_line(alloc: Global, end: Option<&[Name]>) -> Result<Text, Trouble> {
+fn end_line(alloc: Global, end: Option<PathRef>) -> Result<Text, Trouble> {
     match end {
-        Some(names) => names_line(alloc, names),
+        Some(names) => names_line(alloc, &names),
         None => line_of(alloc, "none"),
     }
 }
@@ -31,9 +32,14 @@ fn along_text(alloc: Global, rest: &[Text]) -> Result<Text, Trouble> {
     let (host, image, text) = three(rest)?;
     let host = tree(alloc, host)?;
     let image = path(alloc, image)?;
+    text_end(alloc, &host, &image, text)
+}
+
+// The same of a tree, a path and a text that were read.
+fn text_end(alloc: Global, host: &Tree<Stamp>, image: &Path, text: &Text) -> Result<Text, Trouble> {
     end_line(
         alloc,
-        end_of_text(alloc, &host, image.names(), text.bytes())?,
+        end_of_text(alloc, host, &image.names(), text.bytes())?,
     )
 }
 
@@ -45,7 +51,7 @@ fn along_path(alloc: Global, rest: &[Text]) -> Result<Text, Trouble> {
     let along = path(alloc, along)?;
     end_line(
         alloc,
-        end_of_path(alloc, &host, image.names(), along.names())?,
+        end_of_path(alloc, &host, &image.names(), &along.names())?,
     )
 }
 
@@ -54,7 +60,7 @@ fn from_root(alloc: Global, rest: &[Text]) -> Result<Text, Trouble> {
     let (host, along) = two(rest)?;
     let host = tree(alloc, host)?;
     match resolve(alloc, &host, &path(alloc, along)?)? {
-        Some(end) => names_line(alloc, end.names()),
+        Some(end) => names_line(alloc, &end.names()),
         None => line_of(alloc, "none"),
     }
 }

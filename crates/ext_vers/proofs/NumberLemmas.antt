@@ -14,7 +14,7 @@ use Rattle.std.proofs.lemmas.Bool.{cases_lt, cases_Bool, eqb-true}
 use Rattle.std.proofs.lemmas.Bool.Decides.{nat_tests}
 use Rattle.std.proofs.lemmas.List.Elements.{All-head, All-tail}
 use Rattle.std.proofs.lemmas.Str.{digit_value_digit}
-use Rattle.ext_vers.specs.Token.{after}
+use Rattle.ext_vers.specs.Token.{bytes_after}
 
 -- each byte is one of `0` to `9`
 abbrev pub Digits : List ℕ → Type 0
@@ -91,7 +91,7 @@ same_length (x ∷ xs) (y ∷ ys) n dx dy e =
     ]
 
 -- a leading zero changes no number
-pub value_after_zeros : (xs : List ℕ) → digits_value 10 (after (λ b. eqb b 48) xs) ≡ digits_value 10 xs
+pub value_after_zeros : (xs : List ℕ) → digits_value 10 (bytes_after (λ b. eqb b 48) xs) ≡ digits_value 10 xs
 value_after_zeros [] = refl
 value_after_zeros (x ∷ xs) =
     elim (cases_Bool (eqb x 48)) [
@@ -99,7 +99,7 @@ value_after_zeros (x ∷ xs) =
       | inr h ↦ rw h refl
     ]
 
-pub digits_after : (p : ℕ → Bool) (xs : List ℕ) → Digits xs → Digits (after p xs)
+pub digits_after : (p : ℕ → Bool) (xs : List ℕ) → Digits xs → Digits (bytes_after p xs)
 digits_after p [] dx = tt
 digits_after p (x ∷ xs) dx =
     elim (cases_Bool (p x)) [
@@ -107,7 +107,7 @@ digits_after p (x ∷ xs) dx =
       | inr h ↦ rw h dx
     ]
 
-pub no_zero : (xs : List ℕ) → NoZero (after (λ b. eqb b 48) xs)
+pub no_zero : (xs : List ℕ) → NoZero (bytes_after (λ b. eqb b 48) xs)
 no_zero [] = tt
 no_zero (x ∷ xs) =
     elim (cases_Bool (eqb x 48)) [
@@ -137,7 +137,7 @@ digits_from_pass (x ∷ xs) h =
     (digit_value_digit x within, within.0, within.1, digits_from_pass xs (All-tail (λ b. is_ascii_digit b ≡ true) x xs h))
 
 -- the order of numbers by their digits without leading zeros
-pub numbers : (a b : List ℕ) → AllPass is_ascii_digit a → AllPass is_ascii_digit b → ordering_then (nat_cmp (length (after (λ c. eqb c 48) a)) (length (after (λ c. eqb c 48) b))) (slice_cmp nat_cmp (after (λ c. eqb c 48) a) (after (λ c. eqb c 48) b)) ≡ nat_cmp (digits_value 10 a) (digits_value 10 b)
+pub numbers : (a b : List ℕ) → AllPass is_ascii_digit a → AllPass is_ascii_digit b → ordering_then (nat_cmp (length (bytes_after (λ c. eqb c 48) a)) (length (bytes_after (λ c. eqb c 48) b))) (slice_cmp nat_cmp (bytes_after (λ c. eqb c 48) a) (bytes_after (λ c. eqb c 48) b)) ≡ nat_cmp (digits_value 10 a) (digits_value 10 b)
 numbers a b da db =
     rw (← value_after_zeros a, ← value_after_zeros b)
     (by_digits _ _ (digits_after _ a (digits_from_pass a da)) (digits_after _ b (digits_from_pass b db)) (no_zero a) (no_zero b))

@@ -8,7 +8,7 @@ use Rattle.std.proofs.lemmas.List.Elements.{All-cons}
 use Rattle.std.proofs.lemmas.Grind.{common_steps}
 use Rattle.std.proofs.lemmas.List.Sums.{prefix_len_is}
 use Rattle.ext_vers.specs.Version.{Token, Tilde, End, Dash, Caret, Dot, Letters, Number, Skip, tokens, pieces, kept, with_digit, with_letter}
-use Rattle.ext_vers.specs.Token.{HasDigits, IsNext, after, is_end, is_separator, longest_prefix, tokens_after}
+use Rattle.ext_vers.specs.Token.{HasDigits, IsNext, bytes_after, is_end, is_separator, longest_prefix, tokens_after}
 
 -- a longest prefix has the length that std counts
 prefix_is : (p : ℕ → Bool) (xs : List ℕ) → prefix_len p xs ≡ length (longest_prefix p xs)
@@ -31,7 +31,7 @@ take_prefix p (x ∷ xs) =
       | inr h ↦ rw h refl
     ]
 
-pub drop_prefix : (p : ℕ → Bool) (xs : List ℕ) → drop (length (longest_prefix p xs)) xs ≡ after p xs
+pub drop_prefix : (p : ℕ → Bool) (xs : List ℕ) → drop (length (longest_prefix p xs)) xs ≡ bytes_after p xs
 drop_prefix p [] = refl
 drop_prefix p (x ∷ xs) =
     elim (cases_Bool (p x)) [
@@ -39,11 +39,11 @@ drop_prefix p (x ∷ xs) =
       | inr h ↦ rw h refl
     ]
 
-pub after_short : (p : ℕ → Bool) (xs : List ℕ) → length (after p xs) ≤ length xs
+pub after_short : (p : ℕ → Bool) (xs : List ℕ) → length (bytes_after p xs) ≤ length xs
 after_short p [] = omega arith
 after_short p (x ∷ xs) =
     elim (cases_Bool (p x)) [
-      | inl h ↦ rw h (let k : length (after p xs) ≤ length xs = after_short p xs in omega arith)
+      | inl h ↦ rw h (let k : length (bytes_after p xs) ≤ length xs = after_short p xs in omega arith)
       | inr h ↦ rw h (omega arith)
     ]
 
@@ -52,7 +52,7 @@ abbrev pub Fails : (ℕ → Bool) → List ℕ → Type 0
 Fails p [] = Unit {0}
 Fails p (b ∷ bs) = p b ≡ false
 
-pub fails_after : (p : ℕ → Bool) (xs : List ℕ) → Fails p (after p xs)
+pub fails_after : (p : ℕ → Bool) (xs : List ℕ) → Fails p (bytes_after p xs)
 fails_after p [] = tt
 fails_after p (x ∷ xs) =
     elim (cases_Bool (p x)) [
@@ -110,7 +110,7 @@ letter_before false false p q r s b x ts h = letter_before_mark p q r s b ts
 prefix_stop : (p : ℕ → Bool) (x : ℕ) (xs : List ℕ) → p x ≡ false → longest_prefix p (x ∷ xs) ≡ []
 prefix_stop p x xs h = rw h refl
 
-after_stop : (p : ℕ → Bool) (x : ℕ) (xs : List ℕ) → p x ≡ false → after p (x ∷ xs) ≡ x ∷ xs
+after_stop : (p : ℕ → Bool) (x : ℕ) (xs : List ℕ) → p x ≡ false → bytes_after p (x ∷ xs) ≡ x ∷ xs
 after_stop p x xs h = rw h refl
 
 number_then : (ds es rest left : List ℕ) → ds ≡ es → rest ≡ left → Number ds ∷ pieces rest ≡ Number es ∷ pieces left
@@ -120,23 +120,23 @@ letters_then : (ds es rest left : List ℕ) → ds ≡ es → rest ≡ left → 
 letters_then ds es rest left p q = ap (λ k. Letters k ∷ pieces rest) p ∙ ap (λ k. Letters es ∷ pieces k) q
 
 -- digits are read as one number
-number_run : (bs : List ℕ) (b : ℕ) → is_ascii_digit b ≡ true → pieces (b ∷ bs) ≡ Number (longest_prefix is_ascii_digit (b ∷ bs)) ∷ pieces (after is_ascii_digit (b ∷ bs))
+number_run : (bs : List ℕ) (b : ℕ) → is_ascii_digit b ≡ true → pieces (b ∷ bs) ≡ Number (longest_prefix is_ascii_digit (b ∷ bs)) ∷ pieces (bytes_after is_ascii_digit (b ∷ bs))
 number_run [] b h = rw h refl
 number_run (x ∷ xs) b h =
     elim (cases_Bool (is_ascii_digit x)) [
       | inl k ↦ rw h (ap (with_digit b) (number_run xs x k))
       | inr k ↦ rw h (digit_before (is_ascii_digit x) (is_ascii_alphabetic x) (eqb x 126) (eqb x 45) (eqb x 94) (eqb x 46) b x (pieces xs) k
-          ∙ sym (number_then (b ∷ longest_prefix is_ascii_digit (x ∷ xs)) (b ∷ []) (after is_ascii_digit (x ∷ xs)) (x ∷ xs) (ap (λ ys. b ∷ ys) (prefix_stop is_ascii_digit x xs k)) (after_stop is_ascii_digit x xs k)))
+          ∙ sym (number_then (b ∷ longest_prefix is_ascii_digit (x ∷ xs)) (b ∷ []) (bytes_after is_ascii_digit (x ∷ xs)) (x ∷ xs) (ap (λ ys. b ∷ ys) (prefix_stop is_ascii_digit x xs k)) (after_stop is_ascii_digit x xs k)))
     ]
 
 -- letters are read as one run
-letters_run : (bs : List ℕ) (b : ℕ) → is_ascii_alphabetic b ≡ true → pieces (b ∷ bs) ≡ Letters (longest_prefix is_ascii_alphabetic (b ∷ bs)) ∷ pieces (after is_ascii_alphabetic (b ∷ bs))
+letters_run : (bs : List ℕ) (b : ℕ) → is_ascii_alphabetic b ≡ true → pieces (b ∷ bs) ≡ Letters (longest_prefix is_ascii_alphabetic (b ∷ bs)) ∷ pieces (bytes_after is_ascii_alphabetic (b ∷ bs))
 letters_run [] b h = rw (letter_no_digit b h, h) refl
 letters_run (x ∷ xs) b h =
     elim (cases_Bool (is_ascii_alphabetic x)) [
       | inl k ↦ rw (letter_no_digit b h, h) (ap (with_letter b) (letters_run xs x k))
       | inr k ↦ rw (letter_no_digit b h, h) (letter_before (is_ascii_digit x) (is_ascii_alphabetic x) (eqb x 126) (eqb x 45) (eqb x 94) (eqb x 46) b x (pieces xs) k
-          ∙ sym (letters_then (b ∷ longest_prefix is_ascii_alphabetic (x ∷ xs)) (b ∷ []) (after is_ascii_alphabetic (x ∷ xs)) (x ∷ xs) (ap (λ ys. b ∷ ys) (prefix_stop is_ascii_alphabetic x xs k)) (after_stop is_ascii_alphabetic x xs k)))
+          ∙ sym (letters_then (b ∷ longest_prefix is_ascii_alphabetic (x ∷ xs)) (b ∷ []) (bytes_after is_ascii_alphabetic (x ∷ xs)) (x ∷ xs) (ap (λ ys. b ∷ ys) (prefix_stop is_ascii_alphabetic x xs k)) (after_stop is_ascii_alphabetic x xs k)))
     ]
 
 skip_one : (d l p q r s : Bool) (b : ℕ) (ts : List Token) → separates d l p q r s ≡ true → kept (read d l p q r s b ts) ≡ kept ts
@@ -162,7 +162,7 @@ other : (a b : ℕ) → a ≢ b → eqb a b ≡ false
 other a b h = grind (arith, nat_tests)
 
 -- separators are skipped
-pub skipped : (xs : List ℕ) → tokens (after is_separator xs) ≡ tokens xs
+pub skipped : (xs : List ℕ) → tokens (bytes_after is_separator xs) ≡ tokens xs
 skipped [] = refl
 skipped (x ∷ xs) =
     elim (cases_Bool (is_separator x)) [
@@ -179,39 +179,39 @@ prefix_passes p (x ∷ xs) =
     ]
 
 -- the first token of what is left after the separators is that of the text
-next : (text start rest : List ℕ) (token : Token) → start ≡ after is_separator text → tokens start ≡ token ∷ tokens_after token rest → (is_end token ≡ false → length rest < length start) → HasDigits token → IsNext text token rest
+next : (text start rest : List ℕ) (token : Token) → start ≡ bytes_after is_separator text → tokens start ≡ token ∷ tokens_after token rest → (is_end token ≡ false → length rest < length start) → HasDigits token → IsNext text token rest
 next text start rest token e t short digits = record {
   first = sym (skipped text) ∙ ap tokens (sym e) ∙ t;
-  shorter = λ n. let k : length (after is_separator text) ≤ length text = after_short is_separator text in let l : length start ≡ length (after is_separator text) = ap length e in let m : length rest < length start = short n in omega arith;
+  shorter = λ n. let k : length (bytes_after is_separator text) ≤ length text = after_short is_separator text in let l : length start ≡ length (bytes_after is_separator text) = ap length e in let m : length rest < length start = short n in omega arith;
   digits = digits;
 }
 
-pub end_next : (text start : List ℕ) → start ≡ after is_separator text → length start < 1 → IsNext text End start
+pub end_next : (text start : List ℕ) → start ≡ bytes_after is_separator text → length start < 1 → IsNext text End start
 end_next text [] e h = next text [] [] End e refl (λ n. cc) tt
 end_next text (b ∷ bs) e h = absurd (omega arith)
 
 rest_is : (b : ℕ) (bs : List ℕ) → take (length (b ∷ bs) - 1) (drop 1 (b ∷ bs)) ≡ bs
 rest_is b bs = grind (arith, common_steps)
 
-pub mark_next : (text start : List ℕ) (token : Token) (b : ℕ) → start ≡ after is_separator text → 1 ≤ length start → get_or start 0 0 ≡ b → ((bs : List ℕ) → tokens (b ∷ bs) ≡ token ∷ tokens_after token bs) → HasDigits token → IsNext text token (take (length start - 1) (drop 1 start))
+pub mark_next : (text start : List ℕ) (token : Token) (b : ℕ) → start ≡ bytes_after is_separator text → 1 ≤ length start → get_or start 0 0 ≡ b → ((bs : List ℕ) → tokens (b ∷ bs) ≡ token ∷ tokens_after token bs) → HasDigits token → IsNext text token (take (length start - 1) (drop 1 start))
 mark_next text [] token b e h first t digits = absurd (omega arith)
 mark_next text (x ∷ xs) token b e h first t digits =
     rw (rest_is x xs) (next text (x ∷ xs) xs token e (ap (λ c. tokens (c ∷ xs)) first ∙ t xs) (λ n. omega arith) digits)
 
-pub number_next : (text start run rest : List ℕ) (n : ℕ) → start ≡ after is_separator text → 1 ≤ length start → is_ascii_digit (get_or start 0 0) ≡ true → n ≡ length (longest_prefix is_ascii_digit start) → run ≡ take n start → rest ≡ drop n start → IsNext text (Number run) rest
+pub number_next : (text start run rest : List ℕ) (n : ℕ) → start ≡ bytes_after is_separator text → 1 ≤ length start → is_ascii_digit (get_or start 0 0) ≡ true → n ≡ length (longest_prefix is_ascii_digit start) → run ≡ take n start → rest ≡ drop n start → IsNext text (Number run) rest
 number_next text [] run rest n e h d en er es = absurd (omega arith)
 number_next text (x ∷ xs) run rest n e h d en er es =
     let run_is : run ≡ longest_prefix is_ascii_digit (x ∷ xs) = er ∙ ap (λ k. take k (x ∷ xs)) en ∙ take_prefix is_ascii_digit (x ∷ xs) in
-    let rest_is : rest ≡ after is_ascii_digit (x ∷ xs) = es ∙ ap (λ k. drop k (x ∷ xs)) en ∙ drop_prefix is_ascii_digit (x ∷ xs) in
-    let short : length (after is_ascii_digit xs) ≤ length xs = after_short is_ascii_digit xs in
-    rw (run_is, rest_is) (next text (x ∷ xs) (after is_ascii_digit (x ∷ xs)) (Number (longest_prefix is_ascii_digit (x ∷ xs))) e (ap kept (number_run xs x d)) (λ n. rw d (omega arith)) (prefix_passes is_ascii_digit (x ∷ xs)))
+    let rest_is : rest ≡ bytes_after is_ascii_digit (x ∷ xs) = es ∙ ap (λ k. drop k (x ∷ xs)) en ∙ drop_prefix is_ascii_digit (x ∷ xs) in
+    let short : length (bytes_after is_ascii_digit xs) ≤ length xs = after_short is_ascii_digit xs in
+    rw (run_is, rest_is) (next text (x ∷ xs) (bytes_after is_ascii_digit (x ∷ xs)) (Number (longest_prefix is_ascii_digit (x ∷ xs))) e (ap kept (number_run xs x d)) (λ n. rw d (omega arith)) (prefix_passes is_ascii_digit (x ∷ xs)))
 
-pub letters_next : (text start run rest : List ℕ) (n : ℕ) → start ≡ after is_separator text → 1 ≤ length start → is_ascii_digit (get_or start 0 0) ≡ false → get_or start 0 0 ≢ 126 → get_or start 0 0 ≢ 45 → get_or start 0 0 ≢ 94 → get_or start 0 0 ≢ 46 → n ≡ length (longest_prefix is_ascii_alphabetic start) → run ≡ take n start → rest ≡ drop n start → IsNext text (Letters run) rest
+pub letters_next : (text start run rest : List ℕ) (n : ℕ) → start ≡ bytes_after is_separator text → 1 ≤ length start → is_ascii_digit (get_or start 0 0) ≡ false → get_or start 0 0 ≢ 126 → get_or start 0 0 ≢ 45 → get_or start 0 0 ≢ 94 → get_or start 0 0 ≢ 46 → n ≡ length (longest_prefix is_ascii_alphabetic start) → run ≡ take n start → rest ≡ drop n start → IsNext text (Letters run) rest
 letters_next text [] run rest n e h d p q r s en er es = absurd (omega arith)
 letters_next text (x ∷ xs) run rest n e h d p q r s en er es =
     let run_is : run ≡ longest_prefix is_ascii_alphabetic (x ∷ xs) = er ∙ ap (λ k. take k (x ∷ xs)) en ∙ take_prefix is_ascii_alphabetic (x ∷ xs) in
-    let rest_is : rest ≡ after is_ascii_alphabetic (x ∷ xs) = es ∙ ap (λ k. drop k (x ∷ xs)) en ∙ drop_prefix is_ascii_alphabetic (x ∷ xs) in
-    let short : length (after is_ascii_alphabetic xs) ≤ length xs = after_short is_ascii_alphabetic xs in
+    let rest_is : rest ≡ bytes_after is_ascii_alphabetic (x ∷ xs) = es ∙ ap (λ k. drop k (x ∷ xs)) en ∙ drop_prefix is_ascii_alphabetic (x ∷ xs) in
+    let short : length (bytes_after is_ascii_alphabetic xs) ≤ length xs = after_short is_ascii_alphabetic xs in
     let fails : Fails is_separator (x ∷ xs) = subst (λ (ys : List ℕ). Fails is_separator ys) (sym e) (fails_after is_separator text) in
     let l : is_ascii_alphabetic x ≡ true = letter_left (is_ascii_digit x) (is_ascii_alphabetic x) (eqb x 126) (eqb x 45) (eqb x 94) (eqb x 46) fails d (other x 126 p) (other x 45 q) (other x 94 r) (other x 46 s) in
-    rw (run_is, rest_is) (next text (x ∷ xs) (after is_ascii_alphabetic (x ∷ xs)) (Letters (longest_prefix is_ascii_alphabetic (x ∷ xs))) e (ap kept (letters_run xs x l)) (λ n. rw l (omega arith)) tt)
+    rw (run_is, rest_is) (next text (x ∷ xs) (bytes_after is_ascii_alphabetic (x ∷ xs)) (Letters (longest_prefix is_ascii_alphabetic (x ∷ xs))) e (ap kept (letters_run xs x l)) (λ n. rw l (omega arith)) tt)

@@ -1,2 +1,3 @@
 pub mod Version
+pub mod Order
 pub mod Token

@@ -23,9 +23,9 @@ longest_prefix p [] = []
 longest_prefix p (b ∷ bs) = if p b then b ∷ longest_prefix p bs else []
 
 -- what follows it
-abbrev pub after : (ℕ → Bool) → List ℕ → List ℕ
-after p [] = []
-after p (b ∷ bs) = if p b then after p bs else b ∷ bs
+abbrev pub bytes_after : (ℕ → Bool) → List ℕ → List ℕ
+bytes_after p [] = []
+bytes_after p (b ∷ bs) = if p b then bytes_after p bs else b ∷ bs
 
 -- no digit, no letter, and none of `~`, `-`, `^`, `.`
 abbrev pub is_separator : ℕ → Bool

@@ -62,15 +62,15 @@ abbrev pub tokens : List ℕ → List Token
 tokens bs = kept (pieces bs)
 
 -- `~` < end < `-` < `^` < `.` < letters < numbers; no token is a Skip
-abbrev pub rank : Token → ℕ
-rank Tilde = 0
-rank End = 1
-rank Dash = 2
-rank Caret = 3
-rank Dot = 4
-rank (Letters ls) = 5
-rank (Number ds) = 6
-rank Skip = 7
+abbrev pub token_rank : Token → ℕ
+token_rank Tilde = 0
+token_rank End = 1
+token_rank Dash = 2
+token_rank Caret = 3
+token_rank Dot = 4
+token_rank (Letters ls) = 5
+token_rank (Number ds) = 6
+token_rank Skip = 7
 
 -- the number that the digits write, and 0 for every other token
 abbrev pub value : Token → ℕ
@@ -84,7 +84,7 @@ letters t = []
 
 -- by rank, then numbers by their values and letters byte by byte, a prefix first
 abbrev pub token_cmp : Token → Token → Ordering
-token_cmp t u = ordering_then (nat_cmp (rank t) (rank u)) (ordering_then (nat_cmp (value t) (value u)) (slice_cmp nat_cmp (letters t) (letters u)))
+token_cmp t u = ordering_then (nat_cmp (token_rank t) (token_rank u)) (ordering_then (nat_cmp (value t) (value u)) (slice_cmp nat_cmp (letters t) (letters u)))
 
 -- by the first tokens that differ; both lists end with an End, so neither runs out first
 abbrev pub version_cmp : List ℕ → List ℕ → Ordering

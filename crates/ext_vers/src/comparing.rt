@@ -13,8 +13,8 @@ use std::cmp::Ordering;
 /// | 2 | `-` |
 /// | 3 | `^` |
 /// | 4 | `.` |
-/// | 5 | a run of ASCII letters; two of them byte by byte, a prefix first |
-/// | 6 | a run of ASCII digits; two of them by value, leading zeros ignored, of any length |
+/// | 5 | a run of ASCII letters, two of them byte by byte, a prefix first |
+/// | 6 | a run of ASCII digits, two of them by value, leading zeros ignored, of any length |
 ///
 /// Every other byte only separates two runs. Texts may be equal that differ in their bytes, as `1` and `01`.
 pub fn compare(a: &[u8], b: &[u8]) -> Ordering

@@ -5,13 +5,13 @@ ghost use Rattle.std.specs.List.{AllPass};
 ghost use Rattle.std.specs.Cmp.Lexicographic.{slice_cmp};
 ghost use Rattle.std.specs.Ordering.{nat_cmp, ordering_then};
 ghost use Rattle.std.specs.Str.Parse.{digits_value};
-ghost use Rattle.ext_vers.specs.Token.{after};
+ghost use Rattle.ext_vers.specs.Token.{bytes_after};
 
 use std::cmp::Ordering;
 
 // The digits from the first on that is not 0.
 fn without_zeros(digits: &[u8]) -> &[u8]
-    ensures { result.now ≡ after (λ b. b == 48) digits.now }
+    ensures { result.now ≡ bytes_after (λ b. b == 48) digits.now }
 {
     let mut rest = digits;
     while let [b'0', after @ ..] = rest {

@@ -1,8 +1,8 @@
 // The tokens of a text, read one after another.
 ghost use Rattle.std.specs.Prelude.{◌≡◌, ◌≤◌, length};
 ghost use Rattle.std.specs.Char.{is_ascii_digit, is_ascii_alphabetic};
-ghost use Rattle.ext_vers.specs.Token.{HasDigits, IsNext, after, is_end, is_separator, longest_prefix, token_of};
-ghost use Rattle.ext_vers.specs.Version.{rank, token_cmp, tokens};
+ghost use Rattle.ext_vers.specs.Token.{HasDigits, IsNext, bytes_after, is_end, is_separator, longest_prefix, token_of};
+ghost use Rattle.ext_vers.specs.Version.{token_cmp, token_rank, tokens};
 
 use crate::number::number_cmp;
 use std::cmp::Ordering;
@@ -29,7 +29,7 @@ impl Token<'_> {
 
     // Where tokens of its kind stand among the others.
     fn rank(&self) -> u8
-        ensures { result ≡ rank (token_of self.now) }
+        ensures { result ≡ token_rank (token_of self.now) }
     {
         match self {
             Token::Tilde => 0,
@@ -79,7 +79,7 @@ fn is_separator(byte: u8) -> bool
 
 // The text from its first byte on that does not only separate.
 fn after_separators(text: &[u8]) -> &[u8]
-    ensures { result.now ≡ after is_separator text.now }
+    ensures { result.now ≡ bytes_after is_separator text.now }
 {
     let mut rest = text;
     while let [first, after @ ..] = rest

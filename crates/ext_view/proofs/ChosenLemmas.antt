@@ -8,12 +8,13 @@ use Rattle.std.specs.Ordering.{is_lt}
 use Rattle.std.specs.declared.cmp.Ordering.{Ordering}
 use Rattle.std.specs.declared.cmp.Ordering.TheVariants.{Less}
 use Rattle.ext_lines.specs.ByteOrder.{bytes_cmp}
-use Rattle.ext_text.specs.declared.class.Class.{Class}
+use Rattle.ext_text.specs.declared.extension.Extension.{Extension}
 use Rattle.ext_text.specs.declared.which.Which.{Which}
 use Rattle.ext_text.proofs.ForCallers.{is_less}
 use Rattle.ext_tree.specs.Tree.{Entries}
 use Rattle.ext_vers.specs.Version.{order_of}
 use Rattle.ext_host.specs.Held.{HeldFile}
+use Rattle.ext_host.specs.Planning.{IsBaseTree}
 use Rattle.ext_host.specs.Shelf.{Told}
 use Rattle.ext_host.specs.Valid.{AreAscending}
 use Rattle.ext_host.specs.declared.host.Host.{Host}
@@ -24,16 +25,14 @@ use Rattle.ext_find.specs.declared.found.FoundKind.TheVariants as found
 use Rattle.ext_view.specs.Layering.{AreChosen, MergesAs, TreesPass}
 use Rattle.ext_view.specs.Matched.{AreMatched}
 use Rattle.ext_view.specs.Parts.{Leads, LeadsItem}
-use Rattle.ext_view.specs.Plans.{IsTooLarge, Refreshes}
-use Rattle.ext_view.specs.Survey.{IsBaseTree, IsItemOf, IsKindOf, IsSurveyOf}
+use Rattle.ext_view.specs.Merging.{IsTooLarge, Refreshes}
+use Rattle.ext_view.specs.Surveying.{IsItemOf, IsKindOf, IsSurveyOf}
 use Rattle.ext_view.specs.View.{chosen, is_fit, names_of}
 use Rattle.ext_view.specs.declared.outcome.Merge.{Merge}
 use Rattle.ext_view.specs.declared.surveyed.SurveyItem.{SurveyItem}
 use Rattle.ext_view.specs.declared.surveyed.SurveyKind.{SurveyKind}
 use Rattle.ext_view.specs.declared.errors.ViewErr.{ViewErr}
 use Rattle.ext_view.specs.declared.errors.ViewErr.TheVariants as errors
-
--- ---- what is kept of a list in order
 
 all_values : {X Y : Type 0} (g : X → Y) (P : Y → Type 0) (f : X → Bool) (xs : List X) → AllByRecursion P (map g xs) → AllByRecursion P (map g (filter f xs))
 all_values g P f [] all = tt
@@ -52,9 +51,7 @@ ascending_kept R g f (x ∷ xs) up =
       | false ↦ rest
     ]
 
--- ---- items of a survey
-
-module _ (told : HeldFile → Told) (host : Host) (base : Entries HeldFile) (class : Class) (force : Bool) (release : FinMap bytes_cmp (List ℕ)) where
+module _ (told : HeldFile → Told) (host : Host) (base : Entries HeldFile) (class : Extension) (force : Bool) (release : FinMap bytes_cmp (List ℕ)) where
   abbrev Matched : List FoundItem → List SurveyItem → Type 0
   Matched found_items items = AreMatched (IsItemOf told host base class force release) found_items items
 
@@ -96,7 +93,7 @@ module _ (told : HeldFile → Told) (host : Host) (base : Entries HeldFile) (cla
       )
 
 -- what is chosen of a survey
-pub survey_chosen : (told : HeldFile → Told) (host : Host) (base : Entries HeldFile) (class : Class) (force : Bool) (items : List SurveyItem) → IsSurveyOf told host base class force items → AreChosen base (chosen items)
+pub survey_chosen : (told : HeldFile → Told) (host : Host) (base : Entries HeldFile) (class : Extension) (force : Bool) (items : List SurveyItem) → IsSurveyOf told host base class force items → AreChosen base (chosen items)
 survey_chosen told host base class force items is =
     let surveyed = is.surveyed in
     record {
@@ -104,9 +101,7 @@ survey_chosen told host base class force items is =
       order = ascending_kept order_of (λ (item : SurveyItem). item.name) (λ (item : SurveyItem). is_fit item.kind) items (names_ascend told host base class force is.release surveyed.found_items items surveyed.each surveyed.are_found.ordered);
     }
 
--- ---- refreshing
-
-module _ (told : HeldFile → Told) (host : Host) (base : Entries HeldFile) (class : Class) (force : Bool) (items : List SurveyItem) (surveyed : IsSurveyOf told host base class force items) where
+module _ (told : HeldFile → Told) (host : Host) (base : Entries HeldFile) (class : Extension) (force : Bool) (items : List SurveyItem) (surveyed : IsSurveyOf told host base class force items) where
   too_large : (which : Which) → TreesPass host class base (chosen items) which → IsTooLarge told host base class force which
   too_large which passes = record {
     items = items;

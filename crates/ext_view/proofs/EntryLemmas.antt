@@ -13,7 +13,7 @@ use Rattle.ext_tree.specs.EntryLine.{IsWritable, LineForm}
 use Rattle.ext_tree.specs.Tree.{Entries, as_shown, is_file, is_hide, is_opaque, lookup}
 use Rattle.ext_tree.specs.declared.entry.Entry.{Entry}
 use Rattle.ext_tree.specs.declared.entry.Entry.TheVariants.{Dir, Opaque, File, Link, Hide}
-use Rattle.ext_view.proofs.CountLemmas.{none_below}
+use Rattle.ext_tree.proofs.ForCallers.{none_below}
 
 some_same : {X : Type 0} (x y : X) → Some x ≡ Some y → x ≡ y
 some_same x y h = cc
@@ -44,8 +44,6 @@ module _ {C : Type 0} (P : Entry C → Type 0) where
             | true ↦ λ tied. absurd (false≢true (sym (ap is_some (ap (lookup es) (same_path p x.0 tied) ∙ none_below x.0 es (and_parts (below_all path_cmp x.0 es) (is_sorted path_cmp es) sorted).0)) ∙ ap is_some there))
             | false ↦ λ _. refl
           ] refl
-
--- ---- as an entry shows
 
 -- an entry in its ranges is in them as it shows
 pub shown_writable : {C : Type 0} (form : LineForm C) (e : Entry C) → IsWritable form e → IsWritable form (as_shown e)

@@ -1,5 +1,5 @@
 -- Found images that can be used have a release file.
-use Rattle.std.proofs.Common.{◌≡◌, ℕ, true, cond, List, [], ◌∷◌, ◌++◌, map, Some, sym, ap, ◌∙◌, subst}
+use Rattle.std.proofs.Common.{◌≡◌, ℕ, true, cond, List, [], ◌∷◌, map, Option, Some, None, ap, ◌∙◌}
 use Rattle.std.proofs.lemmas.Bool.{and_parts}
 use Rattle.std.specs.Cmp.{tied_itself}
 use Rattle.std.specs.List.{AllByRecursion}
@@ -7,18 +7,21 @@ use Rattle.std.specs.Ordering.{is_eq, is_lt, ordering_reverse}
 use Rattle.std.specs.FinMap.{find, is_sorted}
 use Rattle.std.specs.FinMap.Entries.{below_all}
 use Rattle.ext_text.specs.declared.arch.Arch.{Arch}
-use Rattle.ext_text.specs.declared.class.Class.{Class}
+use Rattle.ext_text.specs.Extension.{class_of}
+use Rattle.ext_text.specs.declared.extension.Extension.{Extension}
+use Rattle.ext_text.specs.declared.extension.Extension.TheVariants.{Sysext, Confext}
 use Rattle.ext_text.proofs.ForCallers.{all_weaker, is_less}
 use Rattle.ext_tree.specs.Tree.{Entries}
+use Rattle.ext_vers.specs.Order.{orders_total}
 use Rattle.ext_vers.specs.Version.{order_of}
+use Rattle.ext_walk.specs.Walk.{Ends}
 use Rattle.ext_host.specs.Held.{HeldFile}
-use Rattle.ext_find.specs.Ending.{stem_of}
-use Rattle.ext_find.specs.Found.{Gives, IsFound, by_name}
-use Rattle.ext_find.specs.Order.{orders_total}
+use Rattle.ext_find.specs.Found.{AreFound, IsReleaseOf, by_name}
+use Rattle.ext_find.specs.Image.{IsReleaseIn}
 use Rattle.ext_find.specs.declared.found.FoundItem.{FoundItem}
 use Rattle.ext_find.specs.declared.found.FoundKind.{FoundKind}
 use Rattle.ext_find.specs.declared.found.FoundKind.TheVariants.{Image, Masked, Raw, Broken}
-use Rattle.ext_view.specs.ImageRelease.{LeadsToRelease}
+use Rattle.ext_view.specs.Image.{HasReleaseAt}
 use Rattle.ext_view.specs.Judging.{IsSound, WhereImage}
 
 module _ {X : Type 0} where
@@ -45,18 +48,23 @@ module _ {X : Type 0} where
   of_items P key [] all = tt
   of_items P key (item ∷ items) all = (all.0, of_items P key items all.1)
 
-module _ (size : HeldFile → ℕ) (base : Entries HeldFile) (class : Class) (arch : Arch) (hierarchies : List (List ℕ)) where
+-- where a search says that the release file of an extension is
+release_at : (base : Entries HeldFile) (class : Extension) (place end : List (List ℕ)) (name : List ℕ) (release : Option (List (List ℕ))) → Ends base place end → IsReleaseIn base end (class_of class) name release → HasReleaseAt base class place name release
+release_at base Sysext place end name None leads none = none
+release_at base Sysext place end name (Some path) leads file = record { image = end; leads = leads; file = file }
+release_at base Confext place end name None leads none = none
+release_at base Confext place end name (Some path) leads file = record { image = end; leads = leads; file = file }
+
+module _ (size : HeldFile → ℕ) (base : Entries HeldFile) (class : Extension) (arch : Arch) (hierarchies : List (List ℕ)) where
   -- an image that can be used has a release file
-  sound_kind : (path : List (List ℕ)) (name stem : List ℕ) (place : List (List ℕ)) (kind : FoundKind) → Gives size base class arch hierarchies path name place kind → stem ≡ stem_of name → WhereImage kind (LeadsToRelease base class place stem)
-  sound_kind path name stem place Masked gives is = tt
-  sound_kind path name stem place Raw gives is = tt
-  sound_kind path name stem place (Broken why) gives is = tt
-  sound_kind path name stem place Image gives is =
-      let image = gives.2 in
-      subst (LeadsToRelease base class place) (sym is) (record { image = image.0; leads = image.1; has = image.3.2 })
+  sound_kind : (place : List (List ℕ)) (name : List ℕ) (kind : FoundKind) (release : Option (List (List ℕ))) → IsReleaseOf size base (class_of class) arch hierarchies place name kind release → WhereImage kind (HasReleaseAt base class place name release)
+  sound_kind place name Masked release none = tt
+  sound_kind place name Raw release none = tt
+  sound_kind place name (Broken why) release none = tt
+  sound_kind place name Image release is = release_at base class place is.0 name release is.1 is.2
 
   -- so each found item that is one has
-  pub all_sound : (items : List FoundItem) → IsFound size base class arch hierarchies items → AllByRecursion (IsSound base class) items
+  pub all_sound : (items : List FoundItem) → AreFound size base (class_of class) arch hierarchies items → AllByRecursion (IsSound base class) items
   all_sound items found =
       all_weaker (λ item. find order_of item.name (by_name items) ≡ Some item) (IsSound base class) sound items
       (of_items (λ e. find order_of e.0 (by_name items) ≡ Some e.1) (λ (item : FoundItem). item.name) items (found_each (by_name items) found.ordered))
@@ -65,4 +73,4 @@ module _ (size : HeldFile → ℕ) (base : Entries HeldFile) (class : Class) (ar
       sound item at =
           let least = found.least item.name item at in
           let usable = least.2.usable in
-          sound_kind (usable.directory ++ least.1 ∷ []) least.1 item.name item.place item.kind usable.entry.gives usable.entry.stem
+          sound_kind item.place item.name item.kind item.release usable.entry.release

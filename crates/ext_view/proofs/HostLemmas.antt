@@ -8,8 +8,8 @@ use Rattle.std.specs.List.{AllByRecursion, flat_map}
 use Rattle.std.specs.Ordering.{eq_by_cmp}
 use Rattle.ext_lines.specs.ByteOrder.{bytes_cmp}
 use Rattle.ext_text.specs.Path.{is_prefix}
-use Rattle.ext_text.specs.declared.class.Class.{Class}
-use Rattle.ext_text.specs.declared.class.Class.TheVariants.{Sysext, Confext, Portable}
+use Rattle.ext_text.specs.declared.extension.Extension.{Extension}
+use Rattle.ext_text.specs.declared.extension.Extension.TheVariants.{Sysext, Confext}
 use Rattle.ext_text.proofs.ForCallers.{same_name}
 use Rattle.ext_tree.specs.Tree.{Entries, lookup, most_entries}
 use Rattle.ext_tree.specs.declared.entry.Entry.{Entry}
@@ -21,11 +21,8 @@ use Rattle.ext_host.specs.Valid.{AreInRange, AreManifests, AreMerged, IsValidHos
 use Rattle.ext_host.specs.declared.host.Host.{Host}
 use Rattle.ext_host.specs.declared.past.Past.{Past}
 use Rattle.ext_host.proofs.ForCallers.{drawn_one_by_one, trees_are_drawn}
-use Rattle.ext_match.specs.Class.{IsExtension}
 use Rattle.ext_view.specs.Hierarchies.{hierarchies_at}
 use Rattle.ext_view.specs.View.{with_view}
-
--- ---- paths in the hierarchies of both classes
 
 -- a name that a path is in is among the names
 in_contains : (names : List (List ℕ)) (n : List ℕ) (p : List (List ℕ)) → is_in names (n ∷ p) ≡ true → Contains names n
@@ -60,79 +57,71 @@ or_swap false true = refl
 or_swap false false = refl
 
 -- where a path is in the merged hierarchies of the class, and of the other one
-abbrev pub in_own : Class → Host → List (List ℕ) → Bool
+abbrev pub in_own : Extension → Host → List (List ℕ) → Bool
 in_own class host p = is_in (where_merged (merged_names class (present host)) (hierarchies_at class host)) p
 
-abbrev pub in_other : Class → Host → List (List ℕ) → Bool
+abbrev pub in_other : Extension → Host → List (List ℕ) → Bool
 in_other Sysext host p = is_in (where_merged host.confext host.confext_hier) p
 in_other Confext host p = is_in (where_merged host.sysext host.sysext_hier) p
-in_other Portable host p = false
 
 abbrev pub in_merged : Host → List (List ℕ) → Bool
 in_merged host p = is_in (merged_hierarchies (hierarchies_in host) (present host)) p
 
-pub merged_either : (class : Class) (host : Host) (p : List (List ℕ)) → IsExtension class → in_merged host p ≡ (in_own class host p || in_other class host p)
-merged_either Sysext host p extension = list_any-append (λ name. is_prefix (name ∷ []) p) (where_merged host.sysext host.sysext_hier) (where_merged host.confext host.confext_hier)
-merged_either Confext host p extension = list_any-append (λ name. is_prefix (name ∷ []) p) (where_merged host.sysext host.sysext_hier) (where_merged host.confext host.confext_hier) ∙ or_swap (is_in (where_merged host.sysext host.sysext_hier) p) (is_in (where_merged host.confext host.confext_hier) p)
-merged_either Portable host p extension = absurd extension
+pub merged_either : (class : Extension) (host : Host) (p : List (List ℕ)) → in_merged host p ≡ (in_own class host p || in_other class host p)
+merged_either Sysext host p = list_any-append (λ name. is_prefix (name ∷ []) p) (where_merged host.sysext host.sysext_hier) (where_merged host.confext host.confext_hier)
+merged_either Confext host p = list_any-append (λ name. is_prefix (name ∷ []) p) (where_merged host.sysext host.sysext_hier) (where_merged host.confext host.confext_hier) ∙ or_swap (is_in (where_merged host.sysext host.sysext_hier) p) (is_in (where_merged host.confext host.confext_hier) p)
 
 -- with another view the other class is as it was
-other_stays : (class : Class) (host : Host) (names : Option (List (List ℕ))) (root lower : Entries HeldFile) (p : List (List ℕ)) → in_other class (with_view class names root lower host) p ≡ in_other class host p
+other_stays : (class : Extension) (host : Host) (names : Option (List (List ℕ))) (root lower : Entries HeldFile) (p : List (List ℕ)) → in_other class (with_view class names root lower host) p ≡ in_other class host p
 other_stays Sysext host names root lower p = refl
 other_stays Confext host names root lower p = refl
-other_stays Portable host names root lower p = refl
 
 -- and the class is merged where there are names
-own_is : (class : Class) (host : Host) (names : Option (List (List ℕ))) (root lower : Entries HeldFile) (p : List (List ℕ)) → IsExtension class → in_own class (with_view class names root lower host) p ≡ is_in (where_merged names (hierarchies_at class host)) p
-own_is Sysext host names root lower p extension = refl
-own_is Confext host names root lower p extension = refl
-own_is Portable host names root lower p extension = absurd extension
+own_is : (class : Extension) (host : Host) (names : Option (List (List ℕ))) (root lower : Entries HeldFile) (p : List (List ℕ)) → in_own class (with_view class names root lower host) p ≡ is_in (where_merged names (hierarchies_at class host)) p
+own_is Sysext host names root lower p = refl
+own_is Confext host names root lower p = refl
 
-pub merged_with : (class : Class) (host : Host) (names : Option (List (List ℕ))) (root lower : Entries HeldFile) (p : List (List ℕ)) → IsExtension class → in_merged (with_view class names root lower host) p ≡ (is_in (where_merged names (hierarchies_at class host)) p || in_other class host p)
-merged_with class host names root lower p extension =
-    merged_either class (with_view class names root lower host) p extension
-    ∙ (λ i. own_is class host names root lower p extension i || other_stays class host names root lower p i)
+pub merged_with : (class : Extension) (host : Host) (names : Option (List (List ℕ))) (root lower : Entries HeldFile) (p : List (List ℕ)) → in_merged (with_view class names root lower host) p ≡ (is_in (where_merged names (hierarchies_at class host)) p || in_other class host p)
+merged_with class host names root lower p =
+    merged_either class (with_view class names root lower host) p
+    ∙ (λ i. own_is class host names root lower p i || other_stays class host names root lower p i)
 
 -- a path that is in no hierarchy of the class is in no merged one
 out_where : (merged : Option (List (List ℕ))) (names : List (List ℕ)) (p : List (List ℕ)) → is_in names p ≡ false → is_in (where_merged merged names) p ≡ false
 out_where None names p out = refl
 out_where (Some m) names p out = out
 
-pub out_own : (class : Class) (host : Host) (p : List (List ℕ)) → IsExtension class → is_in (hierarchies_at class host) p ≡ false → in_merged host p ≡ in_other class host p
-out_own class host p extension out =
-    merged_either class host p extension ∙ ap (λ b. b || in_other class host p) (out_where (merged_names class (present host)) (hierarchies_at class host) p out)
+pub out_own : (class : Extension) (host : Host) (p : List (List ℕ)) → is_in (hierarchies_at class host) p ≡ false → in_merged host p ≡ in_other class host p
+out_own class host p out =
+    merged_either class host p ∙ ap (λ b. b || in_other class host p) (out_where (merged_names class (present host)) (hierarchies_at class host) p out)
 
-out_with : (class : Class) (host : Host) (names : Option (List (List ℕ))) (root lower : Entries HeldFile) (p : List (List ℕ)) → IsExtension class → is_in (hierarchies_at class host) p ≡ false → in_merged (with_view class names root lower host) p ≡ in_merged host p
-out_with class host names root lower p extension out =
-    merged_with class host names root lower p extension ∙ ap (λ b. b || in_other class host p) (out_where names (hierarchies_at class host) p out)
-    ∙ sym (out_own class host p extension out)
+out_with : (class : Extension) (host : Host) (names : Option (List (List ℕ))) (root lower : Entries HeldFile) (p : List (List ℕ)) → is_in (hierarchies_at class host) p ≡ false → in_merged (with_view class names root lower host) p ≡ in_merged host p
+out_with class host names root lower p out =
+    merged_with class host names root lower p ∙ ap (λ b. b || in_other class host p) (out_where names (hierarchies_at class host) p out)
+    ∙ sym (out_own class host p out)
 
 -- a path in a hierarchy of the class is in none of the other
-pub other_apart : (class : Class) (host : Host) (p : List (List ℕ)) → IsExtension class → IsValidHost host → is_in (hierarchies_at class host) p ≡ true → in_other class host p ≡ false
-other_apart Sysext host p extension valid in_ = out_where host.confext host.confext_hier p (in_apart host.sysext_hier host.confext_hier p valid.hierarchies.apart in_)
-other_apart Confext host p extension valid in_ =
+pub other_apart : (class : Extension) (host : Host) (p : List (List ℕ)) → IsValidHost host → is_in (hierarchies_at class host) p ≡ true → in_other class host p ≡ false
+other_apart Sysext host p valid in_ = out_where host.confext host.confext_hier p (in_apart host.sysext_hier host.confext_hier p valid.hierarchies.apart in_)
+other_apart Confext host p valid in_ =
     out_where host.sysext host.sysext_hier p
     (elim (is_in host.sysext_hier p) as (λ b. is_in host.sysext_hier p ≡ b → b ≡ false) [
       | true ↦ λ there. absurd (true≢false (sym in_ ∙ in_apart host.sysext_hier host.confext_hier p valid.hierarchies.apart there))
       | false ↦ λ _. refl
     ] refl)
-other_apart Portable host p extension valid in_ = absurd extension
-
--- ---- the base
 
 abbrev pub base_of : Host → List (List ℕ) → Option (Entry HeldFile)
 base_of host p = base_at (hierarchies_in host) (present host) p
 
 -- the base with another view, by its trees
-base_with : (class : Class) (host : Host) (names : Option (List (List ℕ))) (root lower : Entries HeldFile) (p : List (List ℕ)) → base_of (with_view class names root lower host) p ≡ cond (in_merged (with_view class names root lower host) p) (lookup (with_view class names root lower host).lower p) (lookup (with_view class names root lower host).root p)
+base_with : (class : Extension) (host : Host) (names : Option (List (List ℕ))) (root lower : Entries HeldFile) (p : List (List ℕ)) → base_of (with_view class names root lower host) p ≡ cond (in_merged (with_view class names root lower host) p) (lookup (with_view class names root lower host).lower p) (lookup (with_view class names root lower host).root p)
 base_with class host names root lower p = refl
 
-pub root_with : (class : Class) (host : Host) (names : Option (List (List ℕ))) (root lower : Entries HeldFile) → ((with_view class names root lower host).root ≡ root) × ((with_view class names root lower host).lower ≡ lower)
+pub root_with : (class : Extension) (host : Host) (names : Option (List (List ℕ))) (root lower : Entries HeldFile) → ((with_view class names root lower host).root ≡ root) × ((with_view class names root lower host).lower ≡ lower)
 root_with Sysext host names root lower = (refl, refl)
 root_with Confext host names root lower = (refl, refl)
-root_with Portable host names root lower = (refl, refl)
 
-module _ (class : Class) (host : Host) (extension : IsExtension class) (root lower : Entries HeldFile)
+module _ (class : Extension) (host : Host) (root lower : Entries HeldFile)
     (seen : (p : List (List ℕ)) → is_in (hierarchies_at class host) p ≡ false → lookup root p ≡ lookup host.root p)
     (under : (p : List (List ℕ)) → is_in (hierarchies_at class host) p ≡ false → lookup lower p ≡ lookup host.lower p) where
   module _ (names : Option (List (List ℕ))) where
@@ -144,13 +133,13 @@ module _ (class : Class) (host : Host) (extension : IsExtension class) (root low
     -- outside the hierarchies the base stays
     base_outside : (p : List (List ℕ)) → is_in (hierarchies_at class host) p ≡ false → base_of (with_view class names root lower host) p ≡ base_of host p
     base_outside p out =
-        trees_at p ∙ (λ i. cond (out_with class host names root lower p extension out i) (under p out i) (seen p out i))
+        trees_at p ∙ (λ i. cond (out_with class host names root lower p out i) (under p out i) (seen p out i))
 
   -- it stays where the class is unmerged and the base is seen
   pub base_unmerged : IsValidHost host → ((p : List (List ℕ)) → is_in (hierarchies_at class host) p ≡ true → lookup root p ≡ base_of host p) → (p : List (List ℕ)) → base_of (with_view class None root lower host) p ≡ base_of host p
   base_unmerged valid base p =
       elim (is_in (hierarchies_at class host) p) as (λ b. is_in (hierarchies_at class host) p ≡ b → base_of (with_view class None root lower host) p ≡ base_of host p) [
-        | true ↦ λ in_. trees_at None p ∙ ap (λ b. cond b (lookup lower p) (lookup root p)) (merged_with class host None root lower p extension ∙ other_apart class host p extension valid in_) ∙ base p in_
+        | true ↦ λ in_. trees_at None p ∙ ap (λ b. cond b (lookup lower p) (lookup root p)) (merged_with class host None root lower p ∙ other_apart class host p valid in_) ∙ base p in_
         | false ↦ λ out. base_outside None p out
       ] refl
 
@@ -158,16 +147,14 @@ module _ (class : Class) (host : Host) (extension : IsExtension class) (root low
   pub base_merged : (names : List (List ℕ)) → ((p : List (List ℕ)) → is_in (hierarchies_at class host) p ≡ true → lookup lower p ≡ base_of host p) → (p : List (List ℕ)) → base_of (with_view class (Some names) root lower host) p ≡ base_of host p
   base_merged names base p =
       elim (is_in (hierarchies_at class host) p) as (λ b. is_in (hierarchies_at class host) p ≡ b → base_of (with_view class (Some names) root lower host) p ≡ base_of host p) [
-        | true ↦ λ in_. trees_at (Some names) p ∙ ap (λ b. cond b (lookup lower p) (lookup root p)) (merged_with class host (Some names) root lower p extension ∙ ap (λ b. b || in_other class host p) in_) ∙ base p in_
+        | true ↦ λ in_. trees_at (Some names) p ∙ ap (λ b. cond b (lookup lower p) (lookup root p)) (merged_with class host (Some names) root lower p ∙ ap (λ b. b || in_other class host p) in_) ∙ base p in_
         | false ↦ λ out. base_outside (Some names) p out
       ] refl
 
--- ---- valid hosts
-
 -- the host with another view is valid where its trees are within the limits, its lower tree lies in merged hierarchies and
 -- its base has not changed
-pub valid_with : (class : Class) (host : Host) (names : Option (List (List ℕ))) (root lower : Entries HeldFile) → IsExtension class → IsValidHost host → AreInRange root → AreInRange lower → length root + length lower ≤ most_entries → all_bytes root + all_bytes lower ≤ most_bytes → IfSome names AreMerged → ((p : List (List ℕ)) → is_some (lookup lower p) ≡ true → in_merged (with_view class names root lower host) p ≡ true) → ((p : List (List ℕ)) → base_of (with_view class names root lower host) p ≡ base_of host p) → IsValidHost (with_view class names root lower host)
-valid_with Sysext host names root lower extension valid root_range lower_range entries bytes merged lies base = record {
+pub valid_with : (class : Extension) (host : Host) (names : Option (List (List ℕ))) (root lower : Entries HeldFile) → IsValidHost host → AreInRange root → AreInRange lower → length root + length lower ≤ most_entries → all_bytes root + all_bytes lower ≤ most_bytes → IfSome names AreMerged → ((p : List (List ℕ)) → is_some (lookup lower p) ≡ true → in_merged (with_view class names root lower host) p ≡ true) → ((p : List (List ℕ)) → base_of (with_view class names root lower host) p ≡ base_of host p) → IsValidHost (with_view class names root lower host)
+valid_with Sysext host names root lower valid root_range lower_range entries bytes merged lies base = record {
   scope = valid.scope;
   hierarchies = valid.hierarchies;
   present = record {
@@ -182,7 +169,7 @@ valid_with Sysext host names root lower extension valid root_range lower_range e
   past_count = valid.past_count;
   past_order = valid.past_order;
 }
-valid_with Confext host names root lower extension valid root_range lower_range entries bytes merged lies base = record {
+valid_with Confext host names root lower valid root_range lower_range entries bytes merged lies base = record {
   scope = valid.scope;
   hierarchies = valid.hierarchies;
   present = record {
@@ -197,9 +184,6 @@ valid_with Confext host names root lower extension valid root_range lower_range 
   past_count = valid.past_count;
   past_order = valid.past_order;
 }
-valid_with Portable host names root lower extension valid root_range lower_range entries bytes merged lies base = absurd extension
-
--- ---- where files come from
 
 -- a file that a host has, seen or under what is seen
 abbrev pub HasHeld : Host → HeldFile → Type 0
@@ -235,7 +219,6 @@ trees_drawn host root lower root_comes lower_comes =
     past_drawn : (es : Entries HeldFile) → Contains (past_trees host) es → AreDrawnFrom (trees_of host) (es ∷ [])
     past_drawn es among = trees_are_drawn (trees_of host) (es ∷ []) (one_more host.root es (host.lower ∷ (past_trees host)) (one_more host.lower es (past_trees host) among), tt)
 
-pub drawn_with : (class : Class) (host : Host) (names : Option (List (List ℕ))) (root lower : Entries HeldFile) → ((p : List (List ℕ)) (mode : ℕ) (held : HeldFile) → lookup root p ≡ Some (File mode held) → HasHeld host held) → ((p : List (List ℕ)) (mode : ℕ) (held : HeldFile) → lookup lower p ≡ Some (File mode held) → HasHeld host held) → IsDrawnFrom host (with_view class names root lower host)
+pub drawn_with : (class : Extension) (host : Host) (names : Option (List (List ℕ))) (root lower : Entries HeldFile) → ((p : List (List ℕ)) (mode : ℕ) (held : HeldFile) → lookup root p ≡ Some (File mode held) → HasHeld host held) → ((p : List (List ℕ)) (mode : ℕ) (held : HeldFile) → lookup lower p ≡ Some (File mode held) → HasHeld host held) → IsDrawnFrom host (with_view class names root lower host)
 drawn_with Sysext host names root lower root_comes lower_comes = trees_drawn host root lower root_comes lower_comes
 drawn_with Confext host names root lower root_comes lower_comes = trees_drawn host root lower root_comes lower_comes
-drawn_with Portable host names root lower root_comes lower_comes = trees_drawn host root lower root_comes lower_comes

@@ -7,17 +7,17 @@ use Rattle.std.proofs.lemmas.List.Elements.{filter-append}
 use Rattle.std.specs.List.{AllByRecursion, filter}
 use Rattle.std.specs.Ordering.{eq_by_cmp}
 use Rattle.std.specs.FinMap.{is_sorted}
-use Rattle.std.specs.FinMap.Entries.{find-where_key, is_sorted-where_key}
+use Rattle.std.specs.FinMap.Entries.{is_sorted-where_key}
 use Rattle.ext_lines.specs.ByteOrder.{bytes_cmp}
-use Rattle.ext_text.specs.Order.{paths_exact, paths_total}
+use Rattle.ext_text.specs.Order.{paths_total}
 use Rattle.ext_text.specs.Path.{is_prefix, parent, path_cmp}
 use Rattle.ext_text.proofs.ForCallers.{parent_prefix, same_name, true_from_T}
 use Rattle.ext_tree.specs.Tree.{Entries, IsTree, IsTreeWithin, is_directory_at, is_directory_or_root, lookup}
 use Rattle.ext_tree.specs.declared.entry.Entry.{Entry}
-use Rattle.ext_tree.proofs.ForCallers.{each_found}
+use Rattle.ext_tree.proofs.ForCallers.{each_found, lookup_where}
 use Rattle.ext_host.specs.Host.{is_in}
 use Rattle.ext_host.proofs.ForCallers.{in_first}
-use Rattle.ext_view.specs.Hierarchies.{inside, outside, seen_below}
+use Rattle.ext_view.specs.Inside.{inside, outside, seen_below}
 
 -- the root is in no names
 pub in_root : (names : List (List ℕ)) → is_in names [] ≡ false
@@ -35,9 +35,6 @@ pub in_some : (names : List (List ℕ)) (p : List (List ℕ)) → is_in names p 
 in_some names p in_ root = true≢false (sym in_ ∙ ap (is_in names) root ∙ in_root names)
 
 module _ {C : Type 0} where
-  lookup_where : (f : List (List ℕ) → Bool) (p : List (List ℕ)) (es : Entries C) → lookup (filter (λ e. f e.0) es) p ≡ cond (f p) (lookup es p) None
-  lookup_where f p es = find-where_key path_cmp f p (λ x tied. ap f (sym (paths_exact p x tied))) es
-
   pub lookup_inside : (names : List (List ℕ)) (p : List (List ℕ)) (es : Entries C) → lookup (inside names es) p ≡ cond (is_in names p) (lookup es p) None
   lookup_inside names p es = lookup_where (is_in names) p es
 
@@ -97,6 +94,13 @@ module _ {C : Type 0} where
   pub seen_whole : (es : Entries C) → map (seen_below 0) es ≡ es
   seen_whole [] = refl
   seen_whole (e ∷ es) = ap (λ fs. e ∷ fs) (seen_whole es)
+
+  -- one entry more
+  pub outside_more : (names : List (List ℕ)) (es : Entries C) (i : ℕ) (e : List (List ℕ) × Entry C) (done new : Entries C) → i < length es → e ≡ get_or es i e → done ≡ outside names (take i es) → new ≡ done ++ outside names (e ∷ []) → new ≡ outside names (take (i + 1) es)
+  outside_more names es i e done new within is so_far adds =
+      let more : take (i + 1) es ≡ take i es ++ e ∷ [] = take_more es i e within ∙ ap (λ x. take i es ++ x ∷ []) (sym is) in
+      adds ∙ ap (λ d. d ++ outside names (e ∷ [])) so_far
+      ∙ sym (ap (outside names) more ∙ filter-append (λ f. not (is_in names f.0)) (take i es) (e ∷ []))
 
   -- one entry more
   pub inside_more : (names : List (List ℕ)) (depth : ℕ) (es : Entries C) (i : ℕ) (e : List (List ℕ) × Entry C) (done new : Entries C) → i < length es → e ≡ get_or es i e → done ≡ inside names (map (seen_below depth) (take i es)) → new ≡ done ++ inside names (map (seen_below depth) (e ∷ [])) → new ≡ inside names (map (seen_below depth) (take (i + 1) es))

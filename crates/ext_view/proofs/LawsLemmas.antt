@@ -8,8 +8,9 @@ use Rattle.std.specs.FinMap.Entries.{same_entries}
 use Rattle.ext_lines.specs.ByteOrder.{bytes_cmp}
 use Rattle.ext_text.specs.Order.{paths_exact, paths_total}
 use Rattle.ext_text.specs.Path.{path_cmp}
-use Rattle.ext_text.specs.declared.class.Class.{Class}
-use Rattle.ext_text.specs.declared.class.Class.TheVariants.{Sysext, Confext, Portable}
+use Rattle.ext_text.specs.Extension.{class_of}
+use Rattle.ext_text.specs.declared.extension.Extension.{Extension}
+use Rattle.ext_text.specs.declared.extension.Extension.TheVariants.{Sysext, Confext}
 use Rattle.ext_tree.specs.Part.{part}
 use Rattle.ext_tree.specs.Tree.{Entries, IsTree, is_hide, is_opaque, lookup}
 use Rattle.ext_tree.specs.declared.entry.Entry.{Entry}
@@ -17,21 +18,21 @@ use Rattle.ext_walk.specs.Walk.{walk}
 use Rattle.ext_walk.proofs.ForCallers.{one_end}
 use Rattle.ext_host.specs.Held.{HeldFile}
 use Rattle.ext_host.specs.Host.{is_in}
+use Rattle.ext_host.specs.Planning.{IsBaseTree, content_size}
 use Rattle.ext_host.specs.Shelf.{Told}
 use Rattle.ext_host.specs.Valid.{IsValidHost}
 use Rattle.ext_host.specs.declared.host.Host.{Host}
 use Rattle.ext_host.specs.declared.host.Plan.{Plan}
-use Rattle.ext_match.specs.Class.{IsExtension}
 use Rattle.ext_match.specs.Verdict.{IsVerdict}
-use Rattle.ext_find.specs.Found.{IsFound}
+use Rattle.ext_find.specs.Found.{AreFound}
 use Rattle.ext_find.specs.declared.found.FoundItem.{FoundItem}
 use Rattle.ext_find.specs.declared.found.FoundKind.{FoundKind}
 use Rattle.ext_find.specs.declared.found.FoundKind.TheVariants as found
 use Rattle.ext_view.specs.Hierarchies.{hierarchies_at, is_merged}
-use Rattle.ext_view.specs.Laws.{MergingKeepsTheBase, NothingHidesInViews, OneView, RefreshIsUnmergeThenMerge, UnmergeThenMergeIsRefresh, UnmergeUndoesMerge, after}
+use Rattle.ext_view.specs.Laws.{MergingKeepsTheBase, NothingHidesInViews, OneView, RefreshIsUnmergeThenMerge, UnmergeThenMergeIsRefresh, UnmergeUndoesMerge, host_after}
 use Rattle.ext_view.specs.Matched.{AreMatched}
-use Rattle.ext_view.specs.Plans.{PlansView}
-use Rattle.ext_view.specs.Survey.{IsBaseTree, IsFoundIn, IsItemOf, IsKindOf, IsSurveyOf, MakesOf, content_size}
+use Rattle.ext_view.specs.Merging.{PlansView}
+use Rattle.ext_view.specs.Surveying.{IsFoundIn, IsItemOf, IsKindOf, IsSurveyOf, MakesOf}
 use Rattle.ext_view.specs.View.{AreImagesOf, AreViewTrees, HasView, IsMergedHost, IsUnmerged, chosen, names_of, with_view}
 use Rattle.ext_view.specs.declared.surveyed.SurveyItem.{SurveyItem}
 use Rattle.ext_view.specs.declared.surveyed.SurveyKind.{SurveyKind}
@@ -39,9 +40,7 @@ use Rattle.ext_view.specs.declared.surveyed.SurveyKind.TheVariants.{Masked, Raw,
 use Rattle.ext_view.proofs.EntryLemmas.{shown_plain}
 use Rattle.ext_view.proofs.HostLemmas.{base_merged, base_of, base_unmerged}
 
--- ---- hosts that differ in the view of a class alone
-
-record AreLike (class : Class) (a b : Host) : Type 0 where
+record AreLike (class : Extension) (a b : Host) : Type 0 where
   arch : a.arch ≡ b.arch
   scope : a.scope ≡ b.scope
   names : hierarchies_at class a ≡ hierarchies_at class b
@@ -50,10 +49,10 @@ record AreLike (class : Class) (a b : Host) : Type 0 where
   view : (names : Option (List (List ℕ))) (root lower : Entries HeldFile) → with_view class names root lower a ≡ with_view class names root lower b
 
 -- where a path is in the hierarchies of the one, it is in those of the other
-same_in : (class : Class) (a b : Host) (p : List (List ℕ)) (v : Bool) → hierarchies_at class a ≡ hierarchies_at class b → is_in (hierarchies_at class b) p ≡ v → is_in (hierarchies_at class a) p ≡ v
+same_in : (class : Extension) (a b : Host) (p : List (List ℕ)) (v : Bool) → hierarchies_at class a ≡ hierarchies_at class b → is_in (hierarchies_at class b) p ≡ v → is_in (hierarchies_at class a) p ≡ v
 same_in class a b p v names in_ = ap (λ ns. is_in ns p) names ∙ in_
 
-like_back : (class : Class) (a b : Host) → AreLike class a b → AreLike class b a
+like_back : (class : Extension) (a b : Host) → AreLike class a b → AreLike class b a
 like_back class a b like = record {
   arch = sym like.arch;
   scope = sym like.scope;
@@ -64,39 +63,35 @@ like_back class a b like = record {
 }
 
 module _ (host : Host) (names : Option (List (List ℕ))) (root lower : Entries HeldFile) where
-  like_with : (class : Class) → ((p : List (List ℕ)) → is_in (hierarchies_at class host) p ≡ false → lookup root p ≡ lookup host.root p) → ((p : List (List ℕ)) → is_in (hierarchies_at class host) p ≡ false → lookup lower p ≡ lookup host.lower p) → AreLike class (with_view class names root lower host) host
+  like_with : (class : Extension) → ((p : List (List ℕ)) → is_in (hierarchies_at class host) p ≡ false → lookup root p ≡ lookup host.root p) → ((p : List (List ℕ)) → is_in (hierarchies_at class host) p ≡ false → lookup lower p ≡ lookup host.lower p) → AreLike class (with_view class names root lower host) host
   like_with Sysext seen under = record { arch = refl; scope = refl; names = refl; root = seen; lower = under; view = λ names root lower. refl }
   like_with Confext seen under = record { arch = refl; scope = refl; names = refl; root = seen; lower = under; view = λ names root lower. refl }
-  like_with Portable seen under = record { arch = refl; scope = refl; names = refl; root = seen; lower = under; view = λ names root lower. refl }
 
-  merged_by : (class : Class) → names ≡ None → is_merged class (with_view class names root lower host) ≡ false
+  merged_by : (class : Extension) → names ≡ None → is_merged class (with_view class names root lower host) ≡ false
   merged_by Sysext none = ap is_some none
   merged_by Confext none = ap is_some none
-  merged_by Portable none = refl
 
-module _ (host : Host) (class : Class) (next : Host) where
+module _ (host : Host) (class : Extension) (next : Host) where
   unmerged_like : IsUnmerged host class next → AreLike class next host
-  unmerged_like u = subst (λ h. AreLike class h host) (sym u.same) (like_with host None next.root next.lower class u.seen u.under)
+  unmerged_like u = subst (λ h. AreLike class h host) (sym u.same) (like_with host None next.root next.lower class u.root_outside u.lower_outside)
 
   unmerged_not : IsUnmerged host class next → is_merged class next ≡ false
   unmerged_not u = ap (is_merged class) u.same ∙ merged_by host None next.root next.lower class refl
 
   view_like : (base : Entries HeldFile) (items : List SurveyItem) → HasView host class base items next → AreLike class next host
-  view_like base items v = subst (λ h. AreLike class h host) (sym v.same) (like_with host (Some (names_of items)) next.root next.lower class v.trees.seen v.trees.under)
+  view_like base items v = subst (λ h. AreLike class h host) (sym v.same) (like_with host (Some (names_of items)) next.root next.lower class v.trees.root_outside v.trees.lower_outside)
 
-  module _ (extension : IsExtension class) (valid : IsValidHost host) where
+  module _ (valid : IsValidHost host) where
     unmerged_base : IsUnmerged host class next → (p : List (List ℕ)) → base_of next p ≡ base_of host p
     unmerged_base u p =
-        ap (λ h. base_of h p) u.same ∙ base_unmerged class host extension next.root next.lower u.seen u.under valid u.base p
+        ap (λ h. base_of h p) u.same ∙ base_unmerged class host next.root next.lower u.root_outside u.lower_outside valid u.base p
 
     view_base : (base : Entries HeldFile) (items : List SurveyItem) → ((p : List (List ℕ)) → lookup base p ≡ base_of host p) → HasView host class base items next → (p : List (List ℕ)) → base_of next p ≡ base_of host p
     view_base base items is v p =
         ap (λ h. base_of h p) v.same
-        ∙ base_merged class host extension next.root next.lower v.trees.seen v.trees.under (names_of items) (λ q in_. v.trees.base_under q in_ ∙ is q) p
+        ∙ base_merged class host next.root next.lower v.trees.root_outside v.trees.lower_outside (names_of items) (λ q in_. v.trees.base_lower q in_ ∙ is q) p
 
--- ---- what hosts that are like have in common
-
-module _ (told : HeldFile → Told) (base : Entries HeldFile) (class : Class) (force : Bool) (a b : Host) (like : AreLike class a b) where
+module _ (told : HeldFile → Told) (base : Entries HeldFile) (class : Extension) (force : Bool) (a b : Host) (like : AreLike class a b) where
   module _ (release : FinMap bytes_cmp (List ℕ)) where
     makes_like : (bytes : List ℕ) (kind : SurveyKind) → MakesOf release a class force bytes kind → MakesOf release b class force bytes kind
     makes_like bytes Masked makes = makes
@@ -132,7 +127,7 @@ module _ (told : HeldFile → Told) (base : Entries HeldFile) (class : Class) (f
 
   found_like : (found_items : List FoundItem) → IsFoundIn a base class found_items → IsFoundIn b base class found_items
   found_like found_items is =
-      subst (λ names. IsFound content_size base class b.arch names found_items) like.names (subst (λ arch. IsFound content_size base class arch (hierarchies_at class a) found_items) like.arch is)
+      subst (λ names. AreFound content_size base (class_of class) b.arch names found_items) like.names (subst (λ arch. AreFound content_size base (class_of class) arch (hierarchies_at class a) found_items) like.arch is)
 
   survey_like : (items : List SurveyItem) → IsSurveyOf told a base class force items → IsSurveyOf told b base class force items
   survey_like items is =
@@ -143,7 +138,7 @@ module _ (told : HeldFile → Told) (base : Entries HeldFile) (class : Class) (f
         surveyed = record { found_items = surveyed.found_items; are_found = found_like surveyed.found_items surveyed.are_found; each = each_like is.release surveyed.found_items items surveyed.each };
       }
 
-module _ (class : Class) (a b : Host) (like : AreLike class a b) where
+module _ (class : Extension) (a b : Host) (like : AreLike class a b) where
   to : (p : List (List ℕ)) (v : Bool) → is_in (hierarchies_at class b) p ≡ v → is_in (hierarchies_at class a) p ≡ v
   to p v in_ = same_in class a b p v like.names in_
 
@@ -153,9 +148,9 @@ module _ (class : Class) (a b : Host) (like : AreLike class a b) where
     lower_tree = trees.lower_tree;
     visible = λ p e in_ there. trees.visible p e (to p true in_) there;
     whole = λ p e in_ v. trees.whole p e (to p true in_) v;
-    seen = λ p out. trees.seen p (to p false out) ∙ like.root p (to p false out);
-    base_under = λ p in_. trees.base_under p (to p true in_);
-    under = λ p out. trees.under p (to p false out) ∙ like.lower p (to p false out);
+    root_outside = λ p out. trees.root_outside p (to p false out) ∙ like.root p (to p false out);
+    base_lower = λ p in_. trees.base_lower p (to p true in_);
+    lower_outside = λ p out. trees.lower_outside p (to p false out) ∙ like.lower p (to p false out);
   }
 
   has_like : (base : Entries HeldFile) (items : List SurveyItem) (next : Host) → HasView a class base items next → HasView b class base items next
@@ -172,13 +167,11 @@ module _ (class : Class) (a b : Host) (like : AreLike class a b) where
     root = u.root;
     lower = u.lower;
     base = λ p in_. u.base p (to p true in_) ∙ base p;
-    seen = λ p out. u.seen p (to p false out) ∙ like.root p (to p false out);
+    root_outside = λ p out. u.root_outside p (to p false out) ∙ like.root p (to p false out);
     gone = λ p in_. u.gone p (to p true in_);
-    under = λ p out. u.under p (to p false out) ∙ like.lower p (to p false out);
+    lower_outside = λ p out. u.lower_outside p (to p false out) ∙ like.lower p (to p false out);
     same = u.same ∙ like.view None back.root back.lower;
   }
-
--- ---- one host
 
 one_tree : (a b : Entries HeldFile) → IsTree a → IsTree b → ((p : List (List ℕ)) → lookup a p ≡ lookup b p) → a ≡ b
 one_tree a b x y same = same_entries path_cmp paths_total paths_exact a b (T_from_true _ x.sorted) (T_from_true _ y.sorted) same
@@ -191,11 +184,11 @@ in_or_out names p o w in_ out =
       | false ↦ out
     ] refl
 
-one_unmerged : (host : Host) (class : Class) (a b : Host) → IsUnmerged host class a → IsUnmerged host class b → a ≡ b
+one_unmerged : (host : Host) (class : Extension) (a b : Host) → IsUnmerged host class a → IsUnmerged host class b → a ≡ b
 one_unmerged host class a b x y =
     let names = hierarchies_at class host in
-    let root = one_tree a.root b.root x.root y.root (λ p. in_or_out names p (lookup a.root p) (lookup b.root p) (λ in_. x.base p in_ ∙ sym (y.base p in_)) (λ out. x.seen p out ∙ sym (y.seen p out))) in
-    let lower = one_tree a.lower b.lower x.lower y.lower (λ p. in_or_out names p (lookup a.lower p) (lookup b.lower p) (λ in_. x.gone p in_ ∙ sym (y.gone p in_)) (λ out. x.under p out ∙ sym (y.under p out))) in
+    let root = one_tree a.root b.root x.root y.root (λ p. in_or_out names p (lookup a.root p) (lookup b.root p) (λ in_. x.base p in_ ∙ sym (y.base p in_)) (λ out. x.root_outside p out ∙ sym (y.root_outside p out))) in
+    let lower = one_tree a.lower b.lower x.lower y.lower (λ p. in_or_out names p (lookup a.lower p) (lookup b.lower p) (λ in_. x.gone p in_ ∙ sym (y.gone p in_)) (λ out. x.lower_outside p out ∙ sym (y.lower_outside p out))) in
     x.same ∙ (λ i. with_view class None (root i) (lower i) host) ∙ sym y.same
 
 one_images : (base : Entries HeldFile) (items : List SurveyItem) (images others : List (Entries HeldFile)) → AreImagesOf base items images → AreImagesOf base items others → images ≡ others
@@ -214,60 +207,56 @@ same_options (Some x) w there back = sym (there x refl)
 same_options None None there back = refl
 same_options None (Some x) there back = back x refl
 
-one_view : (host : Host) (class : Class) (base : Entries HeldFile) (items : List SurveyItem) (a b : Host) → HasView host class base items a → HasView host class base items b → a ≡ b
+one_view : (host : Host) (class : Extension) (base : Entries HeldFile) (items : List SurveyItem) (a b : Host) → HasView host class base items a → HasView host class base items b → a ≡ b
 one_view host class base items a b x y =
     let names = hierarchies_at class host in
     let s : AreViewTrees host class base x.images a.root a.lower = x.trees in
     let t : AreViewTrees host class base x.images b.root b.lower = subst (λ images. AreViewTrees host class base images b.root b.lower) (one_images base items y.images x.images y.are_images x.are_images) y.trees in
-    let root = one_tree a.root b.root s.root_tree t.root_tree (λ p. in_or_out names p (lookup a.root p) (lookup b.root p) (λ in_. same_options (lookup a.root p) (lookup b.root p) (λ e there. t.whole p e in_ (s.visible p e in_ there)) (λ e there. s.whole p e in_ (t.visible p e in_ there))) (λ out. s.seen p out ∙ sym (t.seen p out))) in
-    let lower = one_tree a.lower b.lower s.lower_tree t.lower_tree (λ p. in_or_out names p (lookup a.lower p) (lookup b.lower p) (λ in_. s.base_under p in_ ∙ sym (t.base_under p in_)) (λ out. s.under p out ∙ sym (t.under p out))) in
+    let root = one_tree a.root b.root s.root_tree t.root_tree (λ p. in_or_out names p (lookup a.root p) (lookup b.root p) (λ in_. same_options (lookup a.root p) (lookup b.root p) (λ e there. t.whole p e in_ (s.visible p e in_ there)) (λ e there. s.whole p e in_ (t.visible p e in_ there))) (λ out. s.root_outside p out ∙ sym (t.root_outside p out))) in
+    let lower = one_tree a.lower b.lower s.lower_tree t.lower_tree (λ p. in_or_out names p (lookup a.lower p) (lookup b.lower p) (λ in_. s.base_lower p in_ ∙ sym (t.base_lower p in_)) (λ out. s.lower_outside p out ∙ sym (t.lower_outside p out))) in
     x.same ∙ (λ i. with_view class (Some (names_of items)) (root i) (lower i) host) ∙ sym y.same
 
 pub one_view_law : OneView
 one_view_law host class base [] next other x y = one_unmerged host class next other x y
 one_view_law host class base (item ∷ items) next other x y = one_view host class base (item ∷ items) next other x y
 
--- ---- what views leave out, and what they keep
-
 pub nothing_hides_in_views : NothingHidesInViews
 nothing_hides_in_views host class base items next path e view in_ stands =
     let v = view.trees.visible path e in_ stands in
     subst (λ e. (not (is_hide e) ≡ true) × (not (is_opaque e) ≡ true)) (sym v.shown) (shown_plain v.stored v.no_hide)
 
-merged_base : (host : Host) (class : Class) (base : Entries HeldFile) (items : List SurveyItem) (next : Host) → IsExtension class → IsValidHost host → ((p : List (List ℕ)) → lookup base p ≡ base_of host p) → IsMergedHost host class base items next → (p : List (List ℕ)) → base_of next p ≡ base_of host p
-merged_base host class base [] next extension valid is merged p = unmerged_base host class next extension valid merged p
-merged_base host class base (item ∷ items) next extension valid is merged p = view_base host class next extension valid base (item ∷ items) is merged p
+merged_base : (host : Host) (class : Extension) (base : Entries HeldFile) (items : List SurveyItem) (next : Host) → IsValidHost host → ((p : List (List ℕ)) → lookup base p ≡ base_of host p) → IsMergedHost host class base items next → (p : List (List ℕ)) → base_of next p ≡ base_of host p
+merged_base host class base [] next valid is merged p = unmerged_base host class next valid merged p
+merged_base host class base (item ∷ items) next valid is merged p = view_base host class next valid base (item ∷ items) is merged p
 
 pub merging_keeps_the_base : MergingKeepsTheBase
-merging_keeps_the_base host class base items next extension valid is merged p = is p ∙ sym (merged_base host class base items next extension valid is merged p)
+merging_keeps_the_base host class base items next valid is merged p = is p ∙ sym (merged_base host class base items next valid is merged p)
 
-merged_like : (host : Host) (class : Class) (base : Entries HeldFile) (items : List SurveyItem) (next : Host) → IsMergedHost host class base items next → AreLike class next host
+merged_like : (host : Host) (class : Extension) (base : Entries HeldFile) (items : List SurveyItem) (next : Host) → IsMergedHost host class base items next → AreLike class next host
 merged_like host class base [] next merged = unmerged_like host class next merged
 merged_like host class base (item ∷ items) next merged = view_like host class next base (item ∷ items) merged
 
 pub unmerge_undoes_merge : UnmergeUndoesMerge
-unmerge_undoes_merge host class base items next back extension valid is merged unmerged =
-    back_like class next host (merged_like host class base items next merged) (merged_base host class base items next extension valid is merged) back unmerged
+unmerge_undoes_merge host class base items next back valid is merged unmerged =
+    back_like class next host (merged_like host class base items next merged) (merged_base host class base items next valid is merged) back unmerged
 
--- ---- refreshing
-
-module _ (host : Host) (class : Class) (extension : IsExtension class) (valid : IsValidHost host) (merged : is_merged class host ≡ true) (mid : Host) (unmerged : IsUnmerged host class mid) (base : Entries HeldFile) where
+module _ (host : Host) (class : Extension) (valid : IsValidHost host) (merged : is_merged class host ≡ true) (mid : Host) (unmerged : IsUnmerged host class mid) (base : Entries HeldFile) where
   like_mid : AreLike class mid host
   like_mid = unmerged_like host class mid unmerged
 
   base_there : IsBaseTree host base → IsBaseTree mid base
-  base_there is = record { tree = is.tree; is_base = λ p. is.is_base p ∙ sym (unmerged_base host class mid extension valid unmerged p) }
+  base_there is = record { tree = is.tree; is_base = λ p. is.is_base p ∙ sym (unmerged_base host class mid valid unmerged p) }
 
   base_here : IsBaseTree mid base → IsBaseTree host base
-  base_here is = record { tree = is.tree; is_base = λ p. is.is_base p ∙ unmerged_base host class mid extension valid unmerged p }
+  base_here is = record { tree = is.tree; is_base = λ p. is.is_base p ∙ unmerged_base host class mid valid unmerged p }
 
   -- a plan of the merged host as one of the unmerged host, and back
-  plan_there : (items : List SurveyItem) (plan : Option Plan) → PlansView host class base items plan → (other : Option Plan) × PlansView mid class base items other × (after mid other ≡ after host plan)
+  plan_there : (items : List SurveyItem) (plan : Option Plan) → PlansView host class base items plan → (other : Option Plan) × PlansView mid class base items other × (host_after mid other ≡ host_after host plan)
   plan_there items None plans = absurd (true≢false (sym merged ∙ plans.1))
   plan_there [] (Some plan) plans = (None, (refl, unmerged_not host class mid unmerged), one_unmerged host class mid plan.next unmerged plans.1)
   plan_there (item ∷ items) (Some plan) plans = (Some plan, has_like class host mid (like_back class mid host like_mid) base (item ∷ items) plan.next plans, refl)
 
-  plan_here : (items : List SurveyItem) (plan : Option Plan) → PlansView mid class base items plan → (other : Option Plan) × PlansView host class base items other × (after host other ≡ after mid plan)
+  plan_here : (items : List SurveyItem) (plan : Option Plan) → PlansView mid class base items plan → (other : Option Plan) × PlansView host class base items other × (host_after host other ≡ host_after mid plan)
   plan_here [] None plans = (Some (record { next = mid }), (merged, unmerged), refl)
   plan_here (item ∷ items) None plans = absurd (no_items item items plans.0)
     where
@@ -277,18 +266,18 @@ module _ (host : Host) (class : Class) (extension : IsExtension class) (valid : 
   plan_here (item ∷ items) (Some plan) plans = (Some plan, has_like class mid host like_mid base (item ∷ items) plan.next plans, refl)
 
 pub refresh_is_unmerge_then_merge : RefreshIsUnmergeThenMerge
-refresh_is_unmerge_then_merge told old new host class force None refreshed extension valid unmerged refreshes = (refreshed.plan, (unmerged, refreshes), refl)
-refresh_is_unmerge_then_merge told old new host class force (Some plan) refreshed extension valid unmerged refreshes =
+refresh_is_unmerge_then_merge told old new host class force None refreshed valid unmerged refreshes = (refreshed.plan, (unmerged, refreshes), refl)
+refresh_is_unmerge_then_merge told old new host class force (Some plan) refreshed valid unmerged refreshes =
     let mid = plan.next in
     let base = refreshes.0 in
     let is = refreshes.2 in
-    let other = plan_there host class extension valid unmerged.0 mid unmerged.1 base (chosen is.items) refreshed.plan is.plan in (
+    let other = plan_there host class valid unmerged.0 mid unmerged.1 base (chosen is.items) refreshed.plan is.plan in (
       other.0,
       (
         unmerged_not host class mid unmerged.1,
         (
           base,
-          base_there host class extension valid unmerged.0 mid unmerged.1 base refreshes.1,
+          base_there host class valid unmerged.0 mid unmerged.1 base refreshes.1,
           record {
             items = is.items;
             surveyed = survey_like told base class force host mid (like_back class mid host (unmerged_like host class mid unmerged.1)) is.items is.surveyed;
@@ -301,16 +290,16 @@ refresh_is_unmerge_then_merge told old new host class force (Some plan) refreshe
     )
 
 pub unmerge_then_merge_is_refresh : UnmergeThenMergeIsRefresh
-unmerge_then_merge_is_refresh told old new host class force None merged extension valid unmerged merges = (merged.plan, merges.1, refl)
-unmerge_then_merge_is_refresh told old new host class force (Some plan) merged extension valid unmerged merges =
+unmerge_then_merge_is_refresh told old new host class force None merged valid unmerged merges = (merged.plan, merges.1, refl)
+unmerge_then_merge_is_refresh told old new host class force (Some plan) merged valid unmerged merges =
     let mid = plan.next in
     let base = merges.1.0 in
     let is = merges.1.2 in
-    let other = plan_here host class extension valid unmerged.0 mid unmerged.1 base (chosen is.items) merged.plan is.plan in (
+    let other = plan_here host class valid unmerged.0 mid unmerged.1 base (chosen is.items) merged.plan is.plan in (
       other.0,
       (
         base,
-        base_here host class extension valid unmerged.0 mid unmerged.1 base merges.1.1,
+        base_here host class valid unmerged.0 mid unmerged.1 base merges.1.1,
         record {
           items = is.items;
           surveyed = survey_like told base class force mid host (unmerged_like host class mid unmerged.1) is.items is.surveyed;

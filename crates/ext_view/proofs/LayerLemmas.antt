@@ -17,15 +17,13 @@ use Rattle.ext_layer.specs.declared.errors.LayerErr.{LayerErr}
 use Rattle.ext_layer.specs.declared.errors.LayerErr.TheVariants as layer_errors
 use Rattle.ext_host.specs.Held.{HeldFile}
 use Rattle.ext_host.specs.Host.{is_in}
-use Rattle.ext_view.specs.Hierarchies.{inside}
+use Rattle.ext_view.specs.Inside.{inside}
 use Rattle.ext_view.specs.Errors.{of_layer}
 use Rattle.ext_view.specs.Layering.{GivesView, HasViewOf, IsView}
 use Rattle.ext_view.specs.Parts.{AreLayersOf, ArePartsOf}
 use Rattle.ext_view.specs.View.{AreImagesOf}
 use Rattle.ext_view.specs.declared.surveyed.SurveyItem.{SurveyItem}
 use Rattle.ext_view.proofs.InsideLemmas.{found_inside, in_prefix, in_root, none_inside}
-
--- ---- a list that is mapped
 
 -- where a mapped list is split, the list is
 record IsSplit {X Y : Type 0} (f : X → Y) (xs : List X) (above : List Y) (y : Y) : Type 0 where
@@ -68,8 +66,6 @@ prefix_of : (q p : List (List ℕ)) → is_proper_prefix q p ≡ true → is_pre
 prefix_of q p proper = (and_parts (is_prefix q p) (not (is_prefix p q)) proper).0
 
 module _ {C : Type 0} (names : List (List ℕ)) (p : List (List ℕ)) (in_ : is_in names p ≡ true) where
-  -- ---- one layer
-
   -- what stands at the prefixes of the path, but for the root, stands inside the names too
   cut_inside : (es : Entries C) → lookup es [] ≡ None → CutsOff es p → CutsOff (inside names es) p
   cut_inside es root (inl there) = inl (ap is_some (found_inside names p es in_) ∙ there)
@@ -82,8 +78,6 @@ module _ {C : Type 0} (names : List (List ℕ)) (p : List (List ℕ)) (in_ : is_
   cut_whole es (inr ([], proper, cuts)) = absurd (false≢true (sym (ap cuts_below (none_inside names [] es (in_root names))) ∙ cuts))
   cut_whole es (inr (m ∷ q, proper, cuts)) =
       inr (m ∷ q, proper, sym (ap cuts_below (found_inside names (m ∷ q) es (in_prefix names m q p (prefix_of (m ∷ q) p proper) ∙ in_))) ∙ cuts)
-
-  -- ---- all layers
 
   pub visible_whole : (layers : List (Entries C)) (e : Entry C) → AllByRecursion IsTree layers → IsVisible (map (inside names) layers) p e → IsVisible layers p e
   visible_whole layers e trees v =
@@ -121,8 +115,6 @@ visible_nowhere names p out layers e v =
     let s = split_map (inside names) layers v.above v.layer v.below v.split in
     false≢true (sym (ap is_some (none_inside names p s.layer out)) ∙ ap (λ es. is_some (lookup es p)) s.layer_is ∙ ap is_some v.stands)
 
--- ---- the view
-
 -- the layers are what some images have inside the names
 images_of : (base : Entries HeldFile) (names : List (List ℕ)) (items : List SurveyItem) (parts : List (Entries HeldFile)) → ArePartsOf base names items parts → (images : List (Entries HeldFile)) × AreImagesOf base items images × (parts ≡ map (inside names) images)
 images_of base names [] [] are = ([], tt, refl)
@@ -138,8 +130,6 @@ trees_of base [] [] tree are = tt
 trees_of base [] (image ∷ images) tree are = absurd are
 trees_of base (item ∷ items) [] tree are = absurd are
 trees_of base (item ∷ items) (image ∷ images) tree are = (subst IsTree (sym are.0.2) (tree_part are.0.0 base tree), trees_of base items images tree are.1)
-
--- ---- a list from its end
 
 reverse_cons : {X : Type 0} (x : X) (xs : List X) → reverse (x ∷ xs) ≡ reverse xs ++ x ∷ []
 reverse_cons x xs = reverse-append (x ∷ []) xs

@@ -11,5 +11,4 @@ pub mod LayerLemmas
 pub mod EntryLemmas
 pub mod ViewLemmas
 pub mod ChosenLemmas
-pub mod SampleLemmas
 pub mod LawsLemmas

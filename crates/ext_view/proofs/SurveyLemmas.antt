@@ -6,23 +6,24 @@ use Rattle.std.specs.List.{Contains}
 use Rattle.std.proofs.lemmas.List.Elements.{Contains-append_right}
 use Rattle.ext_lines.specs.ByteOrder.{bytes_cmp}
 use Rattle.ext_text.specs.Causes.{Rose}
-use Rattle.ext_text.specs.declared.class.Class.{Class}
+use Rattle.ext_text.specs.declared.extension.Extension.{Extension}
 use Rattle.ext_tree.specs.Tree.{Entries, lookup}
 use Rattle.ext_tree.specs.declared.entry.Entry.TheVariants.{File}
 use Rattle.ext_host.specs.Held.{HeldFile}
 use Rattle.ext_host.specs.Host.{IsBase, hierarchies_in, is_in, merged_hierarchies, present}
+use Rattle.ext_host.specs.Planning.{IsBaseTree, ServesAll, ServesHost}
 use Rattle.ext_host.specs.Shelf.{IsFound, Told}
 use Rattle.ext_host.specs.declared.host.Host.{Host}
 use Rattle.ext_host.specs.declared.shelf.ShelfErr.{ShelfErr}
 use Rattle.ext_host.specs.declared.shelf.ShelfErr.TheVariants as shelf_errors
-use Rattle.ext_find.specs.HostRelease.{ReadsHost, ServesAll, ShelfFault}
+use Rattle.ext_find.specs.HostRelease.{ReadsHost, ShelfFault}
 use Rattle.ext_find.specs.declared.release.FindErr.{FindErr}
 use Rattle.ext_find.specs.declared.release.FindErr.TheVariants as find_errors
 use Rattle.ext_find.specs.declared.found.FoundItem.{FoundItem}
 use Rattle.ext_view.specs.Errors.{of_find}
 use Rattle.ext_view.specs.Judging.{FailsAt, ItemsAs, ListsAs}
 use Rattle.ext_view.specs.Matched.{AreMatched}
-use Rattle.ext_view.specs.Survey.{IsBaseTree, IsFoundIn, IsHostRelease, IsItemOf, ServesHost, Surveys, SurveysAs}
+use Rattle.ext_view.specs.Surveying.{IsFoundIn, IsHostRelease, IsItemOf, Surveys, SurveysAs}
 use Rattle.ext_view.specs.declared.surveyed.SurveyItem.{SurveyItem}
 use Rattle.ext_view.specs.declared.errors.ViewErr.{ViewErr}
 use Rattle.ext_view.specs.declared.errors.ViewErr.TheVariants as errors
@@ -36,14 +37,14 @@ rose_before old mid new le (inr last) = inr last
 pub fault_before : (told here : Told) (old mid new : ℕ) (held : HeldFile) (e : ShelfErr) → here ≡ told → old ≤ mid → ShelfFault mid new here held e → ShelfFault old new told held e
 fault_before told here old mid new held shelf_errors.OutOfMemory same le fault = absurd fault
 fault_before told here old mid new held shelf_errors.Fault same le fault = rose_before old mid new le fault
-fault_before told here old mid new held (shelf_errors.Damaged home listed found) same le fault = (fault.0, subst (λ t. IsFound listed t found) same fault.1)
+fault_before told here old mid new held (shelf_errors.Damaged damage) same le fault = (fault.0, subst (λ t. IsFound damage.listed t damage.found) same fault.1)
 
 module _ (told here : HeldFile → Told) (same : (held : HeldFile) → here held ≡ told held) (old mid new : ℕ) (le : old ≤ mid) where
-  pub fails_before : (base : Entries HeldFile) (class : Class) (place : List (List ℕ)) (name : List ℕ) (e : ShelfErr) → FailsAt here mid new base class place name e → FailsAt told old new base class place name e
+  pub fails_before : (base : Entries HeldFile) (class : Extension) (place : List (List ℕ)) (name : List ℕ) (e : ShelfErr) → FailsAt here mid new base class place name e → FailsAt told old new base class place name e
   fails_before base class place name e fails = (fails.0, fails.1, fault_before (told fails.0) (here fails.0) old mid new fails.0 e (same fails.0) le fails.2)
 
   -- what fails at an item fails among the items
-  pub lists_fail : (host : Host) (base : Entries HeldFile) (class : Class) (force : Bool) (release : FinMap bytes_cmp (List ℕ)) (item : FoundItem) (items before after : List FoundItem) (e : ViewErr) → items ≡ before ++ item ∷ after → ItemsAs here mid new host base class force release item (Err e) → ListsAs told old new host base class force release items (Err e)
+  pub lists_fail : (host : Host) (base : Entries HeldFile) (class : Extension) (force : Bool) (release : FinMap bytes_cmp (List ℕ)) (item : FoundItem) (items before after : List FoundItem) (e : ViewErr) → items ≡ before ++ item ∷ after → ItemsAs here mid new host base class force release item (Err e) → ListsAs told old new host base class force release items (Err e)
   lists_fail host base class force release item items before after errors.OutOfMemory among fails = tt
   lists_fail host base class force release item items before after errors.Merged among fails = absurd fails
   lists_fail host base class force release item items before after errors.NoHostRelease among fails = absurd fails
@@ -59,7 +60,7 @@ module _ (told here : HeldFile → Told) (same : (held : HeldFile) → here held
   lists_fail host base class force release item items before after (errors.Limit which) among fails = absurd fails
 
 -- what a survey tells of the release file of the host, where that is not read
-pub host_fails : (told : HeldFile → Told) (old new : ℕ) (host : Host) (base : Entries HeldFile) (class : Class) (force : Bool) (e : FindErr) → ReadsHost base told old new (Err e) → SurveysAs told old new host base class force (Err (of_find e))
+pub host_fails : (told : HeldFile → Told) (old new : ℕ) (host : Host) (base : Entries HeldFile) (class : Extension) (force : Bool) (e : FindErr) → ReadsHost base told old new (Err e) → SurveysAs told old new host base class force (Err (of_find e))
 host_fails told old new host base class force find_errors.OutOfMemory reads = tt
 host_fails told old new host base class force (find_errors.BadHostRelease line) reads =
     let read = reads.2 in
@@ -77,7 +78,7 @@ among_items : {X : Type 0} (items before after : List X) (x : X) → items ≡ b
 among_items items before after x is = subst (λ xs. Contains xs x) (sym is) (Contains-append_right before (x ∷ after) x (zero, omega arith, refl))
 
 -- the survey of a host, by what is said of its items after its release file was read
-module _ (told here : HeldFile → Told) (same : (held : HeldFile) → here held ≡ told held) (old mid new : ℕ) (le : old ≤ mid) (host : Host) (base : Entries HeldFile) (class : Class) (force : Bool) (release : FinMap bytes_cmp (List ℕ)) (found_items : List FoundItem) (are_found : IsFoundIn host base class found_items) (is_release : IsHostRelease told base release) where
+module _ (told here : HeldFile → Told) (same : (held : HeldFile) → here held ≡ told held) (old mid new : ℕ) (le : old ≤ mid) (host : Host) (base : Entries HeldFile) (class : Extension) (force : Bool) (release : FinMap bytes_cmp (List ℕ)) (found_items : List FoundItem) (are_found : IsFoundIn host base class found_items) (is_release : IsHostRelease told base release) where
   pub surveys_listed : (result : Result (List SurveyItem) ViewErr) → ListsAs here mid new host base class force release found_items result → SurveysAs told old new host base class force result
   surveys_listed (Ok said) each =
       let same_told : here ≡ told = λ i held. same held i in
@@ -106,7 +107,7 @@ module _ (told here : HeldFile → Told) (same : (held : HeldFile) → here held
   surveys_listed (Err (errors.Limit which)) fails = absurd fails
 
 -- the survey of the host, whatever its base is called
-pub surveys_of_base : (told : HeldFile → Told) (old new : ℕ) (host : Host) (base : Entries HeldFile) (class : Class) (force : Bool) (result : Result (List SurveyItem) ViewErr) → IsBaseTree host base → SurveysAs told old new host base class force result → Surveys told old new host class force result
+pub surveys_of_base : (told : HeldFile → Told) (old new : ℕ) (host : Host) (base : Entries HeldFile) (class : Extension) (force : Bool) (result : Result (List SurveyItem) ViewErr) → IsBaseTree host base → SurveysAs told old new host base class force result → Surveys told old new host class force result
 surveys_of_base told old new host base class force (Ok items) is surveys = (base, is, surveys)
 surveys_of_base told old new host base class force (Err errors.OutOfMemory) is surveys = tt
 surveys_of_base told old new host base class force (Err errors.Merged) is surveys = absurd surveys

@@ -3,34 +3,36 @@ use Rattle.std.proofs.Common.{◌≡◌, ℕ, ◌+◌, ◌≤◌, true, false, c
 use mathlib.Core.Logic.{inl, inr}
 use Rattle.std.proofs.lemmas.Bool.{false≢true}
 use Rattle.std.specs.List.{sum_by}
-use Rattle.ext_text.specs.declared.class.Class.{Class}
+use Rattle.ext_text.specs.declared.extension.Extension.{Extension}
 use Rattle.ext_tree.specs.Tree.{Entries, IsTree, IsTreeWithin, lookup}
 use Rattle.ext_tree.specs.EntryLine.{IsWritable}
 use Rattle.ext_tree.specs.declared.entry.Entry.{Entry}
 use Rattle.ext_tree.specs.declared.entry.Entry.TheVariants.{File}
 use Rattle.ext_tree.proofs.ForCallers.{empty_tree}
+use Rattle.ext_tree.proofs.ForCallers.{length-sum, sorted_put_all}
 use Rattle.ext_host.specs.Held.{HeldFile}
 use Rattle.ext_host.specs.Host.{base_at, hierarchies_in, is_in, merged_hierarchies, merged_names, present, where_merged}
+use Rattle.ext_host.specs.Planning.{IsPlannedHost}
 use Rattle.ext_host.specs.Valid.{AreInRange, IsValidHost, all_bytes, bytes_of, held_form}
 use Rattle.ext_host.specs.declared.host.Host.{Host}
-use Rattle.ext_match.specs.Class.{IsExtension}
-use Rattle.ext_view.specs.Hierarchies.{hierarchies_at, inside, is_merged, outside, replaced}
-use Rattle.ext_view.specs.Plans.{IsNext}
+use Rattle.ext_view.specs.Hierarchies.{hierarchies_at, is_merged}
+use Rattle.ext_view.specs.Inside.{inside, outside}
+use Rattle.ext_view.specs.Replaced.{replaced}
 use Rattle.ext_view.specs.View.{IsUnmerged, with_view}
-use Rattle.ext_view.proofs.CountLemmas.{all_replaced, all_within, length-sum, sum_by-parts, sum_by-replaced}
+use Rattle.ext_view.proofs.CountLemmas.{all_replaced, all_within, sum_by-parts, sum_by-replaced}
 use Rattle.ext_view.proofs.HostLemmas.{HasHeld, base_unmerged, drawn_with, in_other, merged_either, merged_with, out_own, root_with, valid_with}
 use Rattle.ext_view.proofs.InsideLemmas.{all_inside, found_inside, sorted_inside, tree_inside}
-use Rattle.ext_view.proofs.ReplacedLemmas.{lookup_replaced, sorted_put_all, tree_replaced}
+use Rattle.ext_view.proofs.ReplacedLemmas.{lookup_replaced, tree_replaced}
 
 -- where the class is merged, its hierarchies are
 in_where : (merged : Option (List (List ℕ))) (names : List (List ℕ)) (p : List (List ℕ)) → is_some merged ≡ true → is_in (where_merged merged names) p ≡ is_in names p
 in_where None names p some = absurd (false≢true some)
 in_where (Some m) names p some = refl
 
-module _ (class : Class) (host : Host) (extension : IsExtension class) where
+module _ (class : Extension) (host : Host) where
   pub merged_in : (p : List (List ℕ)) → is_merged class host ≡ true → is_in (hierarchies_at class host) p ≡ true → is_in (merged_hierarchies (hierarchies_in host) (present host)) p ≡ true
   merged_in p merged in_ =
-      merged_either class host p extension ∙ ap (λ b. b || in_other class host p) (in_where (merged_names class (present host)) (hierarchies_at class host) p merged ∙ in_)
+      merged_either class host p ∙ ap (λ b. b || in_other class host p) (in_where (merged_names class (present host)) (hierarchies_at class host) p merged ∙ in_)
 
   -- what is seen, and what lies under it
   abbrev pub unmerged_root : Entries HeldFile
@@ -50,14 +52,14 @@ module _ (class : Class) (host : Host) (extension : IsExtension class) where
       root_says p ∙ ap (λ b. cond b (lookup (inside (hierarchies_at class host) host.lower) p) (lookup host.root p)) in_
       ∙ found_inside (hierarchies_at class host) p host.lower in_
 
-  seen_root : (p : List (List ℕ)) → is_in (hierarchies_at class host) p ≡ false → lookup unmerged_root p ≡ lookup host.root p
-  seen_root p out = root_says p ∙ ap (λ b. cond b (lookup (inside (hierarchies_at class host) host.lower) p) (lookup host.root p)) out
+  own_root : (p : List (List ℕ)) → is_in (hierarchies_at class host) p ≡ false → lookup unmerged_root p ≡ lookup host.root p
+  own_root p out = root_says p ∙ ap (λ b. cond b (lookup (inside (hierarchies_at class host) host.lower) p) (lookup host.root p)) out
 
   gone_lower : (p : List (List ℕ)) → is_in (hierarchies_at class host) p ≡ true → lookup unmerged_lower p ≡ None
   gone_lower p in_ = lower_says p ∙ ap (λ b. cond b None (lookup host.lower p)) in_
 
-  under_lower : (p : List (List ℕ)) → is_in (hierarchies_at class host) p ≡ false → lookup unmerged_lower p ≡ lookup host.lower p
-  under_lower p out = lower_says p ∙ ap (λ b. cond b None (lookup host.lower p)) out
+  own_lower : (p : List (List ℕ)) → is_in (hierarchies_at class host) p ≡ false → lookup unmerged_lower p ≡ lookup host.lower p
+  own_lower p out = lower_says p ∙ ap (λ b. cond b None (lookup host.lower p)) out
 
   module _ (root_tree : IsTree host.root) (lower_tree : IsTree host.lower) where
     pub tree_root : IsTree unmerged_root
@@ -105,9 +107,9 @@ module _ (class : Class) (host : Host) (extension : IsExtension class) where
             root = subst IsTree (sym root) tree_root;
             lower = subst IsTree (sym lower) tree_lower;
             base = λ p in_. ap (λ es. lookup es p) root ∙ base_root p in_;
-            seen = λ p out. ap (λ es. lookup es p) root ∙ seen_root p out;
+            root_outside = λ p out. ap (λ es. lookup es p) root ∙ own_root p out;
             gone = λ p in_. ap (λ es. lookup es p) lower ∙ gone_lower p in_;
-            under = λ p out. ap (λ es. lookup es p) lower ∙ under_lower p out;
+            lower_outside = λ p out. ap (λ es. lookup es p) lower ∙ own_lower p out;
             same = same ∙ (λ i. with_view class None (sym root i) (sym lower i) host);
           }
 
@@ -123,31 +125,31 @@ module _ (class : Class) (host : Host) (extension : IsExtension class) where
           elim (is_in (hierarchies_at class host) p) as (λ b. is_in (hierarchies_at class host) p ≡ b → is_in (merged_hierarchies (hierarchies_in (with_view class None unmerged_root unmerged_lower host)) (present (with_view class None unmerged_root unmerged_lower host))) p ≡ true) [
             | true ↦ λ in_. absurd (false≢true (sym (ap is_some (gone_lower p in_)) ∙ there))
             | false ↦ λ out.
-                merged_with class host None unmerged_root unmerged_lower p extension ∙ sym (out_own class host p extension out)
-                ∙ valid.present.lower p (sym (ap is_some (under_lower p out)) ∙ there)
+                merged_with class host None unmerged_root unmerged_lower p ∙ sym (out_own class host p out)
+                ∙ valid.present.lower p (sym (ap is_some (own_lower p out)) ∙ there)
           ] refl
 
       root_comes : (p : List (List ℕ)) (mode : ℕ) (held : HeldFile) → lookup unmerged_root p ≡ Some (File mode held) → HasHeld host held
       root_comes p mode held stands =
           elim (is_in (hierarchies_at class host) p) as (λ b. is_in (hierarchies_at class host) p ≡ b → HasHeld host held) [
             | true ↦ λ in_. inr (record { path = p; mode = mode; stands = sym (at_root p in_) ∙ stands })
-            | false ↦ λ out. inl (record { path = p; mode = mode; stands = sym (seen_root p out) ∙ stands })
+            | false ↦ λ out. inl (record { path = p; mode = mode; stands = sym (own_root p out) ∙ stands })
           ] refl
 
       lower_comes : (p : List (List ℕ)) (mode : ℕ) (held : HeldFile) → lookup unmerged_lower p ≡ Some (File mode held) → HasHeld host held
       lower_comes p mode held stands =
           elim (is_in (hierarchies_at class host) p) as (λ b. is_in (hierarchies_at class host) p ≡ b → HasHeld host held) [
             | true ↦ λ in_. absurd (false≢true (sym (ap is_some (gone_lower p in_)) ∙ ap is_some stands))
-            | false ↦ λ out. inr (record { path = p; mode = mode; stands = sym (under_lower p out) ∙ stands })
+            | false ↦ λ out. inr (record { path = p; mode = mode; stands = sym (own_lower p out) ∙ stands })
           ] refl
 
-      pub is_next : (next : Host) → next ≡ with_view class None unmerged_root unmerged_lower host → IsNext host next
+      pub is_next : (next : Host) → next ≡ with_view class None unmerged_root unmerged_lower host → IsPlannedHost host next
       is_next next same =
           let no_more_bytes : all_bytes unmerged_root + all_bytes unmerged_lower ≤ all_bytes host.root + all_bytes host.lower = no_more (λ e. bytes_of e.1) in
           let few = valid.present.limits.entries in
           let small = valid.present.limits.bytes in
           let fewer = no_more_entries in
-          subst (IsNext host) (sym same) (record {
-            valid = valid_with class host None unmerged_root unmerged_lower extension valid root_range lower_range (omega arith) (omega arith) tt lies (base_unmerged class host extension unmerged_root unmerged_lower seen_root under_lower valid base_root);
+          subst (IsPlannedHost host) (sym same) (record {
+            valid = valid_with class host None unmerged_root unmerged_lower valid root_range lower_range (omega arith) (omega arith) tt lies (base_unmerged class host unmerged_root unmerged_lower own_root own_lower valid base_root);
             drawn = drawn_with class host None unmerged_root unmerged_lower root_comes lower_comes;
           })

@@ -7,7 +7,7 @@ use Rattle.std.proofs.lemmas.List.{length-map}
 use Rattle.std.specs.List.{AllByRecursion, sum_by}
 use Rattle.ext_text.specs.Order.{paths_total}
 use Rattle.ext_text.specs.Path.{path_cmp}
-use Rattle.ext_text.specs.declared.class.Class.{Class}
+use Rattle.ext_text.specs.declared.extension.Extension.{Extension}
 use Rattle.ext_text.specs.declared.which.Which.TheVariants as limits
 use Rattle.ext_text.proofs.ForCallers.{all_append, all_back}
 use Rattle.ext_tree.specs.EntryLine.{IsWritable}
@@ -15,27 +15,29 @@ use Rattle.ext_tree.specs.Tree.{Entries, IsTree, as_shown, lookup, most_entries}
 use Rattle.ext_tree.specs.declared.entry.Entry.{Entry}
 use Rattle.ext_tree.specs.declared.entry.Entry.TheVariants.{File}
 use Rattle.ext_tree.proofs.ForCallers.{each_found}
+use Rattle.ext_tree.proofs.ForCallers.{length-sum, sorted_put_all}
 use Rattle.ext_layer.specs.Layered.{IsVisible}
 use Rattle.ext_host.specs.Held.{HeldFile}
 use Rattle.ext_host.specs.Host.{is_in}
+use Rattle.ext_host.specs.Limits.{PassLimit}
+use Rattle.ext_host.specs.Planning.{IsBaseTree, IsPlannedHost}
 use Rattle.ext_host.specs.Valid.{AreInRange, AreMerged, IsValidHost, all_bytes, held_form, most_bytes}
 use Rattle.ext_host.specs.declared.host.Host.{Host}
-use Rattle.ext_match.specs.Class.{IsExtension}
-use Rattle.ext_view.specs.Hierarchies.{hierarchies_at, inside, outside, replaced}
+use Rattle.ext_view.specs.Hierarchies.{hierarchies_at}
+use Rattle.ext_view.specs.Inside.{inside, outside}
+use Rattle.ext_view.specs.Replaced.{replaced}
 use Rattle.ext_view.specs.Layering.{AreChosen, AreTrees, FitsWithin, GivesTrees, GivesView, HasViewOf, IsView}
-use Rattle.ext_view.specs.Plans.{IsNext, PassLimit}
-use Rattle.ext_view.specs.Survey.{IsBaseTree}
 use Rattle.ext_view.specs.View.{AreImagesOf, AreViewTrees, HasView, names_of, with_view}
 use Rattle.ext_view.specs.declared.surveyed.SurveyItem.{SurveyItem}
 use Rattle.ext_view.specs.declared.errors.ViewErr.{ViewErr}
 use Rattle.ext_view.specs.declared.errors.ViewErr.TheVariants as errors
-use Rattle.ext_view.proofs.CountLemmas.{length-sum, sum_by-replaced}
+use Rattle.ext_view.proofs.CountLemmas.{sum_by-replaced}
 use Rattle.ext_view.proofs.EntryLemmas.{all_at, all_from_lookup, file_shown, shown_writable}
 use Rattle.ext_view.proofs.HostLemmas.{HasHeld, base_merged, drawn_with, in_merged, in_other, merged_with, out_own, root_with, valid_with}
 use Rattle.ext_view.proofs.ImageLemmas.{entry_of_image}
 use Rattle.ext_view.proofs.InsideLemmas.{all_inside, found_inside, sorted_inside, tree_inside}
 use Rattle.ext_view.proofs.LayerLemmas.{all_reverse}
-use Rattle.ext_view.proofs.ReplacedLemmas.{lookup_replaced, sorted_put_all, tree_replaced}
+use Rattle.ext_view.proofs.ReplacedLemmas.{lookup_replaced, tree_replaced}
 
 -- all of a view is in the names
 pub all_viewed : (names : List (List ℕ)) (base : Entries HeldFile) (images : List (Entries HeldFile)) (view : Entries HeldFile) → IsView names base images view → AllByRecursion (λ e. is_in names e.0 ≡ true) view
@@ -46,9 +48,7 @@ all_viewed names base images view is =
       | false ↦ λ out. absurd (false≢true (sym (ap is_some (is.within p out)) ∙ there))
     ] refl)
 
--- ---- the trees of the merged host
-
-module _ (class : Class) (host : Host) (base : Entries HeldFile) (is_base : IsBaseTree host base) (root_tree : IsTree host.root) (lower_tree : IsTree host.lower) where
+module _ (class : Extension) (host : Host) (base : Entries HeldFile) (is_base : IsBaseTree host base) (root_tree : IsTree host.root) (lower_tree : IsTree host.lower) where
   abbrev pub view_root : Entries HeldFile → Entries HeldFile
   view_root view = replaced (hierarchies_at class host) host.root view
 
@@ -79,9 +79,9 @@ module _ (class : Class) (host : Host) (base : Entries HeldFile) (is_base : IsBa
       lower_tree = tree_lower;
       visible = λ p e in_ there. is.visible p e in_ (sym (at_root p in_) ∙ there);
       whole = λ p e in_ seen. at_root p in_ ∙ is.whole p e in_ seen;
-      seen = λ p out. root_says p ∙ ap (λ b. cond b (lookup view p) (lookup host.root p)) out;
-      base_under = λ p in_. lower_says p ∙ ap (λ b. cond b (lookup (inside (hierarchies_at class host) base) p) (lookup host.lower p)) in_ ∙ found_inside (hierarchies_at class host) p base in_;
-      under = λ p out. lower_says p ∙ ap (λ b. cond b (lookup (inside (hierarchies_at class host) base) p) (lookup host.lower p)) out;
+      root_outside = λ p out. root_says p ∙ ap (λ b. cond b (lookup view p) (lookup host.root p)) out;
+      base_lower = λ p in_. lower_says p ∙ ap (λ b. cond b (lookup (inside (hierarchies_at class host) base) p) (lookup host.lower p)) in_ ∙ found_inside (hierarchies_at class host) p base in_;
+      lower_outside = λ p out. lower_says p ∙ ap (λ b. cond b (lookup (inside (hierarchies_at class host) base) p) (lookup host.lower p)) out;
     }
 
     -- what is seen is no shorter than the view
@@ -89,8 +89,6 @@ module _ (class : Class) (host : Host) (base : Entries HeldFile) (is_base : IsBa
     view_shorter =
         let sums : sum_by (λ _. 1) (view_root view) ≡ sum_by (λ _. 1) (outside (hierarchies_at class host) host.root) + sum_by (λ _. 1) view = sum_by-replaced (λ _. 1) (hierarchies_at class host) host.root view root_tree.sorted (all_viewed (hierarchies_at class host) base images view is) in
         omega (arith, sums, length-sum view, length-sum (view_root view))
-
-  -- ---- what is given
 
   module _ (items : List SurveyItem) where
     -- both trees, by whether they are within the limits
@@ -137,8 +135,6 @@ module _ (class : Class) (host : Host) (base : Entries HeldFile) (is_base : IsBa
           passes = (let passes : PassLimit limits.Entries (view_root view) view_lower = omega arith in subst (λ w. PassLimit w (view_root view) view_lower) (sym gives.0) passes);
         }
 
--- ---- the merged host
-
 -- the entry is one of the base, at some path
 abbrev IsOfBase : Entries HeldFile → Entry HeldFile → Type 0
 IsOfBase base e = (q : List (List ℕ)) × (lookup base q ≡ Some e)
@@ -152,7 +148,7 @@ images_of_base base (item ∷ items) (image ∷ images) are = (
   images_of_base base items images are.1,
 )
 
-module _ (class : Class) (host : Host) (extension : IsExtension class) (base : Entries HeldFile) (is_base : IsBaseTree host base) (items : List SurveyItem) (images : List (Entries HeldFile)) (are_images : AreImagesOf base items images) (root lower : Entries HeldFile) (trees : AreViewTrees host class base images root lower) where
+module _ (class : Extension) (host : Host) (base : Entries HeldFile) (is_base : IsBaseTree host base) (items : List SurveyItem) (images : List (Entries HeldFile)) (are_images : AreImagesOf base items images) (root lower : Entries HeldFile) (trees : AreViewTrees host class base images root lower) where
   -- each entry that is visible is one of the base, as it shows
   visible_of_base : (p : List (List ℕ)) (e : Entry HeldFile) → IsVisible (reverse images ++ base ∷ []) p e → (stored : Entry HeldFile) × IsOfBase base stored × (e ≡ as_shown stored)
   visible_of_base p e v =
@@ -186,7 +182,7 @@ module _ (class : Class) (host : Host) (extension : IsExtension class) (base : E
               | true ↦ λ in_.
                   let v = visible_of_base p e (trees.visible p e in_ stands) in
                   subst (IsWritable held_form) (sym v.2) (shown_writable held_form v.0 (base_has (IsWritable held_form) valid.present.limits.root valid.present.limits.lower v.1.0 v.0 v.1.1))
-              | false ↦ λ out. all_at (IsWritable held_form) host.root p e valid.present.limits.root (sym (trees.seen p out) ∙ stands)
+              | false ↦ λ out. all_at (IsWritable held_form) host.root p e valid.present.limits.root (sym (trees.root_outside p out) ∙ stands)
             ] refl
 
     lower_range : AreInRange lower
@@ -195,8 +191,8 @@ module _ (class : Class) (host : Host) (extension : IsExtension class) (base : E
         at : (p : List (List ℕ)) (e : Entry HeldFile) → lookup lower p ≡ Some e → IsWritable held_form e
         at p e stands =
             elim (is_in (hierarchies_at class host) p) as (λ b. is_in (hierarchies_at class host) p ≡ b → IsWritable held_form e) [
-              | true ↦ λ in_. base_has (IsWritable held_form) valid.present.limits.root valid.present.limits.lower p e (sym (trees.base_under p in_) ∙ stands)
-              | false ↦ λ out. all_at (IsWritable held_form) host.lower p e valid.present.limits.lower (sym (trees.under p out) ∙ stands)
+              | true ↦ λ in_. base_has (IsWritable held_form) valid.present.limits.root valid.present.limits.lower p e (sym (trees.base_lower p in_) ∙ stands)
+              | false ↦ λ out. all_at (IsWritable held_form) host.lower p e valid.present.limits.lower (sym (trees.lower_outside p out) ∙ stands)
             ] refl
 
     root_comes : (p : List (List ℕ)) (mode : ℕ) (held : HeldFile) → lookup root p ≡ Some (File mode held) → HasHeld host held
@@ -205,31 +201,31 @@ module _ (class : Class) (host : Host) (extension : IsExtension class) (base : E
           | true ↦ λ in_.
               let v = visible_of_base p (File mode held) (trees.visible p (File mode held) in_ stands) in
               base_held v.1.0 mode held (v.1.1 ∙ ap Some (file_shown v.0 mode held v.2))
-          | false ↦ λ out. inl (record { path = p; mode = mode; stands = sym (trees.seen p out) ∙ stands })
+          | false ↦ λ out. inl (record { path = p; mode = mode; stands = sym (trees.root_outside p out) ∙ stands })
         ] refl
 
     lower_comes : (p : List (List ℕ)) (mode : ℕ) (held : HeldFile) → lookup lower p ≡ Some (File mode held) → HasHeld host held
     lower_comes p mode held stands =
         elim (is_in (hierarchies_at class host) p) as (λ b. is_in (hierarchies_at class host) p ≡ b → HasHeld host held) [
-          | true ↦ λ in_. base_held p mode held (sym (trees.base_under p in_) ∙ stands)
-          | false ↦ λ out. inr (record { path = p; mode = mode; stands = sym (trees.under p out) ∙ stands })
+          | true ↦ λ in_. base_held p mode held (sym (trees.base_lower p in_) ∙ stands)
+          | false ↦ λ out. inr (record { path = p; mode = mode; stands = sym (trees.lower_outside p out) ∙ stands })
         ] refl
 
     module _ (names : List (List ℕ)) where
       lies : (p : List (List ℕ)) → is_some (lookup lower p) ≡ true → in_merged (with_view class (Some names) root lower host) p ≡ true
       lies p there =
           elim (is_in (hierarchies_at class host) p) as (λ b. is_in (hierarchies_at class host) p ≡ b → in_merged (with_view class (Some names) root lower host) p ≡ true) [
-            | true ↦ λ in_. merged_with class host (Some names) root lower p extension ∙ ap (λ b. b || in_other class host p) in_
+            | true ↦ λ in_. merged_with class host (Some names) root lower p ∙ ap (λ b. b || in_other class host p) in_
             | false ↦ λ out.
-                merged_with class host (Some names) root lower p extension ∙ ap (λ b. b || in_other class host p) out
-                ∙ sym (out_own class host p extension out)
-                ∙ valid.present.lower p (sym (ap is_some (trees.under p out)) ∙ there)
+                merged_with class host (Some names) root lower p ∙ ap (λ b. b || in_other class host p) out
+                ∙ sym (out_own class host p out)
+                ∙ valid.present.lower p (sym (ap is_some (trees.lower_outside p out)) ∙ there)
           ] refl
 
-      pub view_next : (next : Host) → AreMerged names → length root + length lower ≤ most_entries → all_bytes root + all_bytes lower ≤ most_bytes → next ≡ with_view class (Some names) root lower host → IsNext host next
+      pub view_next : (next : Host) → AreMerged names → length root + length lower ≤ most_entries → all_bytes root + all_bytes lower ≤ most_bytes → next ≡ with_view class (Some names) root lower host → IsPlannedHost host next
       view_next next merged entries bytes same =
-          subst (IsNext host) (sym same) (record {
-            valid = valid_with class host (Some names) root lower extension valid root_range lower_range entries bytes merged lies (base_merged class host extension root lower trees.seen trees.under names (λ p in_. trees.base_under p in_ ∙ is_base.is_base p));
+          subst (IsPlannedHost host) (sym same) (record {
+            valid = valid_with class host (Some names) root lower valid root_range lower_range entries bytes merged lies (base_merged class host root lower trees.root_outside trees.lower_outside names (λ p in_. trees.base_lower p in_ ∙ is_base.is_base p));
             drawn = drawn_with class host (Some names) root lower root_comes lower_comes;
           })
 
@@ -241,7 +237,7 @@ chosen_merged base items chosen some = record {
 }
 
 -- the host with the trees of the view has the view
-pub has_view : (host : Host) (class : Class) (base : Entries HeldFile) (items : List SurveyItem) (root lower : Entries HeldFile) (next : Host) → AreTrees host class base items root lower → next ≡ with_view class (Some (names_of items)) root lower host → HasView host class base items next
+pub has_view : (host : Host) (class : Extension) (base : Entries HeldFile) (items : List SurveyItem) (root lower : Entries HeldFile) (next : Host) → AreTrees host class base items root lower → next ≡ with_view class (Some (names_of items)) root lower host → HasView host class base items next
 has_view host class base items root lower next are same =
     let trees = root_with class host (Some (names_of items)) root lower in
     let root_is : next.root ≡ root = ap (λ (h : Host). h.root) same ∙ trees.0 in

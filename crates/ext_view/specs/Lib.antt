@@ -1,10 +1,12 @@
 pub mod Errors
 pub mod Matched
 pub mod Hierarchies
-pub mod ImageRelease
-pub mod Survey
+pub mod Inside
+pub mod Replaced
+pub mod Image
+pub mod Surveying
 pub mod View
-pub mod Plans
+pub mod Merging
 pub mod Laws
 pub mod Judging
 pub mod Parts

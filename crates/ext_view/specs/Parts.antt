@@ -4,7 +4,7 @@ use Rattle.ext_tree.specs.Part.{part}
 use Rattle.ext_tree.specs.Tree.{Entries}
 use Rattle.ext_walk.specs.Walk.{Ends}
 use Rattle.ext_host.specs.Held.{HeldFile}
-use Rattle.ext_view.specs.Hierarchies.{inside}
+use Rattle.ext_view.specs.Inside.{inside}
 use Rattle.ext_view.specs.Matched.{AreMatched}
 use Rattle.ext_view.specs.declared.surveyed.SurveyItem.{SurveyItem}
 
@@ -26,4 +26,5 @@ ArePartsOf base hierarchies items layers = AreMatched (λ item layer. IsPartAt b
 
 -- and of the last one first
 abbrev pub AreLayersOf : Entries HeldFile → List (List ℕ) → List SurveyItem → List (Entries HeldFile) → Type 0
-AreLayersOf base hierarchies items layers = (parts : List (Entries HeldFile)) × ArePartsOf base hierarchies items parts × (layers ≡ reverse parts)
+AreLayersOf base hierarchies items layers =
+    (parts : List (Entries HeldFile)) × ArePartsOf base hierarchies items parts × (layers ≡ reverse parts)

@@ -3,8 +3,8 @@
 -- has at a hierarchy, the directory's own mode and marks too, is this project's own choice.
 use Rattle.std.specs.Prelude.{◌≡◌, ℕ, Bool, true, false, List, [], ◌∷◌, ◌++◌, map, reverse, IsTrue, Option, Some, None}
 use Rattle.std.specs.List.{filter}
-use Rattle.ext_text.specs.declared.class.Class.{Class}
-use Rattle.ext_text.specs.declared.class.Class.TheVariants.{Sysext, Confext, Portable}
+use Rattle.ext_text.specs.declared.extension.Extension.{Extension}
+use Rattle.ext_text.specs.declared.extension.Extension.TheVariants.{Sysext, Confext}
 use Rattle.ext_tree.specs.Part.{part}
 use Rattle.ext_tree.specs.Tree.{Entries, IsTree, lookup}
 use Rattle.ext_tree.specs.declared.entry.Entry.{Entry}
@@ -20,8 +20,6 @@ use Rattle.ext_view.specs.Matched.{AreMatched}
 use Rattle.ext_view.specs.declared.surveyed.SurveyItem.{SurveyItem}
 use Rattle.ext_view.specs.declared.surveyed.SurveyKind.{SurveyKind}
 use Rattle.ext_view.specs.declared.surveyed.SurveyKind.TheVariants.{Masked, Raw, Broken, BadRelease, Image}
-
--- ---- the chosen images
 
 -- the verdict lets an image be merged
 abbrev pub is_fitting : Verdict → Bool
@@ -45,6 +43,7 @@ is_fit (Image verdict) = is_fitting verdict
 abbrev pub chosen : List SurveyItem → List SurveyItem
 chosen items = filter (λ item. is_fit item.kind) items
 
+-- the names of items
 abbrev pub names_of : List SurveyItem → List (List ℕ)
 names_of items = map (λ item. item.name) items
 
@@ -56,44 +55,46 @@ IsImageOf base item image = (end : List (List ℕ)) × Ends base item.place end 
 abbrev pub AreImagesOf : Entries HeldFile → List SurveyItem → List (Entries HeldFile) → Type 0
 AreImagesOf base items images = AreMatched (IsImageOf base) items images
 
--- ---- hosts with and without the view
-
 -- the host with other trees, and with these names for the class
-abbrev pub with_view : Class → Option (List (List ℕ)) → Entries HeldFile → Entries HeldFile → Host → Host
+abbrev pub with_view : Extension → Option (List (List ℕ)) → Entries HeldFile → Entries HeldFile → Host → Host
 with_view Sysext names root lower host = record host { root = root; lower = lower; sysext = names }
 with_view Confext names root lower host = record host { root = root; lower = lower; confext = names }
-with_view Portable names root lower host = record host { root = root; lower = lower }
 
--- The unmerged host: at and below the hierarchies of the class the base is seen, nothing lies under it there, and the class
+-- The unmerged host: at and below the hierarchies of the class its root is the base, and its lower tree has nothing; the class
 -- has no names. All else is as it was.
-pub record IsUnmerged (host : Host) (class : Class) (next : Host) : Type 0 where
+pub record IsUnmerged (host : Host) (class : Extension) (next : Host) : Type 0 where
   pub root : IsTree next.root
   pub lower : IsTree next.lower
-  pub base : (path : List (List ℕ)) → IsTrue (is_in (hierarchies_at class host) path) → lookup next.root path ≡ base_at (hierarchies_in host) (present host) path
-  pub seen : (path : List (List ℕ)) → is_in (hierarchies_at class host) path ≡ false → lookup next.root path ≡ lookup host.root path
+  pub base : (path : List (List ℕ)) → IsTrue (is_in (hierarchies_at class host) path)
+      → lookup next.root path ≡ base_at (hierarchies_in host) (present host) path
+  pub root_outside : (path : List (List ℕ)) → is_in (hierarchies_at class host) path ≡ false → lookup next.root path ≡ lookup host.root path
   pub gone : (path : List (List ℕ)) → IsTrue (is_in (hierarchies_at class host) path) → lookup next.lower path ≡ None
-  pub under : (path : List (List ℕ)) → is_in (hierarchies_at class host) path ≡ false → lookup next.lower path ≡ lookup host.lower path
+  pub lower_outside : (path : List (List ℕ)) → is_in (hierarchies_at class host) path ≡ false
+      → lookup next.lower path ≡ lookup host.lower path
   pub same : next ≡ with_view class None next.root next.lower host
 
 -- The trees of the merged host, for its base and the images, the lowest first: at and below the hierarchies of the class
 -- what is visible of the images, the last on top, over the base, and under it the base. Elsewhere both are as they were.
-pub record AreViewTrees (host : Host) (class : Class) (base : Entries HeldFile) (images : List (Entries HeldFile)) (root lower : Entries HeldFile) : Type 0 where
+pub record AreViewTrees (host : Host) (class : Extension) (base : Entries HeldFile) (images : List (Entries HeldFile))
+    (root lower : Entries HeldFile) : Type 0 where
   pub root_tree : IsTree root
   pub lower_tree : IsTree lower
-  pub visible : (path : List (List ℕ)) (e : Entry HeldFile) → IsTrue (is_in (hierarchies_at class host) path) → lookup root path ≡ Some e → IsVisible (reverse images ++ base ∷ []) path e
-  pub whole : (path : List (List ℕ)) (e : Entry HeldFile) → IsTrue (is_in (hierarchies_at class host) path) → IsVisible (reverse images ++ base ∷ []) path e → lookup root path ≡ Some e
-  pub seen : (path : List (List ℕ)) → is_in (hierarchies_at class host) path ≡ false → lookup root path ≡ lookup host.root path
-  pub base_under : (path : List (List ℕ)) → IsTrue (is_in (hierarchies_at class host) path) → lookup lower path ≡ lookup base path
-  pub under : (path : List (List ℕ)) → is_in (hierarchies_at class host) path ≡ false → lookup lower path ≡ lookup host.lower path
+  pub visible : (path : List (List ℕ)) (e : Entry HeldFile) → IsTrue (is_in (hierarchies_at class host) path) → lookup root path ≡ Some e
+      → IsVisible (reverse images ++ base ∷ []) path e
+  pub whole : (path : List (List ℕ)) (e : Entry HeldFile) → IsTrue (is_in (hierarchies_at class host) path)
+      → IsVisible (reverse images ++ base ∷ []) path e → lookup root path ≡ Some e
+  pub root_outside : (path : List (List ℕ)) → is_in (hierarchies_at class host) path ≡ false → lookup root path ≡ lookup host.root path
+  pub base_lower : (path : List (List ℕ)) → IsTrue (is_in (hierarchies_at class host) path) → lookup lower path ≡ lookup base path
+  pub lower_outside : (path : List (List ℕ)) → is_in (hierarchies_at class host) path ≡ false → lookup lower path ≡ lookup host.lower path
 
 -- the host with the view of some images of these names
-pub record HasView (host : Host) (class : Class) (base : Entries HeldFile) (items : List SurveyItem) (next : Host) : Type 0 where
+pub record HasView (host : Host) (class : Extension) (base : Entries HeldFile) (items : List SurveyItem) (next : Host) : Type 0 where
   pub images : List (Entries HeldFile)
   pub are_images : AreImagesOf base items images
   pub trees : AreViewTrees host class base images next.root next.lower
   pub same : next ≡ with_view class (Some (names_of items)) next.root next.lower host
 
 -- the merged host of the chosen items; where none is chosen it is the unmerged host
-abbrev pub IsMergedHost : Host → Class → Entries HeldFile → List SurveyItem → Host → Type 0
+abbrev pub IsMergedHost : Host → Extension → Entries HeldFile → List SurveyItem → Host → Type 0
 IsMergedHost host class base [] next = IsUnmerged host class next
 IsMergedHost host class base (item ∷ items) next = HasView host class base (item ∷ items) next

@@ -46,15 +46,15 @@ impl From<OutOfMemory> for ViewErr {
 
 impl From<ShelfErr> for ViewErr {
     ghost use Rattle.std.specs.Prelude.{◌≡◌};
-    ghost use Rattle.ext_view.specs.Errors.{of_shelf};
+    ghost use Rattle.ext_view.specs.Errors.{view_err_of_shelf};
 
-    ghost from_gives = { λ failed e. e ≡ of_shelf failed };
+    ghost from_gives = { λ failed e. e ≡ view_err_of_shelf failed };
 
     fn from(failed: ShelfErr) -> ViewErr {
         match failed {
             ShelfErr::OutOfMemory => ViewErr::OutOfMemory,
             ShelfErr::Fault => ViewErr::Shelf(failed),
-            ShelfErr::Damaged { .. } => ViewErr::Shelf(failed),
+            ShelfErr::Damaged(_) => ViewErr::Shelf(failed),
         }
     }
 }

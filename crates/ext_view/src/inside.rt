@@ -2,17 +2,17 @@
 ghost use Rattle.std.specs.Prelude.{◌≡◌, ◌++◌, ◌∷◌, [], IfOk, OnOk, map};
 ghost use Rattle.ext_text.specs.Path.{is_prefix};
 ghost use Rattle.ext_host.specs.Host.{is_in};
-ghost use Rattle.ext_view.specs.Hierarchies.{inside, seen_below};
+ghost use Rattle.ext_view.specs.Inside.{inside, seen_below};
 
 use ext_host::Held;
-use ext_text::{Name, OutOfMemory, Path};
+use ext_text::{Name, OutOfMemory, Path, PathRef};
 use ext_tree::{Entry, Held1, Tree};
 use std::alloc::Global;
 
 pub(crate) type Pair = (Path, Entry<Held>);
 
 // Whether the names of a path are at or below one of the hierarchies.
-pub(crate) fn is_in(hierarchies: &[Name], names: &[Name]) -> bool
+pub(crate) fn is_in(hierarchies: &[Name], names: &PathRef) -> bool
     ensures { result ≡ is_in hierarchies.now names.now }
 {
     hierarchies
@@ -21,12 +21,12 @@ pub(crate) fn is_in(hierarchies: &[Name], names: &[Name]) -> bool
 }
 
 // Whether the names of a path are at or below the hierarchy.
-fn stands_at(hierarchy: &Name, names: &[Name]) -> bool
+fn stands_at(hierarchy: &Name, names: &PathRef) -> bool
     ensures { result ≡ is_prefix (hierarchy.now ∷ []) names.now }
 {
-    match names {
-        [] => false,
-        [first, ..] => hierarchy.bytes().cmp(first.bytes()).is_eq(),
+    match names.split_first() {
+        None => false,
+        Some((first, _below)) => hierarchy.bytes().cmp(first).is_eq(),
     }
 }
 
@@ -43,7 +43,7 @@ pub(crate) fn inside(tree: Tree<Held>, hierarchies: &[Name]) -> Tree<Held>
 fn is_inside(hierarchies: &[Name], pair: &Pair) -> bool
     ensures { result ≡ is_in hierarchies.now pair.now.0 }
 {
-    is_in(hierarchies, pair.0.names())
+    is_in(hierarchies, &pair.0.names())
 }
 
 // Copies of those entries that are at or below the hierarchies once so many first names are taken off their paths.
@@ -72,23 +72,10 @@ fn push_inside(
 ) -> Result<(), OutOfMemory>
     ensures { OnOk result (copies.new.items ≡ copies.old.items ++ inside hierarchies.now (map (seen_below depth) (pair.now ∷ []))) }
 {
-    if is_in(hierarchies, names_below(pair, depth)) {
+    if is_in(hierarchies, &pair.0.names().rest(depth)) {
         copies.push(copy_below(alloc, pair, depth)?)?;
     }
     Ok(())
-}
-
-// The names of the entry's path after the first ones, so many of them.
-fn names_below(pair: &Pair, depth: usize) -> &[Name]
-    ensures { result.now ≡ (seen_below depth pair.now).0 }
-{
-    let names = pair.0.names();
-    if depth < names.len() {
-        let (_first, rest) = names.split_at(depth);
-        rest
-    } else {
-        &[]
-    }
 }
 
 // A copy of the entry, with so many first names taken off its path.

@@ -1,10 +1,9 @@
 // What a survey says of one found item.
 ghost use Rattle.std.specs.Prelude.{◌≤◌, IfOk};
-ghost use Rattle.ext_match.specs.Class.{IsExtension};
-ghost use Rattle.ext_find.specs.HostRelease.{ServesAll};
+ghost use Rattle.ext_host.specs.Planning.{ServesAll};
+ghost use Rattle.ext_view.specs.Image.{HasReleaseAt};
 ghost use Rattle.ext_view.specs.Judging.{IsSound, ItemsAs, JudgesAs, KindsAs, WhereImage};
-ghost use Rattle.ext_view.specs.ImageRelease.{LeadsToRelease};
-ghost use Rattle.ext_view.specs.Survey.{MakesOf};
+ghost use Rattle.ext_view.specs.Surveying.{MakesOf};
 
 use crate::errors::ViewErr;
 use crate::image::release_file;
@@ -13,7 +12,7 @@ use ext_find::{FoundItem, FoundKind};
 use ext_host::{Held, Host, Shelf};
 use ext_match::judge;
 use ext_release::{Release, ReleaseErr, read_release};
-use ext_text::{Class, Name, OutOfMemory, Path};
+use ext_text::{Extension, Name, OutOfMemory, Path};
 use ext_tree::Tree;
 use std::alloc::Global;
 
@@ -23,7 +22,7 @@ pub(crate) struct Look<'a> {
     pub(crate) alloc: Global,
     pub(crate) host: &'a Host,
     pub(crate) base: &'a Tree<Held>,
-    pub(crate) class: Class,
+    pub(crate) class: Extension,
     pub(crate) force: bool,
     pub(crate) release: &'a Release,
 }
@@ -34,15 +33,20 @@ pub(crate) fn item_of<H: Shelf>(
     item: FoundItem,
     shelf: &mut H,
 ) -> Result<SurveyItem, ViewErr>
-    requires extension { IsExtension look.now.class }
     requires sound { IsSound look.now.base.now look.now.class item }
     requires serves { ServesAll (H.serves shelf.old) look.now.base.now }
-    ensures gives { ItemsAs (H.told shelf.old) (H.faults shelf.old) (H.faults shelf.new) look.now.host.now look.now.base.now look.now.class look.now.force look.now.release.now item result }
+    ensures gives { ItemsAs (H.told shelf.old) (H.faults shelf.old) (H.faults shelf.new) look.now.host.now look.now.base.now
+        look.now.class look.now.force look.now.release.now item result }
     ensures stays { H.stays shelf.old shelf.new }
     ensures count { H.faults shelf.old ≤ H.faults shelf.new }
 {
-    let FoundItem { name, place, kind } = item;
-    let kind = kind_of(look, &name, &place, kind, shelf)?;
+    let FoundItem {
+        name,
+        place,
+        kind,
+        release,
+    } = item;
+    let kind = kind_of(look, &name, &place, kind, &release, shelf)?;
     Ok(SurveyItem { name, place, kind })
 }
 
@@ -52,12 +56,13 @@ fn kind_of<H: Shelf>(
     name: &Name,
     place: &Path,
     kind: FoundKind,
+    release: &Option<Path>,
     shelf: &mut H,
 ) -> Result<SurveyKind, ViewErr>
-    requires extension { IsExtension look.now.class }
-    requires leads { WhereImage kind (LeadsToRelease look.now.base.now look.now.class place.now name.now) }
+    requires leads { WhereImage kind (HasReleaseAt look.now.base.now look.now.class place.now name.now release.now) }
     requires serves { ServesAll (H.serves shelf.old) look.now.base.now }
-    ensures gives { KindsAs (H.told shelf.old) (H.faults shelf.old) (H.faults shelf.new) look.now.host.now look.now.base.now look.now.class look.now.force look.now.release.now place.now name.now kind result }
+    ensures gives { KindsAs (H.told shelf.old) (H.faults shelf.old) (H.faults shelf.new) look.now.host.now look.now.base.now
+        look.now.class look.now.force look.now.release.now place.now name.now kind result }
     ensures stays { H.stays shelf.old shelf.new }
     ensures count { H.faults shelf.old ≤ H.faults shelf.new }
 {
@@ -65,7 +70,7 @@ fn kind_of<H: Shelf>(
         FoundKind::Masked => Ok(SurveyKind::Masked),
         FoundKind::Raw => Ok(SurveyKind::Raw),
         FoundKind::Broken(why) => Ok(SurveyKind::Broken(why)),
-        FoundKind::Image => judged(look, name, place, shelf),
+        FoundKind::Image => judged(look, name, place, release, shelf),
     }
 }
 
@@ -74,23 +79,23 @@ fn judged<H: Shelf>(
     look: &Look,
     name: &Name,
     place: &Path,
+    release: &Option<Path>,
     shelf: &mut H,
 ) -> Result<SurveyKind, ViewErr>
-    requires extension { IsExtension look.now.class }
-    requires leads { LeadsToRelease look.now.base.now look.now.class place.now name.now }
+    requires leads { HasReleaseAt look.now.base.now look.now.class place.now name.now release.now }
     requires serves { ServesAll (H.serves shelf.old) look.now.base.now }
-    ensures gives { JudgesAs (H.told shelf.old) (H.faults shelf.old) (H.faults shelf.new) look.now.host.now look.now.base.now look.now.class look.now.force look.now.release.now place.now name.now result }
+    ensures gives { JudgesAs (H.told shelf.old) (H.faults shelf.old) (H.faults shelf.new) look.now.host.now
+        look.now.base.now look.now.class look.now.force look.now.release.now place.now name.now result }
     ensures stays { H.stays shelf.old shelf.new }
     ensures count { H.faults shelf.old ≤ H.faults shelf.new }
 {
-    let held = release_file(look.alloc, look.base, look.class, place, name)?;
+    let held = release_file(look.base, release);
     let text = shelf.bytes(look.alloc, held)?;
     Ok(made_of(look, text.bytes())?)
 }
 
 // What the bytes of its release file make of an image.
 fn made_of(look: &Look, bytes: &[u8]) -> Result<SurveyKind, OutOfMemory>
-    requires { IsExtension look.now.class }
     ensures { IfOk result (MakesOf look.now.release.now look.now.host.now look.now.class look.now.force bytes.now) }
 {
     match read_release(look.alloc, bytes) {

@@ -8,19 +8,19 @@
 #![tactic(auto)]
 
 mod errors;
+mod hierarchies;
 mod image;
 mod inside;
 mod judging;
 pub mod laws;
 mod layering;
 mod merging;
-mod names;
 mod outcome;
 mod replaced;
 mod surveyed;
 mod surveying;
 mod unmerging;
-mod viewed;
+mod view;
 
 pub use errors::ViewErr;
 pub use merging::{merge, refresh};

@@ -1,43 +1,46 @@
 // The plans of merged hosts.
 ghost use Rattle.std.specs.Prelude.{◌≡◌, ◌≤◌, IfOk};
+ghost use Rattle.ext_host.specs.Planning.{IsBaseTree, PlansNext, ServesHost};
 ghost use Rattle.ext_host.specs.Valid.{IsValidHost};
-ghost use Rattle.ext_match.specs.Class.{IsExtension};
 ghost use Rattle.ext_view.specs.Layering.{AreChosen, GivesPlan, MergesAs};
-ghost use Rattle.ext_view.specs.Plans.{GivesNext, Merges, PlansNext, Refreshes};
-ghost use Rattle.ext_view.specs.Survey.{IsBaseTree, ServesHost};
+ghost use Rattle.ext_view.specs.Merging.{GivesNext, Merges, Refreshes};
 ghost use Rattle.ext_view.specs.View.{chosen, is_fit, names_of};
 
 use crate::Survey;
 use crate::errors::ViewErr;
+use crate::hierarchies::is_merged;
 use crate::layering::merged;
-use crate::names::is_merged;
 use crate::outcome::Merge;
 use crate::surveyed::{SurveyItem, SurveyKind};
 use crate::surveying::{base_of, survey_of};
 use crate::unmerging::unmerge;
 use ext_host::{Held, Host, Plan, Shelf};
 use ext_match::Verdict;
-use ext_text::{Class, Names, OutOfMemory};
+use ext_text::{Extension, Names, OutOfMemory};
 use ext_tree::Tree;
 use std::alloc::Global;
 
 /// The plan of the merged host: at and below the hierarchies of the class what the images that can be used and fit show over
 /// the base, the greatest version on top, and under it the base. The rest of an image is not looked at. With no such image
-/// there is no plan. The class is `Sysext` or `Confext`. After systemd-sysext(8).
+/// there is no plan. After systemd-sysext(8).
 ///
 /// # Errors
-/// The first of these: `Merged` exactly where the class is merged; what [`survey`](crate::survey) answers; `Limit` exactly
-/// where the merged host would pass a limit, `Entries` where what is seen and what lies under it would have more than
-/// 262,144 entries together, and else `Bytes` where their files would have more than 4,294,967,296 bytes; `OutOfMemory`.
+/// The first of these:
+///
+/// - `Merged` exactly where the class is merged.
+/// - What [`survey`](crate::survey) answers.
+/// - `Limit` exactly where the merged host would pass a limit, `Entries` where what is seen and what lies under it would
+///   have more than 262,144 entries together, and else `Bytes` where their files would have more than 4,294,967,296 bytes.
+/// - `OutOfMemory`.
+///
 /// Whatever the answer, the shelf tells the same afterwards.
 pub fn merge<H: Shelf>(
     alloc: Global,
     host: &Host,
-    class: Class,
+    class: Extension,
     force: bool,
     shelf: &mut H,
 ) -> Result<Merge, ViewErr>
-    requires extension { IsExtension class }
     requires valid { IsValidHost host.now }
     requires serves { ServesHost (H.serves shelf.old) host.now }
     ensures gives { Merges (H.told shelf.old) (H.faults shelf.old) (H.faults shelf.new) host.now class force result }
@@ -48,6 +51,7 @@ pub fn merge<H: Shelf>(
     if is_merged(host, class) {
         return Err(ViewErr::Merged);
     }
+    // To merge is to refresh a host that has no view yet.
     refresh(alloc, host, class, force, shelf)
 }
 
@@ -60,11 +64,10 @@ pub fn merge<H: Shelf>(
 pub fn refresh<H: Shelf>(
     alloc: Global,
     host: &Host,
-    class: Class,
+    class: Extension,
     force: bool,
     shelf: &mut H,
 ) -> Result<Merge, ViewErr>
-    requires extension { IsExtension class }
     requires valid { IsValidHost host.now }
     requires serves { ServesHost (H.serves shelf.old) host.now }
     ensures gives { Refreshes (H.told shelf.old) (H.faults shelf.old) (H.faults shelf.new) host.now class force result }
@@ -98,11 +101,10 @@ fn is_chosen(item: &SurveyItem) -> bool
 fn merge_of(
     alloc: Global,
     host: &Host,
-    class: Class,
+    class: Extension,
     base: Tree<Held>,
     items: &[SurveyItem],
 ) -> Result<Merge, ViewErr>
-    requires extension { IsExtension class }
     requires valid { IsValidHost host.now }
     requires base { IsBaseTree host.now base }
     requires chosen { AreChosen base items.now }
@@ -118,11 +120,10 @@ fn merge_of(
 fn plan_of(
     alloc: Global,
     host: &Host,
-    class: Class,
+    class: Extension,
     base: Tree<Held>,
     items: &[SurveyItem],
 ) -> Result<Option<Plan>, ViewErr>
-    requires extension { IsExtension class }
     requires valid { IsValidHost host.now }
     requires base { IsBaseTree host.now base }
     requires chosen { AreChosen base items.now }

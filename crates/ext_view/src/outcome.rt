@@ -1,7 +1,7 @@
 use ext_host::Plan;
 use ext_text::Names;
 
-/// What merging comes to.
+/// What merging gives.
 #[derive(Debug, Drop)]
 pub struct Merge {
     /// The host that is wanted; `None` where the host is to stay as it is.

@@ -2,38 +2,42 @@
 ghost use Rattle.std.specs.Prelude.{◌≤◌, IfOk};
 ghost use Rattle.std.specs.List.{AllByRecursion};
 ghost use Rattle.ext_host.specs.Valid.{IsValidHost};
-ghost use Rattle.ext_match.specs.Class.{IsExtension};
-ghost use Rattle.ext_find.specs.HostRelease.{ServesAll};
+ghost use Rattle.ext_host.specs.Planning.{IsBaseTree, ServesAll, ServesHost};
 ghost use Rattle.ext_view.specs.Judging.{IsSound, ListsAs};
-ghost use Rattle.ext_view.specs.Survey.{IsBaseTree, ServesHost, Surveys, SurveysAs};
+ghost use Rattle.ext_view.specs.Surveying.{Surveys, SurveysAs};
 
 use crate::Survey;
 use crate::errors::ViewErr;
+use crate::hierarchies::hierarchies_of;
 use crate::judging::{Look, item_of};
-use crate::names::hierarchies_of;
 use ext_find::{Found, find, host_release};
 use ext_host::{Held, Host, Shelf};
-use ext_lines::grown;
-use ext_text::{Class, OutOfMemory};
+use ext_lines::allocated;
+use ext_text::{Extension, OutOfMemory};
 use ext_tree::Tree;
 use std::alloc::Global;
 
 /// What a host has to merge of a class: an item for each image and mask that is found in its base, in the order of versions
-/// of the names. Of an image that can be used it tells whether it fits the host, by the release files of both; with `force`
-/// each one fits whose release file reads. The class is `Sysext` or `Confext`. After systemd-sysext(8).
+/// of the names. Of an image that can be used it tells whether it fits the host, by the release files of both. With `force`
+/// each one fits whose release file reads. After systemd-sysext(8).
 ///
 /// # Errors
-/// The first of these: `NoHostRelease` exactly where the host has no release file; `BadHostRelease` exactly where it is
-/// faulty, with its first faulty line; `Shelf` where the shelf does not give the bytes of a release file that is read, the
-/// host's or an image's, for the cause that it has; `OutOfMemory`. Whatever the answer, the shelf tells the same afterwards.
+/// The first of these:
+///
+/// - `NoHostRelease` exactly where the host has no release file.
+/// - `BadHostRelease` exactly where it is faulty, with its first faulty line.
+/// - `Shelf` where the shelf does not give the bytes of a release file that is read, the host's or an image's, for the cause
+///   that it has.
+/// - `OutOfMemory`.
+///
+/// Whatever the answer, the shelf tells the same afterwards.
 pub fn survey<H: Shelf>(
     alloc: Global,
     host: &Host,
-    class: Class,
+    class: Extension,
     force: bool,
     shelf: &mut H,
 ) -> Result<Survey, ViewErr>
-    requires extension { IsExtension class }
     requires valid { IsValidHost host.now }
     requires serves { ServesHost (H.serves shelf.old) host.now }
     ensures gives { Surveys (H.told shelf.old) (H.faults shelf.old) (H.faults shelf.new) host.now class force result }
@@ -60,12 +64,11 @@ pub(crate) fn survey_of<H: Shelf>(
     alloc: Global,
     host: &Host,
     base: &Tree<Held>,
-    class: Class,
+    class: Extension,
     force: bool,
     shelf: &mut H,
 ) -> Result<Survey, ViewErr>
-    requires extension { IsExtension class }
-    requires serves { ServesAll (H.serves shelf.old) base.now }
+    requires { ServesAll (H.serves shelf.old) base.now }
     ensures gives { SurveysAs (H.told shelf.old) (H.faults shelf.old) (H.faults shelf.new) host.now base.now class force result }
     ensures stays { H.stays shelf.old shelf.new }
     ensures count { H.faults shelf.old ≤ H.faults shelf.new }
@@ -73,7 +76,13 @@ pub(crate) fn survey_of<H: Shelf>(
     let Some(release) = host_release(alloc, base, shelf)? else {
         return Err(ViewErr::NoHostRelease);
     };
-    let found = find(alloc, base, class, host.arch, hierarchies_of(host, class))?;
+    let found = find(
+        alloc,
+        base,
+        class.class(),
+        host.arch,
+        hierarchies_of(host, class),
+    )?;
     let look = Look {
         alloc,
         host,
@@ -87,16 +96,16 @@ pub(crate) fn survey_of<H: Shelf>(
 
 // What is said of each found item.
 fn items_of<H: Shelf>(look: &Look, found: Found, shelf: &mut H) -> Result<Survey, ViewErr>
-    requires extension { IsExtension look.now.class }
     requires sound { AllByRecursion (IsSound look.now.base.now look.now.class) found }
     requires serves { ServesAll (H.serves shelf.old) look.now.base.now }
-    ensures gives { ListsAs (H.told shelf.old) (H.faults shelf.old) (H.faults shelf.new) look.now.host.now look.now.base.now look.now.class look.now.force look.now.release.now found result }
+    ensures gives { ListsAs (H.told shelf.old) (H.faults shelf.old) (H.faults shelf.new) look.now.host.now look.now.base.now
+        look.now.class look.now.force look.now.release.now found result }
     ensures stays { H.stays shelf.old shelf.new }
     ensures count { H.faults shelf.old ≤ H.faults shelf.new }
 {
-    let mut items = grown(Vec::with_capacity(look.alloc, found.len()))?;
+    let mut items = allocated(Vec::with_capacity(look.alloc, found.len()))?;
     for item in found.into_vec() {
-        grown(items.push(item_of(look, item, shelf)?))?;
+        allocated(items.push(item_of(look, item, shelf)?))?;
     }
     Ok(Survey::from_vec(items))
 }

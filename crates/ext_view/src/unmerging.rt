@@ -1,28 +1,27 @@
 // The host without the view of a class.
 ghost use Rattle.std.specs.Prelude.{◌≡◌, true, IfOk};
+ghost use Rattle.ext_host.specs.Planning.{IsPlannedHost, PlansNext};
 ghost use Rattle.ext_host.specs.Valid.{IsValidHost};
-ghost use Rattle.ext_match.specs.Class.{IsExtension};
 ghost use Rattle.ext_view.specs.Hierarchies.{is_merged};
-ghost use Rattle.ext_view.specs.Plans.{IsNext, PlansNext, Unmerges};
+ghost use Rattle.ext_view.specs.Merging.{Unmerges};
 ghost use Rattle.ext_view.specs.View.{IsUnmerged};
 
+use crate::hierarchies::{hierarchies_of, is_merged};
 use crate::inside::copies_inside;
-use crate::names::{hierarchies_of, is_merged};
 use crate::replaced::replaced;
-use crate::viewed::with_view;
+use crate::view::with_view;
 use ext_host::{Host, Plan};
-use ext_text::{Class, OutOfMemory};
+use ext_text::{Extension, OutOfMemory};
 use ext_tree::Tree;
 use std::alloc::Global;
 
 /// The plan of the unmerged host: at and below the hierarchies of the class the base is seen again, and the class has no
-/// names. `None` exactly where the class is not merged. The class is `Sysext` or `Confext`.
+/// names. `None` exactly where the class is not merged.
 ///
 /// # Errors
 /// `OutOfMemory` alone.
-pub fn unmerge(alloc: Global, host: &Host, class: Class) -> Result<Option<Plan>, OutOfMemory>
-    requires extension { IsExtension class }
-    requires valid { IsValidHost host.now }
+pub fn unmerge(alloc: Global, host: &Host, class: Extension) -> Result<Option<Plan>, OutOfMemory>
+    requires { IsValidHost host.now }
     ensures gives { Unmerges host.now class result }
     ensures next { IfOk result (PlansNext host.now) }
 {
@@ -35,12 +34,11 @@ pub fn unmerge(alloc: Global, host: &Host, class: Class) -> Result<Option<Plan>,
 }
 
 // The unmerged host.
-fn unmerged(alloc: Global, host: &Host, class: Class) -> Result<Host, OutOfMemory>
-    requires extension { IsExtension class }
+fn unmerged(alloc: Global, host: &Host, class: Extension) -> Result<Host, OutOfMemory>
     requires valid { IsValidHost host.now }
     requires merged { is_merged class host.now ≡ true }
     ensures unmerged { IfOk result (IsUnmerged host.now class) }
-    ensures next { IfOk result (IsNext host.now) }
+    ensures next { IfOk result (IsPlannedHost host.now) }
 {
     let hierarchies = hierarchies_of(host, class).as_slice();
     let base = copies_inside(alloc, hierarchies, 0, host.lower.pairs())?;

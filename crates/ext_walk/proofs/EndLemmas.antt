@@ -2,7 +2,6 @@
 use Rattle.std.proofs.Common.{◌≡◌, ℕ, suc, zero, ◌+◌, ◌<◌, ◌≤◌, Bool, true, false, cond, List, [], ◌∷◌, ◌++◌, length, Option, Some, None, is_some, refl, sym, ap, ◌∙◌, subst, arith, length-append}
 use Rattle.std.specs.Prelude.{nat_le}
 use Rattle.std.specs.Option.{option_and_then}
-use Rattle.std.specs.Borrow.{Bor}
 use Rattle.std.specs.FinMap.Entries.{same_entries}
 use Rattle.std.proofs.lemmas.Bool.{false≢true}
 use Rattle.std.proofs.lemmas.Float.{T_from_true}
@@ -19,8 +18,6 @@ use Rattle.ext_walk.specs.declared.walking.Turn.{Turn}
 use Rattle.ext_walk.specs.declared.walking.Turn.TheVariants.{Moved, Met, Barred}
 use Rattle.ext_walk.specs.Steps.{Turns, TurnsTo}
 use Rattle.ext_walk.proofs.WalkLemmas.{from_some, no_some, one_end, step_idle, step_up, step_barred, step_into}
-
--- ---- the end is no link
 
 directory_stands : {C : Type 0} (o : Option (Entry C)) → is_directory_at o ≡ true → is_standing o ≡ true
 directory_stands None is = absurd (false≢true is)
@@ -114,8 +111,6 @@ end_path {C = C} es names end tree ends = go end (no_link es names end tree ends
     go [] is = record { each = tt; depth = omega arith; size = omega arith }
     go (n ∷ p) is = tree.paths (n ∷ p) (standing_some (lookup es (n ∷ p)) is)
 
--- ---- the whole tree is its part below the root
-
 pub part_root : {C : Type 0} (es : Entries C) → IsTree es → part [] es ≡ es
 part_root es tree = same_entries path_cmp paths_total paths_exact (part [] es) es (T_from_true _ (tree_part [] es tree).sorted) (T_from_true _ tree.sorted) same
   where
@@ -123,16 +118,10 @@ part_root es tree = same_entries path_cmp paths_total paths_exact (part [] es) e
     same [] = root_part [] es ∙ sym tree.root
     same (n ∷ q) = lookup_part [] n q es
 
-abbrev pub seen : Option (Bor (List (List ℕ))) → Option (List (List ℕ))
-seen None = None
-seen (Some at) = Some at.now
-
-pub resolves_whole : {C : Type 0} (es : Entries C) (names : List (List ℕ)) (o : Option (Bor (List (List ℕ)))) → IsTree es → ResolvesIn es [] names o → Resolves es names (seen o)
+pub resolves_whole : {C : Type 0} (es : Entries C) (names : List (List ℕ)) (o : Option (List (List ℕ))) → IsTree es → ResolvesIn es [] names o → Resolves es names o
 resolves_whole es names None tree in_ = λ end ends. in_ end (subst (λ fs. Ends fs names end) (sym (part_root es tree)) ends)
 resolves_whole es names (Some at) tree in_ =
     subst (λ p. Ends es names p) (sym in_.1) (subst (λ fs. Ends fs names in_.0) (part_root es tree) in_.2)
-
--- ---- what one name does inside an image
 
 module _ {C : Type 0} (es : Entries C) (image at here : List (List ℕ)) (is : here ≡ image ++ at) where
   child_part : (name : List ℕ) → lookup (part image es) (at ++ name ∷ []) ≡ lookup es (here ++ name ∷ [])
@@ -145,7 +134,7 @@ module _ {C : Type 0} (es : Entries C) (image at here : List (List ℕ)) (is : h
   child_names : (name : List ℕ) → here ++ name ∷ [] ≡ image ++ (at ++ name ∷ [])
   child_names name = ap (λ p. p ++ name ∷ []) is ∙ append_assoc image at (name ∷ [])
 
-  pub turns_idle : (name : List ℕ) (new : Bor (List (List ℕ))) → is_idle name ≡ true → new.now ≡ here → Turns es image at name (Moved new)
+  pub turns_idle : (name : List ℕ) (new : List (List ℕ)) → is_idle name ≡ true → new ≡ here → Turns es image at name (Moved new)
   turns_idle name new idle same = (at, same ∙ is, λ left links. step_idle (part image es) at name left links idle)
 
   pub turns_none : (name : List ℕ) → IsTree es → is_idle name ≡ false → is_up name ≡ false → lookup es (here ++ name ∷ []) ≡ None → Turns es image at name Barred
@@ -179,14 +168,14 @@ directory_part es [] m at = ap is_directory_at (lookup_part [] m at es)
 directory_part es (k ∷ image) m at = ap is_directory_at (lookup_part (k ∷ image) m at es)
 
 -- `..` at the image's root
-pub turns_root : {C : Type 0} (es : Entries C) (image at here : List (List ℕ)) (name : List ℕ) (new : Bor (List (List ℕ))) → here ≡ image ++ at → length here ≤ length image → is_idle name ≡ false → is_up name ≡ true → new.now ≡ here → Turns es image at name (Moved new)
+pub turns_root : {C : Type 0} (es : Entries C) (image at here : List (List ℕ)) (name : List ℕ) (new : List (List ℕ)) → here ≡ image ++ at → length here ≤ length image → is_idle name ≡ false → is_up name ≡ true → new ≡ here → Turns es image at name (Moved new)
 turns_root es image at here name new is short plain above same =
     let root : at ≡ [] = root_of_image image at (subst (λ p. length p ≤ length image) is short) in
     subst (λ p. Turns es image p name (Moved new)) (sym root)
     ([], same ∙ is ∙ ap (λ p. image ++ p) root, λ left links. step_up (part image es) [] name left links plain above refl)
 
 -- and elsewhere
-pub turns_up : {C : Type 0} (es : Entries C) (image at here : List (List ℕ)) (name : List ℕ) (new : Bor (List (List ℕ))) → here ≡ image ++ at → length image < length here → is_idle name ≡ false → is_up name ≡ true → is_directory_or_root es here ≡ true → new.now ≡ parent here → Turns es image at name (Moved new)
+pub turns_up : {C : Type 0} (es : Entries C) (image at here : List (List ℕ)) (name : List ℕ) (new : List (List ℕ)) → here ≡ image ++ at → length image < length here → is_idle name ≡ false → is_up name ≡ true → is_directory_or_root es here ≡ true → new ≡ parent here → Turns es image at name (Moved new)
 turns_up es image [] here name new is long plain above directory same = absurd (omega (arith, ap length (is ∙ append-nil image)))
 turns_up es image (m ∷ at) here name new is long plain above directory same = (
   parent (m ∷ at),

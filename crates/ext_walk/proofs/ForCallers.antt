@@ -10,3 +10,11 @@ pub use Rattle.ext_walk.proofs.WalkLemmas.{step_into}
 pub use Rattle.ext_walk.proofs.WalkLemmas.{from_some, no_some}
 -- a walk in the part below the root is one in the tree
 pub use Rattle.ext_walk.proofs.EndLemmas.{resolves_whole}
+-- two ends of one walk are one; a walk without end leads to no directory, nor does one that ends elsewhere
+pub use Rattle.ext_walk.proofs.LeadsLemmas.{same_end, no_directory, other_directory}
+-- names lead to what passes a test exactly where their end passes it, and to nothing without an end
+pub use Rattle.ext_walk.proofs.LeadsLemmas.{leads_iff, leads_none}
+-- a row of a directory: all that stands below it, or at and below those names that begin with some bytes
+pub use Rattle.ext_walk.proofs.RowLemmas.{row_of_below, row_of_named}
+-- whether a child of the directory begins so
+pub use Rattle.ext_walk.proofs.RowLemmas.{named_child}

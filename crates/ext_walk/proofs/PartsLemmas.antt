@@ -1,5 +1,5 @@
 -- The parts of a text taken from its end, and the names that a walk has left.
-use Rattle.std.proofs.Common.{◌≡◌, ℕ, ◌<◌, true, false, cond, List, [], ◌∷◌, ◌++◌, length, map, reverse, refl, ap, ◌∙◌, arith}
+use Rattle.std.proofs.Common.{◌≡◌, ℕ, ◌<◌, true, false, cond, List, [], ◌∷◌, ◌++◌, length, map, reverse, refl, sym, ap, ◌∙◌, arith}
 use Rattle.std.specs.Prelude.{nat_eq}
 use Rattle.std.specs.Borrow.{Bor}
 use Rattle.std.specs.List.{onto_first}
@@ -7,6 +7,7 @@ use Rattle.std.proofs.lemmas.List.{map-append, reverse-append}
 use Rattle.std.proofs.lemmas.List.Splits.{length-slice_split}
 use Rattle.ext_lines.specs.Split.{Lacks}
 use Rattle.ext_lines.proofs.ForCallers.{one_part}
+use Rattle.ext_text.specs.Path.{path_parts}
 use Rattle.ext_walk.specs.Walk.{parts}
 use Rattle.ext_walk.specs.Upcoming.{upcoming}
 
@@ -37,3 +38,8 @@ popped before after x is = ap upcoming is ∙ pushed after x
 pub none_left : (names : List (Bor (List ℕ))) → length names ≡ 0 → upcoming names ≡ []
 none_left [] none = refl
 none_left (x ∷ names) none = absurd (omega arith)
+
+-- the parts of the text of some names are the names
+pub parts_of_names : (text : List ℕ) (p : List (List ℕ)) → path_parts text ≡ p → (p ≡ [] → ⊥) → parts text ≡ p
+parts_of_names [] p are some = absurd (some (sym are))
+parts_of_names (b ∷ text) p are some = are

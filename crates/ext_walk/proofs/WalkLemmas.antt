@@ -17,9 +17,11 @@ left_of (walk at left links) = left
 abbrev place_of : Walk → List (List ℕ)
 place_of (walk at left links) = at
 
+-- walks that are there alike are the same
 pub from_some : {w v : Walk} → Some w ≡ Some v → w ≡ v
 from_some {w} {v} same = ap (λ o. unwrap_or o w) same
 
+-- what is there is not absent
 pub no_some : {A : Type 0} {x : A} → None ≡ Some x → ⊥
 no_some same = false≢true (ap is_some same)
 
@@ -28,6 +30,7 @@ module _ {C : Type 0} (es : Entries C) where
   pub at_end : (at : List (List ℕ)) (links : ℕ) → EndsFrom es (walk at [] links) at
   at_end at links = (0, links, refl)
 
+  -- a walk is the same as itself
   pub same_self : (w : Walk) → Same es w w
   same_self w = record { there = λ end ends. ends; back = λ end ends. ends }
 
@@ -71,8 +74,6 @@ module _ {C : Type 0} (es : Entries C) where
   pub one_end : (w : Walk) (a b : List (List ℕ)) → EndsFrom es w a → EndsFrom es w b → a ≡ b
   one_end w a b first second = one_end_from first.0 second.0 w a b first.1 second.1 first.2 second.2
 
-  -- ---- what one name does
-
   module _ (at : List (List ℕ)) (name : List ℕ) (left : List (List ℕ)) (links : ℕ) where
     up : Option Walk
     up = cond (is_directory_or_root es at) (Some (walk (parent at) left links)) None
@@ -108,8 +109,6 @@ module _ {C : Type 0} (es : Entries C) where
         nothing None is other = refl
         nothing (Some e) is other =
             absurd (true≢false (sym (subst (λ p. is_directory_or_root es p ≡ true) (parent_child at name) (tree.parents (at ++ name ∷ []) (ap is_some is))) ∙ other))
-
-  -- ---- one name more of a walk whose ends are those of another one
 
   next_step : (at : List (List ℕ)) (name : List ℕ) (left : List (List ℕ)) (links : ℕ) (o : Option Walk) → step es (walk at (name ∷ left) links) ≡ o → SameThen es (walk at (name ∷ left) links) o
   next_step at name left links None is = stuck at name left links is

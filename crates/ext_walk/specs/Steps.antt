@@ -23,25 +23,25 @@ SameThen es w (Some v) = Same es w v
 
 -- what one name does at a place of the image
 abbrev pub Turns : {C : Type 0} → Entries C → List (List ℕ) → List (List ℕ) → List ℕ → Turn → Type 0
-Turns es image at name (Moved new) = (next : List (List ℕ)) × (new.now ≡ image ++ next) × ((left : List (List ℕ)) (links : ℕ) → step (part image es) (walk at (name ∷ left) links) ≡ Some (walk next left links))
+Turns es image at name (Moved new) = (next : List (List ℕ)) × (new ≡ image ++ next) × ((left : List (List ℕ)) (links : ℕ) → step (part image es) (walk at (name ∷ left) links) ≡ Some (walk next left links))
 Turns es image at name (Met target) = (left : List (List ℕ)) (links : ℕ) → step (part image es) (walk at (name ∷ left) links) ≡ follow target.now at left links
 Turns es image at name Barred = (left : List (List ℕ)) (links : ℕ) → step (part image es) (walk at (name ∷ left) links) ≡ None
 
 -- where the walk stops: at its end, before a link, or where no step leads on
 abbrev pub Stops : {C : Type 0} → Entries C → List (List ℕ) → List (List ℕ) → List (List ℕ) → List (List ℕ) → Stop → Type 0
-Stops es image at left rest (Done new) = (next : List (List ℕ)) × (new.now ≡ image ++ next) × ((links : ℕ) → Same (part image es) (walk at left links) (walk next [] links))
-Stops es image at left rest (Into new target) = (next : List (List ℕ)) × (new.now ≡ image ++ next) × ((links : ℕ) → SameThen (part image es) (walk at left links) (follow target.now next rest links))
+Stops es image at left rest (Done new) = (next : List (List ℕ)) × (new ≡ image ++ next) × ((links : ℕ) → Same (part image es) (walk at left links) (walk next [] links))
+Stops es image at left rest (Into new target) = (next : List (List ℕ)) × (new ≡ image ++ next) × ((links : ℕ) → SameThen (part image es) (walk at left links) (follow target.now next rest links))
 Stops es image at left rest Nowhere = (links : ℕ) (end : List (List ℕ)) → ¬ EndsFrom (part image es) (walk at left links) end
 
 -- what an entry does at a name
 abbrev pub TurnsTo : {C : Type 0} → List (List ℕ) → Entry C → Turn → Type 0
-TurnsTo path (Dir mode) (Moved new) = new.now ≡ path
+TurnsTo path (Dir mode) (Moved new) = new ≡ path
 TurnsTo path (Dir mode) (Met target) = ⊥
 TurnsTo path (Dir mode) Barred = ⊥
-TurnsTo path (Opaque mode) (Moved new) = new.now ≡ path
+TurnsTo path (Opaque mode) (Moved new) = new ≡ path
 TurnsTo path (Opaque mode) (Met target) = ⊥
 TurnsTo path (Opaque mode) Barred = ⊥
-TurnsTo path (File mode content) (Moved new) = new.now ≡ path
+TurnsTo path (File mode content) (Moved new) = new ≡ path
 TurnsTo path (File mode content) (Met target) = ⊥
 TurnsTo path (File mode content) Barred = ⊥
 TurnsTo path (Link text) (Moved new) = ⊥

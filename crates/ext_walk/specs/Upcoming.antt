@@ -2,5 +2,6 @@
 use Rattle.std.specs.Prelude.{ℕ, List, map, reverse}
 use Rattle.std.specs.Borrow.{Bor}
 
+-- the names that are still to be walked, the next one first
 abbrev pub upcoming : List (Bor (List ℕ)) → List (List ℕ)
 upcoming names = reverse (map (λ r. r.now) names)

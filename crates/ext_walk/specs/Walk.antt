@@ -3,7 +3,6 @@
 -- project's own choice.
 use Rattle.std.specs.Prelude.{◌≡◌, ℕ, zero, suc, ◌+◌, nat_le, ◌==◌, Bool, true, false, List, [], ◌∷◌, ◌++◌, if◌then◌else◌, Option, Some, None, IsTrue}
 use Rattle.std.specs.Option.{option_and_then}
-use Rattle.std.specs.Borrow.{Bor}
 use Rattle.std.specs.List.{slice_split}
 use Rattle.ext_text.specs.Path.{parent}
 use Rattle.ext_tree.specs.declared.entry.Entry.{Entry}
@@ -65,6 +64,7 @@ step es (walk at (name ∷ left) links) =
     else if is_directory_or_root es at then enter (lookup es (at ++ name ∷ [])) at name left links
     else None
 
+-- so many steps of a walk; none where one of them leads nowhere
 abbrev pub steps : {C : Type 0} → Entries C → ℕ → Walk → Option Walk
 steps es zero w = Some w
 steps es (suc count) w = option_and_then (steps es count) (step es w)
@@ -83,11 +83,9 @@ Resolves es names None = (end : List (List ℕ)) → ¬ Ends es names end
 Resolves es names (Some end) = Ends es names end
 
 -- the end of the walk inside an image, the part below a directory of the tree, as the names that it has in the tree
-abbrev pub ResolvesIn : {C : Type 0} → Entries C → List (List ℕ) → List (List ℕ) → Option (Bor (List (List ℕ))) → Type 0
+abbrev pub ResolvesIn : {C : Type 0} → Entries C → List (List ℕ) → List (List ℕ) → Option (List (List ℕ)) → Type 0
 ResolvesIn es image names None = (end : List (List ℕ)) → ¬ Ends (part image es) names end
-ResolvesIn es image names (Some at) = (end : List (List ℕ)) × (at.now ≡ image ++ end) × Ends (part image es) names end
-
--- ---- where a walk may end
+ResolvesIn es image names (Some at) = (end : List (List ℕ)) × (at ≡ image ++ end) × Ends (part image es) names end
 
 -- a directory or a file stands there: no link and no whiteout
 abbrev pub is_standing : {C : Type 0} → Option (Entry C) → Bool

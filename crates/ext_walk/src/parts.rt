@@ -1,11 +1,11 @@
 // The names that a walk has left, the next one last: the names of a path, or the parts of a text between its slashes.
-ghost use Rattle.std.specs.Prelude.{◌≡◌, ◌++◌, ◌∷◌, ◌≤◌, length, take, MatchOption, OnOk};
+ghost use Rattle.std.specs.Prelude.{◌≡◌, ◌++◌, ◌∷◌, MatchOption, OnOk};
 ghost use Rattle.ext_lines.specs.Split.{Lacks};
 ghost use Rattle.ext_walk.specs.Upcoming.{upcoming};
 ghost use Rattle.ext_walk.specs.Walk.{parts};
 
 use ext_lines::OutOfMemory;
-use ext_text::Name;
+use ext_text::PathRef;
 use memchr::memrchr;
 
 // Puts the parts of a text before the names that are left.
@@ -28,15 +28,17 @@ pub(crate) fn push_parts<'a>(left: &mut Vec<&'a [u8]>, text: &'a [u8]) -> Result
 }
 
 // Puts the names before those that are left.
-pub(crate) fn push_names<'a>(left: &mut Vec<&'a [u8]>, names: &'a [Name]) -> Result<(), OutOfMemory>
+pub(crate) fn push_names<'a>(
+    left: &mut Vec<&'a [u8]>,
+    names: &PathRef<'a>,
+) -> Result<(), OutOfMemory>
     ensures { OnOk result (upcoming left.new.items ≡ names.now ++ upcoming left.old.items) }
 {
-    let mut count = names.len();
-    'names: while count > 0 {
-        count -= 1;
-        left.push(names[count].bytes())?;
+    if names.is_root() {
+        return Ok(());
     }
-    Ok(())
+    let text = names.text();
+    push_parts(left, text)
 }
 
 // The text before its last slash, and the text after it; `None` exactly where it has none.

@@ -6,7 +6,7 @@ ghost use Rattle.ext_walk.specs.Walk.{Resolves, ResolvesIn, parts};
 use crate::parts::{push_names, push_parts};
 use crate::walking::walk_end;
 use ext_lines::OutOfMemory;
-use ext_text::{Name, Path};
+use ext_text::{Path, PathRef};
 use ext_tree::Tree;
 use std::alloc::Global;
 
@@ -20,23 +20,24 @@ pub fn resolve<C>(alloc: Global, tree: &Tree<C>, path: &Path) -> Result<Option<P
 {
     // `pairs` says of the tree that its entries are at paths, within their limits.
     let _entries = tree.pairs();
-    match end_of_path(alloc, tree, &[], path.names())? {
+    match end_of_path(alloc, tree, &PathRef::root(), &path.names())? {
         None => Ok(None),
-        Some(end) => Ok(Some(Path::of_names(alloc, end)?)),
+        Some(end) => Ok(Some(Path::of_names(alloc, &end)?)),
     }
 }
 
 /// The end of the walk along the names inside an image, the part of the tree below a directory, as the names of the
-/// entry's own path in the tree; the image's own names where the end is its root. `None` exactly where there is no end.
+/// entry's own path in the tree. Where the end is its root they are the image's own names. `None` exactly where there
+/// is no end.
 ///
 /// # Errors
 /// `OutOfMemory` alone.
 pub fn end_of_path<'a: 'b, 'b, C>(
     alloc: Global,
     tree: &'a Tree<C>,
-    image: &'a [Name],
-    names: &'b [Name],
-) -> Result<Option<&'a [Name]>, OutOfMemory>
+    image: &PathRef<'a>,
+    names: &PathRef<'b>,
+) -> Result<Option<PathRef<'a>>, OutOfMemory>
     ensures { IfOk result (ResolvesIn tree.now image.now names.now) }
 {
     let mut left = Vec::new(alloc);
@@ -52,9 +53,9 @@ pub fn end_of_path<'a: 'b, 'b, C>(
 pub fn end_of_text<'a: 'b, 'b, C>(
     alloc: Global,
     tree: &'a Tree<C>,
-    image: &'a [Name],
+    image: &PathRef<'a>,
     text: &'b [u8],
-) -> Result<Option<&'a [Name]>, OutOfMemory>
+) -> Result<Option<PathRef<'a>>, OutOfMemory>
     ensures { IfOk result (ResolvesIn tree.now image.now (parts text.now)) }
 {
     let mut left = Vec::new(alloc);

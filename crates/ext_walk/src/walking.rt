@@ -1,14 +1,13 @@
 // Walks name by name. A walk stands at an entry of an image, or at the image's root; where it stands is known by the names
 // of the entry's own path, which begin with the image's.
 ghost use Rattle.std.specs.Prelude.{◌≡◌, ◌++◌, List, ℕ, nat_le, true, false, if◌then◌else◌, IfOk};
-ghost use Rattle.ext_text.specs.Path.{parent};
 ghost use Rattle.ext_walk.specs.Steps.{Stops, Turns, TurnsTo};
 ghost use Rattle.ext_walk.specs.Upcoming.{upcoming};
 ghost use Rattle.ext_walk.specs.Walk.{ResolvesIn, is_absolute, is_idle, is_up, most_links};
 
 use crate::parts::push_parts;
 use ext_lines::OutOfMemory;
-use ext_text::{Name, Path};
+use ext_text::{Path, PathRef};
 use ext_tree::{Entry, Tree};
 
 // The most links of a walk.
@@ -17,7 +16,7 @@ const MOST_LINKS: usize = 40;
 // What one name does.
 pub enum Turn<'a> {
     // The walk stands there now.
-    Moved(&'a [Name]),
+    Moved(PathRef<'a>),
     // A link with this target stands at the name.
     Met(&'a [u8]),
     // No step leads on.
@@ -27,9 +26,9 @@ pub enum Turn<'a> {
 // Where a walk stops.
 pub enum Stop<'a> {
     // No name is left.
-    Done(&'a [Name]),
+    Done(PathRef<'a>),
     // A link with this target stands at a name of what stands here.
-    Into(&'a [Name], &'a [u8]),
+    Into(PathRef<'a>, &'a [u8]),
     // No step leads on.
     Nowhere,
 }
@@ -37,16 +36,16 @@ pub enum Stop<'a> {
 // The end of the walk along the names that are left.
 pub(crate) fn walk_end<'a: 'b, 'b, C>(
     tree: &'a Tree<C>,
-    image: &'a [Name],
+    image: &PathRef<'a>,
     names: Vec<&'b [u8]>,
-) -> Result<Option<&'a [Name]>, OutOfMemory>
+) -> Result<Option<PathRef<'a>>, OutOfMemory>
     ensures { IfOk result (ResolvesIn tree.now image.now (upcoming names.entry.items)) }
 {
     let mut left = names;
-    let mut at = image;
+    let mut at = image.again();
     let mut links = 0;
     'links: loop {
-        match to_link(tree, image, at, &mut left) {
+        match to_link(tree, image, &at, &mut left) {
             Stop::Done(end) => return Ok(Some(end)),
             Stop::Nowhere => return Ok(None),
             Stop::Into(from, target) => {
@@ -54,7 +53,7 @@ pub(crate) fn walk_end<'a: 'b, 'b, C>(
                     return Ok(None);
                 }
                 push_parts(&mut left, target)?;
-                at = start_of(target, image, from);
+                at = start_of(target, image, &from);
                 links += 1;
             }
         }
@@ -64,17 +63,18 @@ pub(crate) fn walk_end<'a: 'b, 'b, C>(
 // Goes along the names that are left, to the end or to the next link.
 fn to_link<'a, 'b, C>(
     tree: &'a Tree<C>,
-    image: &'a [Name],
-    from: &'a [Name],
+    image: &PathRef<'a>,
+    from: &PathRef<'a>,
     left: &mut Vec<&'b [u8]>,
 ) -> Stop<'a>
-    ensures { (at : List (List ℕ)) → from.now ≡ image.now ++ at → Stops tree.now image.now at (upcoming left.old.items) (upcoming left.new.items) result }
+    ensures { (at : List (List ℕ)) → from.now ≡ image.now ++ at → Stops tree.now image.now at (upcoming
+        left.old.items) (upcoming left.new.items) result }
 {
-    let mut here = from;
+    let mut here = from.again();
     'names: loop {
         match left.pop() {
             None => return Stop::Done(here),
-            Some(name) => match turn_at(tree, image, here, name) {
+            Some(name) => match turn_at(tree, image, &here, name) {
                 Turn::Moved(next) => here = next,
                 Turn::Met(target) => return Stop::Into(here, target),
                 Turn::Barred => return Stop::Nowhere,
@@ -84,11 +84,11 @@ fn to_link<'a, 'b, C>(
 }
 
 // What the name does where the walk stands.
-fn turn_at<'a, C>(tree: &'a Tree<C>, image: &[Name], here: &'a [Name], name: &[u8]) -> Turn<'a>
+fn turn_at<'a, C>(tree: &'a Tree<C>, image: &PathRef, here: &PathRef<'a>, name: &[u8]) -> Turn<'a>
     ensures { (at : List (List ℕ)) → here.now ≡ image.now ++ at → Turns tree.now image.now at name.now result }
 {
     if is_idle(name) {
-        Turn::Moved(here)
+        Turn::Moved(here.again())
     } else if is_up(name) {
         turn_up(tree, image, here)
     } else {
@@ -97,20 +97,21 @@ fn turn_at<'a, C>(tree: &'a Tree<C>, image: &[Name], here: &'a [Name], name: &[u
 }
 
 // What `..` does: at the image's root the walk stays.
-fn turn_up<'a, C>(tree: &Tree<C>, image: &[Name], here: &'a [Name]) -> Turn<'a>
-    ensures { (at : List (List ℕ)) (name : List ℕ) → here.now ≡ image.now ++ at → is_idle name ≡ false → is_up name ≡ true → Turns tree.now image.now at name result }
+fn turn_up<'a, C>(tree: &Tree<C>, image: &PathRef, here: &PathRef<'a>) -> Turn<'a>
+    ensures { (at : List (List ℕ)) (name : List ℕ) → here.now ≡ image.now ++ at → is_idle name ≡ false → is_up name ≡ true
+        → Turns tree.now image.now at name result }
 {
-    if here.len() <= image.len() {
-        Turn::Moved(here)
+    if here.depth() <= image.depth() {
+        Turn::Moved(here.again())
     } else if tree.is_directory_or_root(here) {
-        Turn::Moved(parent(here))
+        Turn::Moved(here.parent())
     } else {
         Turn::Barred
     }
 }
 
 // What a name other than `..` does, by what stands there.
-fn turn_into<'a, C>(tree: &'a Tree<C>, here: &[Name], name: &[u8]) -> Turn<'a>
+fn turn_into<'a, C>(tree: &'a Tree<C>, here: &PathRef, name: &[u8]) -> Turn<'a>
     requires plain { is_idle name.now ≡ false }
     requires below { is_up name.now ≡ false }
     ensures { (image at : List (List ℕ)) → here.now ≡ image ++ at → Turns tree.now image at name.now result }
@@ -129,16 +130,6 @@ fn turn_to<'a, C>(path: &'a Path, entry: &'a Entry<C>) -> Turn<'a>
         Entry::Dir(_) | Entry::Opaque(_) | Entry::File(_, _) => Turn::Moved(path.names()),
         Entry::Link(target) => Turn::Met(target.bytes()),
         Entry::Hide => Turn::Barred,
-    }
-}
-
-// All names but the last.
-fn parent(names: &[Name]) -> &[Name]
-    ensures { result.now ≡ parent names.now }
-{
-    match names {
-        [] => &[],
-        [prefix @ .., _last] => prefix,
     }
 }
 
@@ -173,10 +164,14 @@ fn is_up(name: &[u8]) -> bool
 }
 
 // Where the walk goes on with a link's target: at the image's root where it is absolute.
-fn start_of<'a>(target: &[u8], image: &'a [Name], from: &'a [Name]) -> &'a [Name]
-    ensures { result.now ≡ (if is_absolute target.now then image.now else from.now) }
+fn start_of<'a>(target: &[u8], image: &PathRef<'a>, from: &PathRef<'a>) -> PathRef<'a>
+    ensures { result ≡ (if is_absolute target.now then image.now else from.now) }
 {
-    if is_absolute(target) { image } else { from }
+    if is_absolute(target) {
+        image.again()
+    } else {
+        from.again()
+    }
 }
 
 // Whether a walk along the text begins at the root.

@@ -1,7 +1,7 @@
 // Errors of the parts of a change.
 use crate::errors::StoreErr;
 use ext_homes::HomesErr;
-use ext_store::CleanErr;
+use ext_store_files::{CleanErr, StoreFault};
 
 impl From<CleanErr> for StoreErr {
     ghost use Rattle.std.specs.Prelude.{◌≡◌};
@@ -11,8 +11,8 @@ impl From<CleanErr> for StoreErr {
 
     fn from(refused: CleanErr) -> StoreErr {
         match refused {
-            CleanErr::DiskFault => StoreErr::DiskFault,
-            CleanErr::OutOfMemory => StoreErr::OutOfMemory,
+            CleanErr::DiskFault => StoreErr::Fault(StoreFault::DiskFault),
+            CleanErr::OutOfMemory => StoreErr::Fault(StoreFault::OutOfMemory),
             CleanErr::Unfinished => StoreErr::Unfinished,
         }
     }
@@ -26,18 +26,7 @@ impl From<HomesErr> for StoreErr {
 
     fn from(refused: HomesErr) -> StoreErr {
         match refused {
-            HomesErr::OutOfMemory => StoreErr::OutOfMemory,
-            HomesErr::DiskFault => StoreErr::DiskFault,
-            HomesErr::DepotFault => StoreErr::DepotFault,
-            HomesErr::Damaged {
-                home,
-                listed,
-                found,
-            } => StoreErr::Damaged {
-                home,
-                listed,
-                found,
-            },
+            HomesErr::Fault(fault) => StoreErr::Fault(fault),
             HomesErr::Mismatch {
                 path,
                 listed,

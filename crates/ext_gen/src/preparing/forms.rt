@@ -1,6 +1,5 @@
-// What the types of a host's parts say of them, said of the host. A type keeps it of each value, and it is known of a value
-// once that is read; so each part is read once.
-ghost use Rattle.std.specs.Prelude.{◌≡◌, length, IfSome};
+// That a host is well formed, by what the types of its parts keep of their values.
+ghost use Rattle.std.specs.Prelude.{◌≡◌, IfSome};
 ghost use Rattle.std.specs.List.{AllByRecursion};
 ghost use Rattle.ext_text.specs.Digest.{IsDigest};
 ghost use Rattle.ext_text.specs.Name.{IsName};
@@ -11,8 +10,9 @@ ghost use Rattle.ext_index.specs.ValidIndex.{IsWellFormed, IsWellFormedAttachmen
 use ext_host::{Attachment, Host, Item, Manifest, Past};
 use ext_text::{Name, Names, Path};
 
-/// Reads each name, path and digest of a host, and looks at its trees.
-pub(crate) fn look_at_host(host: &Host)
+/// Nothing but the fact that a host is well formed: each of its names, paths and digests is read once, since what a type keeps
+/// of its values is known of a value that was read.
+pub(crate) fn well_formed_host(host: &Host)
     ensures { IsWellFormed host.now }
 {
     look_at_names(host.sysext_hier.as_slice());
@@ -21,7 +21,7 @@ pub(crate) fn look_at_host(host: &Host)
     look_at_pasts(host.past.as_slice());
 }
 
-// Those of what is seen now.
+// Reads the trees and lists of the present.
 fn look_at_present(host: &Host)
     ensures { IsWellFormedTree (present host.now) }
 {
@@ -33,7 +33,7 @@ fn look_at_present(host: &Host)
     look_at_manifests(host.kept.as_slice());
 }
 
-// Those of past trees.
+// Reads all past trees.
 fn look_at_pasts(pasts: &[Past])
     ensures { AllByRecursion (λ past. IsWellFormedTree (past_tree past)) pasts.now }
 {
@@ -42,7 +42,7 @@ fn look_at_pasts(pasts: &[Past])
     }
 }
 
-// Those of a past tree.
+// Reads the trees and lists of a past tree.
 fn look_at_past(past: &Past)
     ensures { IsWellFormedTree (past_tree past.now) }
 {
@@ -54,7 +54,7 @@ fn look_at_past(past: &Past)
     look_at_manifests(past.kept.as_slice());
 }
 
-// Those of merged names.
+// Reads the names that are merged, if some are.
 fn look_at_merged(names: &Option<Names>)
     ensures { IfSome names.now (AllByRecursion IsName) }
 {
@@ -63,7 +63,7 @@ fn look_at_merged(names: &Option<Names>)
     }
 }
 
-// Those of names.
+// Reads each name.
 fn look_at_names(names: &[Name])
     ensures { AllByRecursion IsName names.now }
 {
@@ -72,7 +72,7 @@ fn look_at_names(names: &[Name])
     }
 }
 
-// Those of paths.
+// Reads each path.
 fn look_at_paths(paths: &[Path])
     ensures { AllByRecursion IsPath paths.now }
 {
@@ -81,7 +81,7 @@ fn look_at_paths(paths: &[Path])
     }
 }
 
-// Those of attachments.
+// Reads each attachment.
 fn look_at_attachments(attached: &[Attachment])
     ensures { AllByRecursion IsWellFormedAttachment attached.now }
 {
@@ -90,7 +90,7 @@ fn look_at_attachments(attached: &[Attachment])
     }
 }
 
-// Those of an attachment.
+// Reads the name and the paths of an attachment.
 fn look_at_attachment(attachment: &Attachment)
     ensures { IsWellFormedAttachment attachment.now }
 {
@@ -99,7 +99,7 @@ fn look_at_attachment(attachment: &Attachment)
     look_at_paths(attachment.added.as_slice());
 }
 
-// Those of manifests.
+// Reads each manifest.
 fn look_at_manifests(manifests: &[Manifest])
     ensures { AllByRecursion IsWellFormedManifest manifests.now }
 {
@@ -108,7 +108,7 @@ fn look_at_manifests(manifests: &[Manifest])
     }
 }
 
-// Those of a manifest.
+// Reads the path and the items of a manifest.
 fn look_at_manifest(manifest: &Manifest)
     ensures { IsWellFormedManifest manifest.now }
 {
@@ -116,7 +116,7 @@ fn look_at_manifest(manifest: &Manifest)
     look_at_items(manifest.items.as_slice());
 }
 
-// Those of items.
+// Reads each item.
 fn look_at_items(items: &[Item])
     ensures { AllByRecursion (λ item. IsPath item.path × IsDigest item.digest.0) items.now }
 {
@@ -125,19 +125,11 @@ fn look_at_items(items: &[Item])
     }
 }
 
-// Those of an item.
+// Reads the path and the digest of an item.
 fn look_at_item(item: &Item)
     ensures path { IsPath item.now.path }
     ensures digest { IsDigest item.now.digest.0 }
 {
     let _path = item.path.names();
-    look_at_bytes(&item.digest.0);
-}
-
-// The 32 bytes of a digest.
-fn look_at_bytes(bytes: &[u8])
-    requires { length bytes.now ≡ 32 }
-    ensures { IsDigest bytes.now }
-{
-    let _count = bytes.len();
+    let _digest = item.digest.bytes();
 }

@@ -1,6 +1,6 @@
 // The index of the coming generation.
 ghost use Rattle.std.specs.Prelude.{◌≡◌, length, IfOk};
-ghost use Rattle.ext_record.specs.Out.{at_most_64_bits};
+ghost use Rattle.ext_index_lines.specs.Out.{at_most_64_bits};
 ghost use Rattle.ext_gen.specs.PreparingIndex.{coming_index};
 
 use ext_host::Host;

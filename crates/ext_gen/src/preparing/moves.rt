@@ -1,4 +1,4 @@
-// The moves of a change, one by one: the folder of the coming generation is made, the folders of its files are settled, then
+// The moves of a change, one by one: the folder of the coming generation is made, the folders of its files are synced, then
 // its index is written, and last `next`. Each comes after what it names: a stop between two of them leaves the store as it
 // was before the change.
 ghost use Rattle.std.specs.Prelude.{◌≡◌, ◌≤◌, false, length, [], IfOk, IfErr, OnOk};
@@ -6,11 +6,12 @@ ghost use Rattle.ext_text.specs.Causes.{HasCause};
 ghost use Rattle.ext_text.specs.Path.{is_prefix};
 ghost use Rattle.ext_disk.specs.Calls.{make_file, MayCall};
 ghost use Rattle.ext_disk.specs.Disk.{BothTold};
-ghost use Rattle.ext_store.specs.Names.{IsFileNumber, current_text, generation_path, home_folder, index_path, next_path};
-ghost use Rattle.ext_store.specs.Writing.{is_at, nowhere, Holds, IsMade, SettlesIn, Works};
-ghost use Rattle.ext_gen.specs.PreparingCauses.{WriteCause};
+ghost use Rattle.ext_host.specs.Home.{most_files_of_generation};
+ghost use Rattle.ext_store_files.specs.Names.{IsFileNumber, current_text, generation_path, home_folder, index_path, next_path};
+ghost use Rattle.ext_store_files.specs.Writing.{is_at, nowhere, Holds, IsMade, SyncsIn, Works};
+ghost use Rattle.ext_gen.specs.PreparingCauses.{MoveCause};
 ghost use Rattle.ext_gen.specs.PreparingIndex.{coming_index};
-ghost use Rattle.ext_gen.specs.PreparingStages.{AreSettled, HasHomeFolders, IsAbsent, IsFolderAt, IsPut};
+ghost use Rattle.ext_gen.specs.PreparingStages.{AreSynced, HasHomeFolders, IsAbsent, IsFolderAt, IsPutSynced};
 
 use crate::errors::StoreErr;
 use crate::preparing::index::coming_index;
@@ -18,15 +19,12 @@ use ext_disk::Disk;
 use ext_host::Host;
 use ext_io::Failed;
 use ext_lines::append_decimal;
-use ext_store::{
-    generation_path, home_folder, index_path, make_folder, next_path, settle_folder, store_folder,
-    write_file,
+use ext_store_files::{
+    FILES_OF_A_FOLDER, generation_path, home_folder, index_path, make_folder, next_path,
+    store_folder, sync_folder, write_file,
 };
 use ext_text::{OutOfMemory, Path};
 use std::alloc::Global;
-
-/// How many files of a generation have one folder.
-const FILES_OF_A_FOLDER: u32 = 256;
 
 /// Makes the folder of the coming generation.
 ///
@@ -38,41 +36,42 @@ pub(crate) fn make_generation<D: Disk>(
     generation: u32,
 ) -> Result<(), StoreErr>
     requires { Holds (IsAbsent (generation_path generation)) (D.state disk.old) }
-    ensures works { Works (is_prefix (generation_path generation)) (is_at (generation_path generation)) 0 (D.state disk.old) (D.state disk.new) }
+    ensures works { Works (is_prefix (generation_path generation)) (is_at (generation_path generation)) 0 (D.state disk.old)
+        (D.state disk.new) }
     ensures made { OnOk result (Holds (IsMade (generation_path generation)) (D.state disk.new)) }
-    ensures cause { IfErr result (WriteCause (D.state disk.old).faults (D.state disk.new).faults) }
+    ensures cause { IfErr result (MoveCause (D.state disk.old).faults (D.state disk.new).faults) }
 {
     let folder = generation_path(alloc, generation)?;
     make_folder(disk, &folder)?;
     Ok(())
 }
 
-/// Settles the names in the folders of so many files of the coming generation.
+/// Syncs the names in the folders of so many files of the coming generation.
 ///
 /// # Errors
 /// Out of memory, or a fault of the disk. What stands is as before.
-pub(crate) fn settle_folders<D: Disk>(
+pub(crate) fn sync_folders<D: Disk>(
     alloc: Global,
     disk: &mut D,
     generation: u32,
     files: u32,
 ) -> Result<(), StoreErr>
-    requires numbers { files ≤ 262144 }
+    requires numbers { files ≤ most_files_of_generation }
     requires folders { Holds (HasHomeFolders generation files) (D.state disk.old) }
     ensures works { Works nowhere nowhere 0 (D.state disk.old) (D.state disk.new) }
-    ensures settled { OnOk result (Holds (AreSettled generation files) (D.state disk.new)) }
-    ensures cause { IfErr result (WriteCause (D.state disk.old).faults (D.state disk.new).faults) }
+    ensures synced { OnOk result (Holds (AreSynced generation files) (D.state disk.new)) }
+    ensures cause { IfErr result (MoveCause (D.state disk.old).faults (D.state disk.new).faults) }
 {
     let mut file = 0;
     'folders: while file < files {
-        settle_home_folder(alloc, disk, generation, file)?;
+        sync_home_folder(alloc, disk, generation, file)?;
         file += FILES_OF_A_FOLDER;
     }
     Ok(())
 }
 
-// Settles the names in the folder of a file.
-fn settle_home_folder<D: Disk>(
+// Syncs the names in the folder of a file.
+fn sync_home_folder<D: Disk>(
     alloc: Global,
     disk: &mut D,
     generation: u32,
@@ -81,15 +80,15 @@ fn settle_home_folder<D: Disk>(
     requires number { IsFileNumber file }
     requires folder { Holds (IsFolderAt (home_folder generation file)) (D.state disk.old) }
     ensures works { Works nowhere nowhere 0 (D.state disk.old) (D.state disk.new) }
-    ensures settles { OnOk result (BothTold (SettlesIn (home_folder generation file)) (D.state disk.old).told (D.state disk.new).told) }
-    ensures cause { IfErr result (WriteCause (D.state disk.old).faults (D.state disk.new).faults) }
+    ensures syncs { OnOk result (BothTold (SyncsIn (home_folder generation file)) (D.state disk.old).told (D.state disk.new).told) }
+    ensures cause { IfErr result (MoveCause (D.state disk.old).faults (D.state disk.new).faults) }
 {
     let folder = home_folder(alloc, generation, file)?;
-    settle_folder(disk, &folder)?;
+    sync_folder(disk, &folder)?;
     Ok(())
 }
 
-/// Writes the index of the coming generation and settles it, and the names in the folder of the generation.
+/// Writes the index of the coming generation and syncs it, and the names in the folder of the generation.
 ///
 /// # Errors
 /// Out of memory, or a fault of the disk: the index is there or not, and has any bytes.
@@ -101,18 +100,20 @@ pub(crate) fn put_index<D: Disk>(
 ) -> Result<(), StoreErr>
     requires folder { Holds (IsFolderAt (generation_path generation)) (D.state disk.old) }
     requires free { Holds (IsAbsent (index_path generation)) (D.state disk.old) }
-    ensures works { Works (is_prefix (index_path generation)) (is_at (index_path generation)) (length (coming_index generation host.now)) (D.state disk.old) (D.state disk.new) }
-    ensures put { OnOk result (Holds (IsPut (generation_path generation) (index_path generation) (coming_index generation host.now)) (D.state disk.new)) }
-    ensures cause { IfErr result (WriteCause (D.state disk.old).faults (D.state disk.new).faults) }
+    ensures works { Works (is_prefix (index_path generation)) (is_at (index_path generation))
+        (length (coming_index generation host.now)) (D.state disk.old) (D.state disk.new) }
+    ensures put { OnOk result (Holds (IsPutSynced (generation_path generation) (index_path generation)
+        (coming_index generation host.now)) (D.state disk.new)) }
+    ensures cause { IfErr result (MoveCause (D.state disk.old).faults (D.state disk.new).faults) }
 {
     let text = coming_index(alloc, host, generation)?;
     let path = index_path(alloc, generation)?;
     let folder = generation_path(alloc, generation)?;
-    put_settled(disk, &folder, &path, text.bytes())?;
+    put_synced(disk, &folder, &path, text.bytes())?;
     Ok(())
 }
 
-/// Writes `next`, which names the coming generation, and settles it, and the names in the store folder.
+/// Writes `next`, which names the coming generation, and syncs it, and the names in the store folder.
 ///
 /// # Errors
 /// Out of memory, or a fault of the disk: the file is there or not, and has any bytes.
@@ -123,13 +124,13 @@ pub(crate) fn put_next<D: Disk>(
 ) -> Result<(), StoreErr>
     requires { Holds (IsAbsent next_path) (D.state disk.old) }
     ensures works { Works (is_prefix next_path) (is_at next_path) (length (current_text generation)) (D.state disk.old) (D.state disk.new) }
-    ensures put { OnOk result (Holds (IsPut [] next_path (current_text generation)) (D.state disk.new)) }
-    ensures cause { IfErr result (WriteCause (D.state disk.old).faults (D.state disk.new).faults) }
+    ensures put { OnOk result (Holds (IsPutSynced [] next_path (current_text generation)) (D.state disk.new)) }
+    ensures cause { IfErr result (MoveCause (D.state disk.old).faults (D.state disk.new).faults) }
 {
     let text = current_text(alloc, generation)?;
     let path = next_path(alloc)?;
     let folder = store_folder(alloc);
-    put_settled(disk, &folder, &path, text.as_slice())?;
+    put_synced(disk, &folder, &path, text.as_slice())?;
     Ok(())
 }
 
@@ -143,20 +144,15 @@ fn current_text(alloc: Global, generation: u32) -> Result<Vec<u8>, OutOfMemory>
     Ok(text)
 }
 
-// Writes a file into a folder, and settles its bytes and then the names in the folder.
-fn put_settled<D: Disk>(
-    disk: &mut D,
-    folder: &Path,
-    path: &Path,
-    bytes: &[u8],
-) -> Result<(), Failed>
+// Writes a file into a folder, and syncs its bytes and then the names in the folder.
+fn put_synced<D: Disk>(disk: &mut D, folder: &Path, path: &Path, bytes: &[u8]) -> Result<(), Failed>
     requires free { MayCall (make_file path.now) (D.state disk.old) }
     requires folder { Holds (IsFolderAt folder.now) (D.state disk.old) }
     requires other { is_at path.now folder.now ≡ false }
     ensures works { Works (is_prefix path.now) (is_at path.now) (length bytes.now) (D.state disk.old) (D.state disk.new) }
-    ensures put { OnOk result (Holds (IsPut folder.now path.now bytes.now) (D.state disk.new)) }
+    ensures put { OnOk result (Holds (IsPutSynced folder.now path.now bytes.now) (D.state disk.new)) }
     ensures cause { HasCause result (D.state disk.old).faults (D.state disk.new).faults }
 {
     write_file(disk, path, bytes)?;
-    settle_folder(disk, folder)
+    sync_folder(disk, folder)
 }

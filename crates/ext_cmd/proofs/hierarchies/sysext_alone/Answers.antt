@@ -1,5 +1,5 @@
 use Rattle.std.proofs.Common.{refl, true, false, ◌∙◌}
-use Rattle.ext_text.specs.declared.class.Class.TheVariants.{Confext}
+use Rattle.ext_text.specs.declared.extension.Extension.TheVariants.{Confext}
 use Rattle.ext_host.specs.Host.{default_hierarchies}
 use Rattle.ext_cmd.proofs.ChosenLemmas.{default_refused}
 use Rattle.ext_cmd.proofs.HierarchyLemmas.{apart_true, told_apart}

@@ -5,12 +5,12 @@ use Rattle.ext_disk.proofs.listing.names_in.Goals as goal
 
 pub returns-clause-sorted : goal.returns-clause-sorted
 returns-clause-sorted c =
-    let none = rest_all deref_pair c.spots.path-iterator _ c.next.result c.in-None.is c.next.ensures.steps in
-    names_in_order c.args.spots.now c.args.dir.now c.spots.names
-    (all_gathered c.args.dir.now c.spots.names c.spots.path-iterator c.args.spots.now.entries c.spots.invariant.0 none) c.iter-path-items.ensures.ordered
+    let none = rest_all deref_pair c.disk_entries.path-iterator _ c.next.result c.in-None.is c.next.ensures.steps in
+    names_in_order c.args.disk_entries.now c.args.dir.now c.disk_entries.names
+    (all_gathered c.args.dir.now c.disk_entries.names c.disk_entries.path-iterator c.args.disk_entries.now.entries c.disk_entries.invariant.0 none) c.iter-path-items.ensures.ordered
 
 pub returns-clause-has : goal.returns-clause-has
 returns-clause-has c =
-    let none = rest_all deref_pair c.spots.path-iterator _ c.next.result c.in-None.is c.next.ensures.steps in
-    names_stand c.args.spots.now c.args.dir.now c.spots.names
-    (all_gathered c.args.dir.now c.spots.names c.spots.path-iterator c.args.spots.now.entries c.spots.invariant.0 none) c.iter-path-items.ensures.ordered
+    let none = rest_all deref_pair c.disk_entries.path-iterator _ c.next.result c.in-None.is c.next.ensures.steps in
+    names_stand c.args.disk_entries.now c.args.dir.now c.disk_entries.names
+    (all_gathered c.args.dir.now c.disk_entries.names c.disk_entries.path-iterator c.args.disk_entries.now.entries c.disk_entries.invariant.0 none) c.iter-path-items.ensures.ordered

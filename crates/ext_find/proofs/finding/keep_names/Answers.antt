@@ -1,5 +1,5 @@
+use Rattle.ext_walk.proofs.ForCallers.{row_of_below}
 use Rattle.ext_find.proofs.KeepsLemmas.{keeps_end, keeps_next, keeps_start}
-use Rattle.ext_find.proofs.RowLemmas.{row_of_below}
 use Rattle.ext_find.proofs.finding.keep_names.Goals as goal
 
 pub names-init : goal.names-init

@@ -1,6 +1,6 @@
 use Rattle.std.proofs.Common.{length}
+use Rattle.ext_walk.specs.Row.{IsRow}
 use Rattle.ext_find.specs.Keeps.{Keeps, passed}
-use Rattle.ext_find.specs.Row.{IsRow}
 use Rattle.ext_find.proofs.finding.keep_names.Given as goal
 
 abbrev pub invariant-names : goal.invariant-names

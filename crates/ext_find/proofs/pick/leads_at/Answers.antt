@@ -1,7 +1,7 @@
 use Rattle.std.proofs.Common.{[], ◌∷◌, ◌++◌, ap, subst, sym, ◌∙◌, is_some}
 use Rattle.std.specs.Prelude.{◌↔◌, IsTrue}
 use Rattle.ext_tree.specs.Tree.{lookup}
-use Rattle.ext_find.specs.Leads.{LeadsToDirectory}
+use Rattle.ext_walk.specs.Leads.{LeadsToDirectory}
 use Rattle.ext_find.proofs.StandsLemmas.{child_leads_on}
 use Rattle.ext_find.proofs.pick.leads_at.Goals as goal
 

@@ -1,7 +1,7 @@
 use Rattle.std.proofs.Common.{sym, ◌∙◌, subst}
+use Rattle.ext_walk.proofs.ForCallers.{row_of_named}
 use Rattle.ext_find.specs.Pick.{IsBest, Picks}
 use Rattle.ext_find.proofs.PickLemmas.{best_next, candidates_left, picked}
-use Rattle.ext_find.proofs.RowLemmas.{row_of_named}
 use Rattle.ext_find.proofs.pick.pick.Goals as goal
 
 pub names-init : goal.names-init

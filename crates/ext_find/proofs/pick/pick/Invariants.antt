@@ -1,6 +1,6 @@
 use Rattle.std.proofs.Common.{length}
+use Rattle.ext_walk.specs.Row.{IsRow}
 use Rattle.ext_find.specs.Pick.{IsBest}
-use Rattle.ext_find.specs.Row.{IsRow}
 use Rattle.ext_find.proofs.pick.pick.Given as goal
 
 abbrev pub invariant-names : goal.invariant-names

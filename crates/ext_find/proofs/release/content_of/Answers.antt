@@ -6,8 +6,8 @@ use Rattle.ext_find.proofs.release.content_of.Goals as goal
 
 pub returns-in-None : goal.returns-in-None
 returns-in-None g c =
-    content_none c.args.base.now (parts c.args.text.now) (resolves_whole c.args.base.now (parts c.args.text.now) None c.pairs-entries.ensures.tree.tree (subst (ResolvesIn c.args.base.now [] (parts c.args.text.now)) c.in-None.is c.in_ok-end_of_text.ensures))
+    content_none c.args.base.now (parts c.args.text.now) (resolves_whole c.args.base.now (parts c.args.text.now) None c.pairs-entries.ensures.tree.tree (subst (ResolvesIn c.args.base.now [] (parts c.args.text.now)) c.in-None.is (rw c.root.ensures at c.in_ok-end_of_text.ensures)))
 
 pub returns-in-Some : goal.returns-in-Some
 returns-in-Some g c =
-    content_there c.args.base.now (parts c.args.text.now) c.in-Some.end.now c.content_at.result (resolves_whole c.args.base.now (parts c.args.text.now) (Some c.in-Some.end) c.pairs-entries.ensures.tree.tree (subst (ResolvesIn c.args.base.now [] (parts c.args.text.now)) c.in-Some.is c.in_ok-end_of_text.ensures)) c.content_at.ensures
+    content_there c.args.base.now (parts c.args.text.now) c.in-Some.end c.content_at.result (resolves_whole c.args.base.now (parts c.args.text.now) (Some c.in-Some.end) c.pairs-entries.ensures.tree.tree (subst (ResolvesIn c.args.base.now [] (parts c.args.text.now)) c.in-Some.is (rw c.root.ensures at c.in_ok-end_of_text.ensures))) c.content_at.ensures

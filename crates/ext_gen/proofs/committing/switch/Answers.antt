@@ -19,14 +19,14 @@ returns-in_err-rename-clause-stops g c =
 pub returns-clause-points : goal.returns-clause-points
 returns-clause-points g c = λ generation may.
     let paths = c.requires.paths in
-    points_after_both c.settle_store.result (g.D.Disk.state c.args.disk.now) (g.D.Disk.state c.rename.new.self) (g.D.Disk.state c.settle_store.new.disk) generation may
+    points_after_both c.sync_store.result (g.D.Disk.state c.args.disk.now) (g.D.Disk.state c.rename.new.self) (g.D.Disk.state c.sync_store.new.disk) generation may
     (renames _ _ _ _ true paths.next_is paths.current_is c.in_ok-rename.ensures.does)
-    c.settle_store.ensures.does
+    c.sync_store.ensures.does
 
 pub returns-clause-stops : goal.returns-clause-stops
 returns-clause-stops g c =
     let paths = c.requires.paths in
-    stops_after_both c.settle_store.result (g.D.Disk.state c.args.disk.now) (g.D.Disk.state c.rename.new.self) (g.D.Disk.state c.settle_store.new.disk)
+    stops_after_both c.sync_store.result (g.D.Disk.state c.args.disk.now) (g.D.Disk.state c.rename.new.self) (g.D.Disk.state c.sync_store.new.disk)
     (g.met.D.Disk.holds_a_tree c.args.disk.now) (g.met.D.Disk.holds_a_tree c.rename.new.self)
     (renames _ _ _ _ true paths.next_is paths.current_is c.in_ok-rename.ensures.does)
-    c.settle_store.ensures.does
+    c.sync_store.ensures.does

@@ -3,17 +3,17 @@ use Rattle.std.proofs.lemmas.Result.{err_from_is_err_and}
 use Rattle.std.specs.Option.{option_copied}
 use Rattle.ext_host.specs.Host.{present}
 use Rattle.ext_host.specs.declared.host.Host.{Host}
-use Rattle.ext_store.specs.LeftOvers.{is_left_path, is_spared}
-use Rattle.ext_store.specs.Names.{current_text}
+use Rattle.ext_store_files.specs.LeftOvers.{is_left_path, has_generation}
+use Rattle.ext_store_files.specs.Names.{current_text}
 use Rattle.ext_homes.specs.Brought.{brought, bytes_of_all}
 use Rattle.ext_homes.specs.Giving.{AreHomesBefore, stored_by, trees_before}
 use Rattle.ext_homes.proofs.ForCallers.{limits_small}
-use Rattle.ext_store.specs.Writing.{Holds}
+use Rattle.ext_store_files.specs.Writing.{Holds}
 use Rattle.ext_gen.specs.Preparing.{host_before, is_left, is_needed, most_bytes_of, most_files}
 use Rattle.ext_gen.specs.PreparingIndex.{coming_index}
 use Rattle.ext_gen.specs.PreparingCauses.{FillCause}
 use Rattle.ext_gen.specs.PreparingPaths.{Changes, Cleans}
-use Rattle.ext_gen.specs.PreparingStages.{Fills, IsOpen}
+use Rattle.ext_gen.specs.PreparingStages.{Fills, IsGenerationOpen}
 use Rattle.ext_gen.proofs.PreparingChangeLemmas.{change_cause_clear, change_cause_fill, change_cause_write, changed_told, homes_since, open_made, open_no_next, same_needed}
 use Rattle.ext_gen.proofs.PreparingFilesLemmas.{coming_not_needed, homes_before}
 use Rattle.ext_gen.proofs.PreparingLeftLemmas.{cleans_done, cleans_handed, cleans_later, cleans_nothing, failed_finished, fill_finished, write_finished}
@@ -44,7 +44,7 @@ returns-in_err-open_generation-clause-changes g c =
     let from = option_copied c.args.from in
     let n = c.args.generation in
     let r = g.D.Disk.state c.args.disk.now in
-    let same = same_needed (is_spared c.in_ok-needed.needed) (is_needed from) c.in_ok-needed.ensures in
+    let same = same_needed (has_generation c.in_ok-needed.needed) (is_needed from) c.in_ok-needed.ensures in
     let s = g.D.Disk.state c.open_generation.new.disk in
     let opens : Changes (is_needed from) n 0 0 r s = subst (λ f. Changes f n 0 0 r s) same c.open_generation.ensures.changes in
     let free : is_needed from n ≡ false = ap (is_needed from) c.requires.number ∙ coming_not_needed from c.host_of-before.ensures.opened in
@@ -55,7 +55,7 @@ returns-in_err-open_generation-clause-cleans g c =
     let from = option_copied c.args.from in
     let r = g.D.Disk.state c.args.disk.now in
     let s = g.D.Disk.state c.open_generation.new.disk in
-    let same = same_needed (is_spared c.in_ok-needed.needed) (is_needed from) c.in_ok-needed.ensures in
+    let same = same_needed (has_generation c.in_ok-needed.needed) (is_needed from) c.in_ok-needed.ensures in
     let p = err_from_is_err_and c.from_residual-in_err-open_generation.result c.from_residual-in_err-open_generation.ensures.1 in
     cleans_handed _ Host (is_left from) c.in_err-open_generation.field-0.0 r s c.open_generation.result c.from_residual-in_err-open_generation.result c.in_err-open_generation.was (p.1 ∙ ap Err p.2)
     (subst (λ f. Cleans (is_left_path f) c.open_generation.result r s) same c.open_generation.ensures.cleans)
@@ -85,18 +85,18 @@ fill_generation-requires-clause-earlier g c =
 
 pub fill_generation-requires-clause-empty : goal.fill_generation-requires-clause-empty
 fill_generation-requires-clause-empty g c =
-    open_made (is_spared c.in_ok-needed.needed) c.args.generation (g.D.Disk.state c.open_generation.new.disk) c.in_ok-open_generation.ensures.open
+    open_made (has_generation c.in_ok-needed.needed) c.args.generation (g.D.Disk.state c.open_generation.new.disk) c.in_ok-open_generation.ensures.open
 
 pub fill_generation-requires-clause-no_next : goal.fill_generation-requires-clause-no_next
 fill_generation-requires-clause-no_next g c =
-    open_no_next (is_spared c.in_ok-needed.needed) c.args.generation (g.D.Disk.state c.open_generation.new.disk) c.in_ok-open_generation.ensures.open
+    open_no_next (has_generation c.in_ok-needed.needed) c.args.generation (g.D.Disk.state c.open_generation.new.disk) c.in_ok-open_generation.ensures.open
 
 pub returns-in_err-placed-clause-changes : goal.returns-in_err-placed-clause-changes
 returns-in_err-placed-clause-changes g c =
     let from = option_copied c.args.from in
     let n = c.args.generation in
     let r = g.D.Disk.state c.args.disk.now in
-    let same = same_needed (is_spared c.in_ok-needed.needed) (is_needed from) c.in_ok-needed.ensures in
+    let same = same_needed (has_generation c.in_ok-needed.needed) (is_needed from) c.in_ok-needed.ensures in
     let s = g.D.Disk.state c.open_generation.new.disk in
     let opens : Changes (is_needed from) n 0 0 r s = subst (λ f. Changes f n 0 0 r s) same c.open_generation.ensures.changes in
     let free : is_needed from n ≡ false = ap (is_needed from) c.requires.number ∙ coming_not_needed from c.host_of-before.ensures.opened in
@@ -112,7 +112,7 @@ returns-in_err-placed-clause-cleans g c =
     let from = option_copied c.args.from in
     let n = c.args.generation in
     let r = g.D.Disk.state c.args.disk.now in
-    let same = same_needed (is_spared c.in_ok-needed.needed) (is_needed from) c.in_ok-needed.ensures in
+    let same = same_needed (has_generation c.in_ok-needed.needed) (is_needed from) c.in_ok-needed.ensures in
     let s = g.D.Disk.state c.open_generation.new.disk in
     let opens : Changes (is_needed from) n 0 0 r s = subst (λ f. Changes f n 0 0 r s) same c.open_generation.ensures.changes in
     let free : is_needed from n ≡ false = ap (is_needed from) c.requires.number ∙ coming_not_needed from c.host_of-before.ensures.opened in
@@ -133,7 +133,7 @@ returns-in_err-placed-clause-cause g c =
     let from = option_copied c.args.from in
     let n = c.args.generation in
     let r = g.D.Disk.state c.args.disk.now in
-    let same = same_needed (is_spared c.in_ok-needed.needed) (is_needed from) c.in_ok-needed.ensures in
+    let same = same_needed (has_generation c.in_ok-needed.needed) (is_needed from) c.in_ok-needed.ensures in
     let s = g.D.Disk.state c.open_generation.new.disk in
     let opens : Changes (is_needed from) n 0 0 r s = subst (λ f. Changes f n 0 0 r s) same c.open_generation.ensures.changes in
     let free : is_needed from n ≡ false = ap (is_needed from) c.requires.number ∙ coming_not_needed from c.host_of-before.ensures.opened in
@@ -160,7 +160,7 @@ returns-in_err-finish_generation-clause-changes g c =
     let from = option_copied c.args.from in
     let n = c.args.generation in
     let r = g.D.Disk.state c.args.disk.now in
-    let same = same_needed (is_spared c.in_ok-needed.needed) (is_needed from) c.in_ok-needed.ensures in
+    let same = same_needed (has_generation c.in_ok-needed.needed) (is_needed from) c.in_ok-needed.ensures in
     let s = g.D.Disk.state c.open_generation.new.disk in
     let opens : Changes (is_needed from) n 0 0 r s = subst (λ f. Changes f n 0 0 r s) same c.open_generation.ensures.changes in
     let free : is_needed from n ≡ false = ap (is_needed from) c.requires.number ∙ coming_not_needed from c.host_of-before.ensures.opened in
@@ -183,7 +183,7 @@ returns-in_err-finish_generation-clause-cleans g c =
     let from = option_copied c.args.from in
     let n = c.args.generation in
     let r = g.D.Disk.state c.args.disk.now in
-    let same = same_needed (is_spared c.in_ok-needed.needed) (is_needed from) c.in_ok-needed.ensures in
+    let same = same_needed (has_generation c.in_ok-needed.needed) (is_needed from) c.in_ok-needed.ensures in
     let s = g.D.Disk.state c.open_generation.new.disk in
     let opens : Changes (is_needed from) n 0 0 r s = subst (λ f. Changes f n 0 0 r s) same c.open_generation.ensures.changes in
     let free : is_needed from n ≡ false = ap (is_needed from) c.requires.number ∙ coming_not_needed from c.host_of-before.ensures.opened in
@@ -210,7 +210,7 @@ returns-in_err-finish_generation-clause-cause g c =
     let from = option_copied c.args.from in
     let n = c.args.generation in
     let r = g.D.Disk.state c.args.disk.now in
-    let same = same_needed (is_spared c.in_ok-needed.needed) (is_needed from) c.in_ok-needed.ensures in
+    let same = same_needed (has_generation c.in_ok-needed.needed) (is_needed from) c.in_ok-needed.ensures in
     let s = g.D.Disk.state c.open_generation.new.disk in
     let opens : Changes (is_needed from) n 0 0 r s = subst (λ f. Changes f n 0 0 r s) same c.open_generation.ensures.changes in
     let free : is_needed from n ≡ false = ap (is_needed from) c.requires.number ∙ coming_not_needed from c.host_of-before.ensures.opened in
@@ -228,7 +228,7 @@ returns-clause-changes g c =
     let from = option_copied c.args.from in
     let n = c.args.generation in
     let r = g.D.Disk.state c.args.disk.now in
-    let same = same_needed (is_spared c.in_ok-needed.needed) (is_needed from) c.in_ok-needed.ensures in
+    let same = same_needed (has_generation c.in_ok-needed.needed) (is_needed from) c.in_ok-needed.ensures in
     let s = g.D.Disk.state c.open_generation.new.disk in
     let opens : Changes (is_needed from) n 0 0 r s = subst (λ f. Changes f n 0 0 r s) same c.open_generation.ensures.changes in
     let free : is_needed from n ≡ false = ap (is_needed from) c.requires.number ∙ coming_not_needed from c.host_of-before.ensures.opened in
@@ -251,7 +251,7 @@ returns-clause-cleans g c =
     let from = option_copied c.args.from in
     let n = c.args.generation in
     let r = g.D.Disk.state c.args.disk.now in
-    let same = same_needed (is_spared c.in_ok-needed.needed) (is_needed from) c.in_ok-needed.ensures in
+    let same = same_needed (has_generation c.in_ok-needed.needed) (is_needed from) c.in_ok-needed.ensures in
     let s = g.D.Disk.state c.open_generation.new.disk in
     let opens : Changes (is_needed from) n 0 0 r s = subst (λ f. Changes f n 0 0 r s) same c.open_generation.ensures.changes in
     let free : is_needed from n ≡ false = ap (is_needed from) c.requires.number ∙ coming_not_needed from c.host_of-before.ensures.opened in
@@ -275,7 +275,7 @@ returns-clause-changed g c =
     let from = option_copied c.args.from in
     let n = c.args.generation in
     let r = g.D.Disk.state c.args.disk.now in
-    let same = same_needed (is_spared c.in_ok-needed.needed) (is_needed from) c.in_ok-needed.ensures in
+    let same = same_needed (has_generation c.in_ok-needed.needed) (is_needed from) c.in_ok-needed.ensures in
     let s = g.D.Disk.state c.open_generation.new.disk in
     let opens : Changes (is_needed from) n 0 0 r s = subst (λ f. Changes f n 0 0 r s) same c.open_generation.ensures.changes in
     let free : is_needed from n ≡ false = ap (is_needed from) c.requires.number ∙ coming_not_needed from c.host_of-before.ensures.opened in
@@ -292,7 +292,7 @@ returns-clause-changed g c =
       written = fills.written;
       homes = homes_since from c.host_of-before.ensures.opened r s depot n c.args.next host fills.written opens.spares fills.homes;
       opened = coming_is_opened from n c.args.next host s depot fills.written c.host_of-before.ensures.opened c.requires.number c.requires.positive c.requires.valid c.requires.drawn c.requires.kept
-          c.requires.past c.requires.fits fills.homes c.look_at_host.ensures;
-      told = changed_told (is_needed from) n files bytes host fills.written r s t u opens (subst (λ f. Holds (IsOpen f n) s) same c.in_ok-open_generation.ensures.open) fills.told
+          c.requires.past c.requires.fits fills.homes c.well_formed_host.ensures;
+      told = changed_told (is_needed from) n files bytes host fills.written r s t u opens (subst (λ f. Holds (IsGenerationOpen f n) s) same c.in_ok-open_generation.ensures.open) fills.told
           c.fill_generation.ensures.makes c.in_ok-finish_generation.ensures.completes c.finish_generation.ensures.makes;
     }

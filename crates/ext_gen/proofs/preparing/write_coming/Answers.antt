@@ -3,7 +3,7 @@ use Rattle.std.proofs.lemmas.Result.{err_from_is_err_and}
 use Rattle.std.specs.Option.{option_copied}
 use Rattle.ext_host.specs.declared.host.Host.{Host}
 use Rattle.ext_homes.specs.Giving.{stored_by}
-use Rattle.ext_gen.specs.Preparing.{AreBefore, coming_number, host_before, is_left, is_needed, limit_of, most_bytes_of, most_files}
+use Rattle.ext_gen.specs.Preparing.{ArePastBefore, coming_number, host_before, is_left, is_needed, limit_of, most_bytes_of, most_files}
 use Rattle.ext_gen.specs.PreparingPaths.{Changes}
 use Rattle.ext_gen.proofs.PreparingAnswersLemmas.{limit_cause, limit_cleans, limit_says, no_limit, prepare_cause, prepared_cause, prepared_completed, prepared_limit}
 use Rattle.ext_gen.proofs.PreparingLeftLemmas.{cause_finished, cleans_handed, cleans_later, memory_finished}
@@ -39,7 +39,7 @@ returns-in_err-generation-clause-cause g c =
 
 pub change_store-requires-clause-past : goal.change_store-requires-clause-past
 change_store-requires-clause-past g c =
-    subst (λ n. AreBefore n c.args.next.past) (sym c.in_ok-generation.ensures.number.0) c.requires.past
+    subst (λ n. ArePastBefore n c.args.next.past) (sym c.in_ok-generation.ensures.number.0) c.requires.past
 
 pub change_store-requires-clause-number : goal.change_store-requires-clause-number
 change_store-requires-clause-number g c =

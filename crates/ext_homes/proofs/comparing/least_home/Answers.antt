@@ -1,7 +1,7 @@
 use Rattle.std.proofs.Common.{◌≡◌, ◌∙◌, ap, subst}
 use Rattle.std.specs.List.{filter}
 use Rattle.std.proofs.lemmas.Result.{err_from_is_err_and}
-use Rattle.ext_store.specs.Comparing.{IsCompared}
+use Rattle.ext_store_files.specs.Comparing.{IsCompared}
 use Rattle.ext_homes.specs.Giving.{home_told}
 use Rattle.ext_homes.specs.KeptFiles.{has_stamp, stamp_key}
 use Rattle.ext_homes.specs.Placed.{brought_told}

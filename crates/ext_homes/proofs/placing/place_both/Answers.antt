@@ -2,7 +2,7 @@ use Rattle.std.proofs.Common.{◌^◌, ◌<◌, arith}
 use Rattle.std.proofs.lemmas.Result.{err_from_is_err_and}
 use Rattle.ext_text.proofs.ForCallers.{all_back, all_prefix}
 use Rattle.ext_host.specs.Valid.{bytes_of}
-use Rattle.ext_store.proofs.ForCallers.{kept_then}
+use Rattle.ext_store_files.proofs.ForCallers.{kept_then}
 use Rattle.ext_homes.specs.Brought.{brought}
 use Rattle.ext_homes.specs.Comparing.{stored_in}
 use Rattle.ext_homes.specs.Placed.{ArePlaced}

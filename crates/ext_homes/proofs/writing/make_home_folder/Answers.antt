@@ -1,7 +1,7 @@
 use Rattle.std.proofs.Common.{sym, subst}
 use Rattle.ext_text.specs.Path.{is_prefix}
 use Rattle.ext_disk.specs.Calls.{MayCall, make_dir}
-use Rattle.ext_store.specs.Writing.{Holds, IsMade, Works, is_at}
+use Rattle.ext_store_files.specs.Writing.{Holds, IsMade, Works, is_at}
 use Rattle.ext_homes.proofs.WritingLemmas.{folder_only, folder_opens, folder_works, may_make_folder, opens_itself}
 use Rattle.ext_homes.proofs.writing.make_home_folder.Goals as goal
 

@@ -11,7 +11,7 @@ use Rattle.ext_tree.specs.declared.entry.Entry.{Entry}
 use Rattle.ext_tree.specs.declared.stamp.Stamp.{Stamp}
 use Rattle.ext_tree.specs.declared.tree.TreeErr.{TreeErr}
 use Rattle.ext_tree.specs.declared.tree.TreeErr.TheVariants.{OutOfMemory, Exists, NotDirectory, Limit, Path}
-use Rattle.ext_host.specs.DepotBodies.{Fits, FitsErr, HasFileErr, from_depot, pair_in_depot}
+use Rattle.ext_host.specs.DepotBodies.{FileFits, FitsErr, HasFileErr, from_depot, pair_in_depot}
 use Rattle.ext_host.proofs.depot_bodies.pairs_at.Goals as goal
 
 -- why an entry is not given is why its tree is not
@@ -54,15 +54,15 @@ loop-pair-preserved c =
           let short = ap length c.in-Some.ensures.steps.0 in
           let was = c.loop-pair.invariant.left in
           omega arith;
-      so_far = c.push.ensures.items ∙ ap (λ r. cond (is_ok r) (c.loop-pair.placed.items ++ c.in_ok-pair_at.field-0 ∷ []) c.loop-pair.placed.items) c.in_ok-grown.ensures
+      so_far = c.push.ensures.items ∙ ap (λ r. cond (is_ok r) (c.loop-pair.placed.items ++ c.in_ok-pair_at.field-0 ∷ []) c.loop-pair.placed.items) c.in_ok-allocated.ensures
           ∙ ap (λ e. c.loop-pair.placed.items ++ e ∷ []) c.in_ok-pair_at.ensures.ok.0 ∙ ap (λ l. l ++ pair_in_depot c.args.res.now x ∷ []) c.loop-pair.invariant.so_far
           ∙ sym (map-append (pair_in_depot c.args.res.now) done (x ∷ []));
-      fits = all_append (Fits c.args.res.now) done (x ∷ []) c.loop-pair.invariant.fits (c.in_ok-pair_at.ensures.ok.1, tt);
+      fits = all_append (FileFits c.args.res.now) done (x ∷ []) c.loop-pair.invariant.fits (c.in_ok-pair_at.ensures.ok.1, tt);
     }
 
 pub returns-clause-ok : goal.returns-clause-ok
 returns-clause-ok c =
     let whole = all_taken c.args.pairs.items c.loop-pair.yielded (into_iter_items c.loop-pair.pair-iterator) c.loop-pair.invariant.split (sym c.loop-pair.invariant.left ∙ c.in-None.ensures.steps.0) in (
       subst (λ l. c.loop-pair.placed.items ≡ from_depot c.args.res.now l) (sym whole) c.loop-pair.invariant.so_far,
-      subst (AllByRecursion (Fits c.args.res.now)) (sym whole) c.loop-pair.invariant.fits,
+      subst (AllByRecursion (FileFits c.args.res.now)) (sym whole) c.loop-pair.invariant.fits,
     )

@@ -1,6 +1,6 @@
 use Rattle.std.proofs.Common.{◌≡◌, length, take}
 use Rattle.std.specs.List.{flat_map}
-use Rattle.ext_record.specs.Out.{at_most_64_bits}
+use Rattle.ext_index_lines.specs.Out.{at_most_64_bits}
 use Rattle.ext_index.specs.Index.{manifest_lines}
 use Rattle.ext_index.proofs.counting.manifests_count.Given as goal
 

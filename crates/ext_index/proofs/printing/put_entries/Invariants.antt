@@ -1,7 +1,7 @@
 use Rattle.std.proofs.Common.{ℕ, List, ◌++◌, take}
 use Rattle.std.specs.Prelude.{map}
 use Rattle.ext_lines.specs.Lines.{lines_text}
-use Rattle.ext_record.specs.Homes.{line_of_entry}
+use Rattle.ext_index_lines.specs.Homes.{line_of_entry}
 use Rattle.ext_index.proofs.printing.put_entries.Given as goal
 
 abbrev pub invariant-entries : goal.invariant-entries

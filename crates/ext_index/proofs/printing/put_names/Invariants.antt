@@ -1,7 +1,7 @@
 use Rattle.std.proofs.Common.{ℕ, List, ◌++◌, take}
 use Rattle.std.specs.Prelude.{map}
 use Rattle.ext_lines.specs.Lines.{lines_text}
-use Rattle.ext_record.specs.Lines.{worded}
+use Rattle.ext_index_lines.specs.Lines.{worded}
 use Rattle.ext_index.proofs.printing.put_names.Given as goal
 
 abbrev pub invariant-names : goal.invariant-names

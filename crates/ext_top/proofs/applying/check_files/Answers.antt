@@ -21,7 +21,7 @@ returns-in_err-files-clause-checks g c =
 pub returns-in_err-files-clause-cause : goal.returns-in_err-files-clause-cause
 returns-in_err-files-clause-cause g c =
     let p = err_from_is_err_and c.from_residual.result c.from_residual.ensures.1 in
-    rw (p.1, p.2, c.in-Some.is)
+    rw (c.in-Some.is, p.1, p.2)
     (check_cause c.in-Some.opened (g.D.Disk.state c.args.disk.now) (g.D.Disk.state c.check.new.disk) _ c.host.ensures.opened (rw c.host.ensures.same at c.in_err-files.ensures.cause))
 
 pub returns-in_err-answer_text-clause-checks : goal.returns-in_err-answer_text-clause-checks

@@ -1,4 +1,4 @@
-use Rattle.ext_step.proofs.ForCallers.{first_wants_fit}
+use Rattle.ext_intents.proofs.ForCallers.{first_wants_fit}
 use Rattle.ext_top.proofs.applying.intended.Goals as goal
 
 pub returns-in_ok-first_step-in-None-clause-fit : goal.returns-in_ok-first_step-in-None-clause-fit

@@ -1,6 +1,6 @@
 use Rattle.std.proofs.Common.{[], ◌∷◌}
 use Rattle.ext_disk.proofs.ForCallers.{follows_then}
-use Rattle.ext_store.proofs.ForCallers.{kept_itself}
+use Rattle.ext_store_files.proofs.ForCallers.{kept_itself}
 use Rattle.ext_top.specs.Exits.{does}
 use Rattle.ext_top.proofs.RunLemmas.{closed_cause, closed_runs, is_of_opening, opened_cause, opened_points, opened_runs}
 use Rattle.ext_top.proofs.RunsWorkLemmas.{closed_met, closed_works, run_met, run_works}

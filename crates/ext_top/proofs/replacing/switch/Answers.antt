@@ -5,7 +5,7 @@ use Rattle.ext_disk.proofs.ForCallers.{follows_then}
 use Rattle.ext_host.specs.Drawn.{AreDrawnFrom, trees_of}
 use Rattle.ext_homes.specs.Giving.{trees_before}
 use Rattle.ext_gen.specs.Opened.{Generation}
-use Rattle.ext_gen.specs.Preparing.{AreBefore, LimitSays, PrepareCause, coming_number, host_before, is_left, limit_of}
+use Rattle.ext_gen.specs.Preparing.{ArePastBefore, LimitSays, PrepareCause, coming_number, host_before, is_left, limit_of}
 use Rattle.ext_gen.specs.PreparingPaths.{Cleans}
 use Rattle.ext_top.specs.Applying.{AppliesTold}
 use Rattle.ext_top.specs.Machine.{Replaces}
@@ -22,7 +22,7 @@ prepare-requires-clause-kept g c = planned_brings_none c.args.opened c.args.next
 
 pub prepare-requires-clause-past : goal.prepare-requires-clause-past
 prepare-requires-clause-past g c =
-    subst (λ o. AreBefore (coming_number o) c.args.next.past) (sym c.as_ref.ensures.value) (planned_is_before c.args.opened c.args.next c.requires.opened c.requires.planned)
+    subst (λ o. ArePastBefore (coming_number o) c.args.next.past) (sym c.as_ref.ensures.value) (planned_is_before c.args.opened c.args.next c.requires.opened c.requires.planned)
 
 pub returns-in_err-commit-in-Ok-clause-follows : goal.returns-in_err-commit-in-Ok-clause-follows
 returns-in_err-commit-in-Ok-clause-follows g c =
@@ -33,7 +33,7 @@ returns-in_err-commit-in-Ok-clause-applies g c =
     let p = err_from_is_err_and c.from_residual.result c.from_residual.ensures.1 in
     rw (p.1, p.2)
     (switched_applies c.args.next c.args.reply c.args.opened c.in-Ok.prepared (g.P.Depot.state c.args.depot.now) (g.D.Disk.state c.args.disk.now) (g.D.Disk.state c.prepare.new.disk) (g.D.Disk.state c.commit.new.disk)
-    (Err c.in_err-commit-in-Ok.field-0.0) (rw c.as_ref.ensures.value at c.in-Ok.ensures.limit) (rw c.as_ref.ensures.value at c.in-Ok.ensures.prepared) c.in-Ok.ensures.firm
+    (Err c.in_err-commit-in-Ok.field-0.0) (rw c.as_ref.ensures.value at c.in-Ok.ensures.limit) (rw c.as_ref.ensures.value at c.in-Ok.ensures.prepared) c.in-Ok.ensures.durable
     c.commit.ensures.follows.told c.in_err-commit-in-Ok.ensures.stops)
 
 pub returns-in_err-refusal_from-in-Err-clause-applies : goal.returns-in_err-refusal_from-in-Err-clause-applies
@@ -46,7 +46,7 @@ returns-in_err-refusal_from-in-Err-clause-applies g c =
     rw (p.1, p.2)
     (subst (λ r. BothTold (AppliesTold (λ s. Replaces s depot c.args.next c.args.reply) c.args.opened (unprepared c.args.opened r)) old.told new.told) (sym c.refusal_from.ensures ∙ c.in_err-refusal_from-in-Err.was)
     (unprepared_applies c.args.next c.args.reply c.args.opened depot after old new c.in-Err.error
-    (subst (λ o. LimitSays {T = Generation} (limit_of o c.args.next) (Err c.in-Err.error)) c.as_ref.ensures.value c.in-Err.ensures.limit) (subst (λ o. PrepareCause o c.args.next old new depot after c.in-Err.error) c.as_ref.ensures.value c.in-Err.ensures.cause) c.in-Err.ensures.firm))
+    (subst (λ o. LimitSays {T = Generation} (limit_of o c.args.next) (Err c.in-Err.error)) c.as_ref.ensures.value c.in-Err.ensures.limit) (subst (λ o. PrepareCause o c.args.next old new depot after c.in-Err.error) c.as_ref.ensures.value c.in-Err.ensures.cause) c.in-Err.ensures.durable))
 
 pub returns-in_err-refusal_from-in-Err-clause-cause : goal.returns-in_err-refusal_from-in-Err-clause-cause
 returns-in_err-refusal_from-in-Err-clause-cause g c =
@@ -67,7 +67,7 @@ pub returns-in_ok-commit-in-Ok-clause-applies : goal.returns-in_ok-commit-in-Ok-
 returns-in_ok-commit-in-Ok-clause-applies g c =
     rw c.in_ok-commit-in-Ok.ensures.opened
     (switched_applies c.args.next c.args.reply c.args.opened c.in-Ok.prepared (g.P.Depot.state c.args.depot.now) (g.D.Disk.state c.args.disk.now) (g.D.Disk.state c.prepare.new.disk) (g.D.Disk.state c.commit.new.disk)
-    (Ok c.in_ok-commit-in-Ok.field-0) (rw c.as_ref.ensures.value at c.in-Ok.ensures.limit) (rw c.as_ref.ensures.value at c.in-Ok.ensures.prepared) c.in-Ok.ensures.firm
+    (Ok c.in_ok-commit-in-Ok.field-0) (rw c.as_ref.ensures.value at c.in-Ok.ensures.limit) (rw c.as_ref.ensures.value at c.in-Ok.ensures.prepared) c.in-Ok.ensures.durable
     c.commit.ensures.follows.told c.in_ok-commit-in-Ok.ensures.stops)
 
 pub returns-in_ok-refusal_from-in-Err-clause-applies : goal.returns-in_ok-refusal_from-in-Err-clause-applies
@@ -78,7 +78,7 @@ returns-in_ok-refusal_from-in-Err-clause-applies g c =
     let new = g.D.Disk.state c.prepare.new.disk in
     subst (λ r. BothTold (AppliesTold (λ s. Replaces s depot c.args.next c.args.reply) c.args.opened (unprepared c.args.opened r)) old.told new.told) (sym c.refusal_from.ensures ∙ c.in_ok-refusal_from-in-Err.was)
     (unprepared_applies c.args.next c.args.reply c.args.opened depot after old new c.in-Err.error
-    (subst (λ o. LimitSays {T = Generation} (limit_of o c.args.next) (Err c.in-Err.error)) c.as_ref.ensures.value c.in-Err.ensures.limit) (subst (λ o. PrepareCause o c.args.next old new depot after c.in-Err.error) c.as_ref.ensures.value c.in-Err.ensures.cause) c.in-Err.ensures.firm)
+    (subst (λ o. LimitSays {T = Generation} (limit_of o c.args.next) (Err c.in-Err.error)) c.as_ref.ensures.value c.in-Err.ensures.limit) (subst (λ o. PrepareCause o c.args.next old new depot after c.in-Err.error) c.as_ref.ensures.value c.in-Err.ensures.cause) c.in-Err.ensures.durable)
 
 pub returns-in_err-commit-in-Ok-clause-works : goal.returns-in_err-commit-in-Ok-clause-works
 returns-in_err-commit-in-Ok-clause-works g c =

@@ -1,5 +1,5 @@
 use Rattle.std.proofs.lemmas.Result.{err_from_is_err_and}
-use Rattle.ext_store.specs.HeldFiles.{body_told}
+use Rattle.ext_store_files.specs.HeldFiles.{body_told}
 use Rattle.ext_top.proofs.PieceLemmas.{piece_cut}
 use Rattle.ext_top.proofs.replying.write_piece.Goals as goal
 

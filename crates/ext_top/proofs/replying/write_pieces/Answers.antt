@@ -1,6 +1,6 @@
 use Rattle.std.proofs.Common.{Ok, Err, arith}
 use Rattle.std.proofs.lemmas.Result.{err_from_is_err_and}
-use Rattle.ext_store.specs.HeldFiles.{body_told}
+use Rattle.ext_store_files.specs.HeldFiles.{body_told}
 use Rattle.ext_top.proofs.PieceLemmas.{cause_from, piece_since, rests_then}
 use Rattle.ext_top.proofs.PiecesLemmas.{first_stopped, first_then}
 use Rattle.ext_top.proofs.replying.write_pieces.Goals as goal

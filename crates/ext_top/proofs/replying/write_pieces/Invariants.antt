@@ -1,6 +1,6 @@
 use Rattle.std.proofs.Common.{◌≡◌, ◌-◌, ◌≤◌}
 use Rattle.ext_disk.specs.Since.{Rests}
-use Rattle.ext_store.specs.HeldFiles.{body_told}
+use Rattle.ext_store_files.specs.HeldFiles.{body_told}
 use Rattle.ext_top.proofs.PiecesLemmas.{WritesFirst}
 use Rattle.ext_top.proofs.replying.write_pieces.Given as goal
 

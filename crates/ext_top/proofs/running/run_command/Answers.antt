@@ -1,6 +1,6 @@
 use Rattle.std.proofs.Common.{[], refl}
 use Rattle.ext_cmd.specs.declared.command.Command.TheVariants.{Compare}
-use Rattle.ext_step.specs.Compare.{compare_intent}
+use Rattle.ext_intents.specs.Compare.{compare_intent}
 use Rattle.ext_top.proofs.RunsLemmas.{intent_ends}
 use Rattle.ext_top.proofs.running.run_command.Goals as goal
 

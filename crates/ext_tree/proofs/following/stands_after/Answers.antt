@@ -1,17 +1,20 @@
-use Rattle.std.proofs.Common.{List, ℕ, Option, length, arith, sym, ap, ◌∙◌, subst}
-use Rattle.std.specs.Prelude.{slice_get}
-use Rattle.ext_text.specs.Path.{parent, is_prefix}
-use Rattle.ext_tree.proofs.StandsAfterLemmas.{Decides, stands_last, no_root}
+use Rattle.std.proofs.Common.{length, arith, sym, ap, ◌∙◌}
+use Rattle.ext_text.specs.Path.{is_prefix}
+use Rattle.ext_tree.proofs.StandsAfterLemmas.{no_root, stands_apart, stands_rest}
 use Rattle.ext_tree.proofs.following.stands_after.Goals as goal
 
-pub returns-in-empty : goal.returns-in-empty
-returns-in-empty g c = no_root c.args.path.now c.args.last.now.0 c.args.last.now.1 (omega (arith, ap length c.names.ensures.same))
+pub returns-in-None : goal.returns-in-None
+returns-in-None g c = no_root c.args.path.now c.args.last.now.0 c.args.last.now.1 (omega (arith, ap length c.names.ensures.same, ap length c.in-None.ensures))
 
-pub returns-then-is_prefix : goal.returns-then-is_prefix
-returns-then-is_prefix g c =
-    let names : List (List ℕ) = c.names.result.now in
-    stands_last names c.args.path.now c.args.last.now.0 c.name-item.result c.args.last.now.1 c.comes_after.result c.names.ensures.same (omega arith) c.name-item.is
-    (sym (c.if-is_prefix.ensures ∙ ap (is_prefix (parent names)) c.names-in-len1-up.ensures.same))
-    (subst (λ (o : Option (List ℕ)). Decides o c.name-item.result c.args.last.now.1 c.comes_after.result)
-    (c.name_at.ensures ∙ ap (λ (q : List (List ℕ)). slice_get q (length (parent names))) c.names-then-is_prefix.ensures.same)
-    c.comes_after.ensures)
+pub returns-in-None-after : goal.returns-in-None-after
+returns-in-None-after g c =
+    stands_apart c.args.path.now c.in-Some.directory c.args.last.now.0 c.in-Some.name.now c.args.last.now.1
+    (sym c.names.ensures.same ∙ c.in-Some.ensures.0)
+    (ap (is_prefix c.in-Some.directory) (sym c.names-in-Some.ensures.same) ∙ c.in-None-after.ensures)
+
+pub returns-in-Some-after : goal.returns-in-Some-after
+returns-in-Some-after g c =
+    stands_rest c.args.path.now c.in-Some.directory c.args.last.now.0 c.in-Some-after.rest c.in-Some.name.now c.args.last.now.1 c.comes_after.result
+    (sym c.names.ensures.same ∙ c.in-Some.ensures.0)
+    (sym c.names-in-Some.ensures.same ∙ c.in-Some-after.ensures)
+    c.comes_after.ensures

@@ -39,7 +39,7 @@ loop-entry-preserved g c = record {
       let was = c.loop-entry.invariant.left in
       omega arith;
   so_far = hung_more c.args.path.now c.args.new.now.items c.loop-entry.new.items c.push.new.self.items c.loop-entry.yielded c.in-Some.entry c.loop-entry.invariant.so_far
-      (c.push.ensures.items ∙ ap (λ r. cond (is_ok r) (c.loop-entry.new.items ++ c.in_ok-hung.field-0 ∷ []) c.loop-entry.new.items) c.in_ok-grown.ensures ∙ ap (λ e. c.loop-entry.new.items ++ e ∷ []) c.in_ok-hung.ensures.ok.0);
+      (c.push.ensures.items ∙ ap (λ r. cond (is_ok r) (c.loop-entry.new.items ++ c.in_ok-hung.field-0 ∷ []) c.loop-entry.new.items) c.in_ok-allocated.ensures ∙ ap (λ e. c.loop-entry.new.items ++ e ∷ []) c.in_ok-hung.ensures.ok.0);
   fits = fits_more c.args.path.now c.loop-entry.yielded c.in-Some.entry c.loop-entry.invariant.fits c.in_ok-hung.ensures.ok.1;
 }
 

@@ -1,8 +1,15 @@
-use Rattle.ext_text.specs.declared.arch.Arch.TheVariants.{X86_64}
+use Rattle.std.proofs.Common.{◌≤◌, length, subst}
+use Rattle.std.specs.List.{AllByRecursion}
+use Rattle.ext_trial_plans.specs.Plans.{IsSmall, MayLieUnder}
 use Rattle.ext_trial_plans.proofs.PlansLemmas.{made_plain}
 use Rattle.ext_trial_plans.proofs.plans.host_of.Goals as goal
 
 pub returns : goal.returns
 returns c =
-    made_plain X86_64 c.args.root c.pairs.result.now _ _ _ _ _ _ c.new.ensures c.new-2.ensures c.new-3.ensures c.in_ok-sysext_hier.ensures c.in_ok-confext_hier.ensures c.new-4.ensures
-    c.pairs.ensures.same (c.are_small.ensures.few c.if-not-are_small.false) (c.are_small.ensures.small c.if-not-are_small.false)
+    made_plain c.args.trees.root c.args.trees.lower c.args.trees.merged c.in_ok-names.names c.in_ok-names.ensures
+    (subst (MayLieUnder c.args.trees.merged) c.pairs-3.ensures.same (c.may_lie_under.ensures c.if-not-may_lie_under.false))
+    (subst (λ l. length l ≤ 1000) c.pairs.ensures.same (c.are_small.ensures.few c.if-not-are_small.false))
+    (subst (λ l. AllByRecursion (λ e. IsSmall e.1) l) c.pairs.ensures.same (c.are_small.ensures.small c.if-not-are_small.false))
+    (subst (λ l. length l ≤ 1000) c.pairs-2.ensures.same (c.are_small-2.ensures.few c.if-not-are_small-2.false))
+    (subst (λ l. AllByRecursion (λ e. IsSmall e.1) l) c.pairs-2.ensures.same (c.are_small-2.ensures.small c.if-not-are_small-2.false))
+    c.host_with.result c.host_with.ensures

@@ -1,4 +1,4 @@
-use Rattle.ext_vers.proofs.LawsLemmas.{versions_total}
+use Rattle.ext_vers.specs.Order.{versions_total}
 use Rattle.ext_vers.proofs.laws.compare_is_a_total_preorder.Goals as goal
 
 pub returns : goal.returns

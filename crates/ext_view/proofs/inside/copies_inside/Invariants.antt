@@ -1,5 +1,5 @@
 use Rattle.std.proofs.Common.{◌≡◌, map, take}
-use Rattle.ext_view.specs.Hierarchies.{inside, seen_below}
+use Rattle.ext_view.specs.Inside.{inside, seen_below}
 use Rattle.ext_view.proofs.inside.copies_inside.Given as goal
 
 abbrev pub invariant-loop-pair : goal.invariant-loop-pair

@@ -2,7 +2,7 @@ use Rattle.std.proofs.Common.{◌≡◌, rules, sym, subst, ◌∙◌}
 use Rattle.std.proofs.lemmas.Fn.{filter_same}
 use Rattle.ext_tree.specs.Tree.{IsTreeWithin}
 use Rattle.ext_host.specs.Host.{is_in}
-use Rattle.ext_view.specs.Hierarchies.{inside}
+use Rattle.ext_view.specs.Inside.{inside}
 use Rattle.ext_view.proofs.InsideLemmas.{within_inside}
 use Rattle.ext_view.proofs.inside.inside.Goals as goal
 

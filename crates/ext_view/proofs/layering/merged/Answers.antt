@@ -11,6 +11,6 @@ returns-clause-gives c =
 pub returns-clause-next : goal.returns-clause-next
 returns-clause-next c =
     let are = c.in_ok-root.ensures in
-    view_next c.args.class c.args.host.now c.requires.extension c.args.base c.requires.base c.args.items.now are.images are.are_images c.in_ok-root.root c.in_ok-root.lower are.trees c.requires.valid (names_of c.args.items.now) c.in_ok-with_view.field-0
+    view_next c.args.class c.args.host.now c.args.base c.requires.base c.args.items.now are.images are.are_images c.in_ok-root.root c.in_ok-root.lower are.trees c.requires.valid (names_of c.args.items.now) c.in_ok-with_view.field-0
     (chosen_merged c.args.base c.args.items.now c.requires.chosen c.requires.non_empty) are.entries are.bytes
     (c.in_ok-with_view.ensures ∙ (λ i. with_view c.args.class (Some (c.in_ok-names.ensures i)) c.in_ok-root.root c.in_ok-root.lower c.args.host.now))

@@ -3,7 +3,9 @@ use Rattle.std.specs.List.{AllByRecursion}
 use Rattle.std.proofs.lemmas.Result.{err_from_is_err_and}
 use Rattle.ext_tree.specs.Tree.{IsTree}
 use Rattle.ext_host.specs.Host.{is_in}
-use Rattle.ext_view.specs.Hierarchies.{hierarchies_at, inside, replaced}
+use Rattle.ext_view.specs.Hierarchies.{hierarchies_at}
+use Rattle.ext_view.specs.Inside.{inside}
+use Rattle.ext_view.specs.Replaced.{replaced}
 use Rattle.ext_view.specs.Layering.{FitsWithin, GivesView, HasViewOf}
 use Rattle.ext_view.proofs.InsideLemmas.{all_inside}
 use Rattle.ext_view.proofs.ViewLemmas.{all_viewed, tree_lower, tree_root, trees_fail, trees_given, view_lower, view_root}

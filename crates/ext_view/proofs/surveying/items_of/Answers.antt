@@ -4,7 +4,7 @@ use Rattle.std.specs.List.{AllByRecursion}
 use Rattle.ext_text.proofs.ForCallers.{all_back}
 use Rattle.ext_view.specs.Judging.{IsSound}
 use Rattle.ext_view.specs.Matched.{AreMatched}
-use Rattle.ext_view.specs.Survey.{IsItemOf}
+use Rattle.ext_view.specs.Surveying.{IsItemOf}
 use Rattle.ext_view.proofs.MatchedLemmas.{matched_push}
 use Rattle.ext_view.proofs.SurveyLemmas.{lists_fail}
 use Rattle.ext_view.proofs.surveying.items_of.Goals as goal
@@ -22,7 +22,7 @@ loop-item-preserved g c =
     let stays = c.loop-item.invariant.2 in
     let same : told ≡ g.H.Shelf.told c.loop-item.shelf = λ i held. sym (g.met.H.Shelf.stays_laws.tells c.args.shelf.now c.loop-item.shelf held stays) i in (
       append_assoc c.loop-item.yielded (c.in-Some.item ∷ []) c.next.new.self.rest.items ∙ ap (λ xs. c.loop-item.yielded ++ xs) (sym c.in-Some.ensures.steps.0) ∙ c.loop-item.invariant.0,
-      subst (AreMatched (IsItemOf told look.host.now look.base.now look.class look.force look.release.now) (c.loop-item.yielded ++ c.in-Some.item ∷ [])) (sym (c.push.ensures.items ∙ ap (λ r. cond (is_ok r) (c.loop-item.items.items ++ c.in_ok-item_of.field-0 ∷ []) c.loop-item.items.items) c.in_ok-grown.ensures))
+      subst (AreMatched (IsItemOf told look.host.now look.base.now look.class look.force look.release.now) (c.loop-item.yielded ++ c.in-Some.item ∷ [])) (sym (c.push.ensures.items ∙ ap (λ r. cond (is_ok r) (c.loop-item.items.items ++ c.in_ok-item_of.field-0 ∷ []) c.loop-item.items.items) c.in_ok-allocated.ensures))
           (matched_push (IsItemOf told look.host.now look.base.now look.class look.force look.release.now) c.loop-item.yielded c.loop-item.items.items c.in-Some.item c.in_ok-item_of.field-0 c.loop-item.invariant.1
           (subst (λ t. IsItemOf t look.host.now look.base.now look.class look.force look.release.now c.in-Some.item c.in_ok-item_of.field-0) (sym same) c.in_ok-item_of.ensures.gives)),
       g.met.H.Shelf.stays_laws.through _ _ _ stays c.item_of.ensures.stays,

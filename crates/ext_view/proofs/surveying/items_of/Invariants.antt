@@ -1,6 +1,6 @@
 use Rattle.std.proofs.Common.{◌≡◌, ◌≤◌, ◌++◌}
 use Rattle.ext_view.specs.Matched.{AreMatched}
-use Rattle.ext_view.specs.Survey.{IsItemOf}
+use Rattle.ext_view.specs.Surveying.{IsItemOf}
 use Rattle.ext_view.proofs.surveying.items_of.Given as goal
 
 abbrev pub invariant-loop-item : goal.invariant-loop-item

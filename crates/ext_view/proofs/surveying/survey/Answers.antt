@@ -1,8 +1,8 @@
 use Rattle.ext_view.proofs.SurveyLemmas.{base_served, surveys_of_base}
 use Rattle.ext_view.proofs.surveying.survey.Goals as goal
 
-pub survey_of-requires-clause-serves : goal.survey_of-requires-clause-serves
-survey_of-requires-clause-serves g c =
+pub survey_of-requires : goal.survey_of-requires
+survey_of-requires g c =
     base_served (g.H.Shelf.serves c.args.shelf.now) c.args.host.now c.in_ok-base.base c.requires.serves c.in_ok-base.ensures.is_base
 
 pub returns-clause-gives : goal.returns-clause-gives

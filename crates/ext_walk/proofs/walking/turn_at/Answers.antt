@@ -5,7 +5,7 @@ use Rattle.ext_walk.proofs.walking.turn_at.Goals as goal
 
 pub returns-then-is_idle : goal.returns-then-is_idle
 returns-then-is_idle g c = λ at is.
-    (at, is, λ left links. step_idle (part c.args.image.now c.args.tree.now) at c.args.name.now left links (sym c.is_idle.ensures ∙ c.if-is_idle.true))
+    (at, c.again.ensures ∙ is, λ left links. step_idle (part c.args.image.now c.args.tree.now) at c.args.name.now left links (sym c.is_idle.ensures ∙ c.if-is_idle.true))
 
 pub returns-then-is_up : goal.returns-then-is_up
 returns-then-is_up g c = λ at is.

@@ -9,7 +9,7 @@ use Rattle.ext_walk.proofs.WalkLemmas.{at_end, follow_none, follow_on, same_self
 use Rattle.ext_walk.proofs.walking.walk_end.Goals as goal
 
 pub links-init : goal.links-init
-links-init g c = ([], sym (append-nil c.args.image.now), omega arith, same_self (part c.args.image.now c.args.tree.now) _)
+links-init g c = ([], c.again-at.ensures ∙ sym (append-nil c.args.image.now), omega arith, same_self (part c.args.image.now c.args.tree.now) _)
 
 pub returns-in-Done : goal.returns-in-Done
 returns-in-Done g c =
@@ -34,7 +34,7 @@ links-preserved g c =
     let stop = c.in-Into.ensures inv.0 inv.1 in
     let few : c.links.links < most_links = leb-false most_links c.links.links (sym c.are_most.ensures ∙ c.if-are_most.false) in (
       cond (is_absolute c.in-Into.target.now) [] stop.0,
-      c.start_of-at.ensures ∙ start_at (is_absolute c.in-Into.target.now) c.args.image.now c.in-Into.from.now stop.0 stop.1,
+      c.start_of-at.ensures ∙ start_at (is_absolute c.in-Into.target.now) c.args.image.now c.in-Into.from stop.0 stop.1,
       omega (arith, few),
       subst (λ left. Same (part c.args.image.now c.args.tree.now) (walk [] (upcoming c.args.names.items) 0) (walk (cond (is_absolute c.in-Into.target.now) [] stop.0) left (c.links.links + 1))) (sym c.in_ok-push_parts-in-Into.ensures)
           (same_then (part c.args.image.now c.args.tree.now) _ _ (Some _) inv.3

@@ -1,7 +1,7 @@
 use Rattle.std.proofs.Common.{◌+◌, length, arith}
 use Rattle.ext_text.specs.Path.{is_prefix}
-use Rattle.ext_store.specs.Names.{current_text, index_path, next_path}
-use Rattle.ext_store.specs.Writing.{is_at}
+use Rattle.ext_store_files.specs.Names.{current_text, index_path, next_path}
+use Rattle.ext_store_files.specs.Writing.{is_at}
 use Rattle.ext_gen.specs.PreparingIndex.{coming_index}
 use Rattle.ext_gen.proofs.PreparingMovesLemmas.{on_ok}
 use Rattle.ext_gen.proofs.PreparingPathsLemmas.{at_index, at_next, below_is_coming, index_below, makes_then, makes_wider, next_is_coming, works_make}

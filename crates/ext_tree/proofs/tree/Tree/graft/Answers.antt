@@ -1,20 +1,20 @@
-use Rattle.std.proofs.Common.{◌≡◌, ◌∙◌, subst, ap, length}
+use Rattle.std.proofs.Common.{◌≡◌, ◌∙◌, sym, subst, ap, length}
 use Rattle.std.specs.Prelude.{OnOk, OnErr}
 use Rattle.std.proofs.lemmas.Result.{err_from_is_err_and}
 use Rattle.ext_tree.specs.Graft.{Fits, IsTooLong}
 use Rattle.ext_tree.specs.Grafting.{AnswersLimit, IsLongPath, StandsBelow, added, joined}
 use Rattle.ext_tree.specs.Tree.{IsTree}
-use Rattle.ext_tree.proofs.GraftAnswersLemmas.{IsHung, graft_root, hung_answers, hung_graft, hung_within, long_answers, no_names, root_answers}
+use Rattle.ext_tree.proofs.GraftAnswersLemmas.{IsHung, graft_root, hung_answers, hung_graft, hung_within, long_answers, root_answers}
 use Rattle.ext_tree.proofs.tree.Tree.graft.Goals as goal
 
-pub returns-then-is_empty-clause-ok : goal.returns-then-is_empty-clause-ok
-returns-then-is_empty-clause-ok g c =
-    let top = no_names c.names.result.now c.args.path.now c.is_empty.result c.is_empty.ensures c.if-is_empty.true c.names.ensures.same in
+pub returns-then-is_root-clause-ok : goal.returns-then-is_root-clause-ok
+returns-then-is_root-clause-ok g c =
+    let top = sym c.names.ensures.same ∙ c.is_root.ensures.0 c.if-is_root.true in
     graft_root c.args.self.now c.args.part c.into_pairs.result.items c.args.path.now top c.into_pairs.ensures.same c.into_pairs.ensures.tree
 
-pub returns-then-is_empty-clause-answers : goal.returns-then-is_empty-clause-answers
-returns-then-is_empty-clause-answers g c =
-    let top = no_names c.names.result.now c.args.path.now c.is_empty.result c.is_empty.ensures c.if-is_empty.true c.names.ensures.same in
+pub returns-then-is_root-clause-answers : goal.returns-then-is_root-clause-answers
+returns-then-is_root-clause-answers g c =
+    let top = sym c.names.ensures.same ∙ c.is_root.ensures.0 c.if-is_root.true in
     root_answers c.args.self.now c.args.part c.into_pairs.result.items c.args.path.now (tt {0}) top c.into_pairs.ensures.same c.into_pairs.ensures.tree
 
 pub returns-in_err-new-clause-answers : goal.returns-in_err-new-clause-answers

@@ -1,5 +1,0 @@
-use Rattle.ext_lines.proofs.ForCallers.{each_below}
-use Rattle.ext_gen.proofs.preparing.forms.look_at_bytes.Goals as goal
-
-pub returns : goal.returns
-returns c = record { count = c.requires; each = each_below c.args.bytes.now (λ i. (c.type_inv.bytes i).fits) }

@@ -1,7 +1,0 @@
-use Rattle.std.proofs.Common.{length}
-use Rattle.ext_gen.proofs.PreparingMovesLemmas.{works_settled}
-use Rattle.ext_gen.proofs.preparing.moves.put_settled.Goals as goal
-
-pub returns-clause-works : goal.returns-clause-works
-returns-clause-works g c =
-    works_settled c.args.path.now (length c.args.bytes.now) _ (g.D.Disk.state c.write_file.new.disk) _ c.in_ok-write_file.ensures.works c.settle_folder.ensures.works

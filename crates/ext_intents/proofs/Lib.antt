@@ -1,0 +1,9 @@
+pub mod ImportLemmas
+pub mod EntriesLemmas
+pub mod FitLemmas
+pub mod InitLemmas
+pub mod ViewFilesLemmas
+pub mod AlikeLemmas
+pub mod ViewsLemmas
+pub mod WantsLemmas
+pub mod ForCallers

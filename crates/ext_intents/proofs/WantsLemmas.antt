@@ -1,0 +1,135 @@
+-- What a command wants is fit for what is seen.
+use Rattle.std.proofs.Common.{◌≡◌, ℕ, ◌+◌, ◌≤◌, Bool, true, false, if◌then◌else◌, List, [], ◌∷◌, length, inl, inr, Option, Some, None, is_some, not, zero, refl, sym, subst, arith}
+use Rattle.std.specs.Prelude.{nat_lt}
+use Rattle.std.proofs.lemmas.Bool.Decides.{nat_tests}
+use Rattle.ext_tree.specs.Cut.{cut}
+use Rattle.ext_tree.specs.Tree.{Entries, is_directory, lookup, most_entries}
+use Rattle.ext_tree.specs.TreeText.{IsTreeText}
+use Rattle.ext_tree.specs.declared.entry.Entry.{Entry}
+use Rattle.ext_tree.specs.declared.entry.Entry.TheVariants.{Dir, Opaque, File, Link, Hide}
+use Rattle.ext_tree.specs.declared.stamp.Stamp.{Stamp}
+use Rattle.ext_depot.specs.Depot.{DepotState}
+use Rattle.ext_host.specs.Held.{HeldFile}
+use Rattle.ext_host.specs.Valid.{IsValidHost, all_bytes, most_bytes}
+use Rattle.ext_host.specs.declared.host.Host.{Host}
+use Rattle.ext_cmd.specs.Words.{IsWellFormed}
+use Rattle.ext_cmd.specs.declared.command.Command.{Command}
+use Rattle.ext_cmd.specs.declared.command.Command.TheVariants.{Init, ImportFs, Remove, Sysext, Confext, Tree, Cat, Compare, Check, Layer, Migrate}
+use Rattle.ext_text.specs.declared.extension.Extension.TheVariants as extensions
+use Rattle.ext_text.specs.declared.which.Which.TheVariants as limits
+use Rattle.ext_cmd.specs.declared.answer.Answer.TheVariants as answers
+use Rattle.ext_cmd.specs.declared.answer.Answer.TheVariants.{Done, Unchanged}
+use Rattle.ext_cmd.specs.declared.refusal.Refusal.TheVariants.{Limit, NoEntry, NotDirectory, ReadOnly}
+use Rattle.ext_intents.specs.Cat.{cat_at}
+use Rattle.ext_host.specs.ReadOnly.{is_read_only}
+use Rattle.ext_intents.specs.Change.{changed_at}
+use Rattle.ext_intents.specs.Import.{FittingWants, OpenWants, TextWants, TreeWants, sized, within}
+use Rattle.ext_intents.specs.Intents.{IsFit, IsPlanned, Seen}
+use Rattle.ext_intents.specs.Migrate.{migrate_intent}
+use Rattle.ext_intents.specs.Remove.{remove_intent}
+use Rattle.ext_intents.specs.Step.{WantsFirst, WantsOf}
+use Rattle.ext_intents.specs.Tree.{meant_path, text_below, tree_at, tree_intent}
+use Rattle.ext_depot.specs.declared.depot_text.DepotText.{DepotText}
+use Rattle.ext_depot.specs.declared.depot_text.DepotText.TheVariants.{Absent, TooLong, Whole}
+use Rattle.ext_intents.specs.declared.intent.Intent.{Intent}
+use Rattle.ext_intents.specs.declared.intent.Intent.TheVariants.{Changes, Answers, Refuses}
+use Rattle.ext_intents.proofs.FitLemmas.{cut_is_planned, graft_is_planned, same_is_planned}
+use Rattle.ext_intents.proofs.InitLemmas.{new_is_planned}
+use Rattle.ext_intents.proofs.ViewsLemmas.{view_fits}
+
+-- it is fit where it is one that is
+fit_of : (seen : Option Host) (a b : Intent) → b ≡ a → IsFit seen a → IsFit seen b
+fit_of seen a b is fit = subst (IsFit seen) (sym is) fit
+
+not_more : (a b : ℕ) → nat_lt a b ≡ false → b ≤ a
+not_more a b is = grind (arith, nat_tests, is)
+
+sized_fits : (host next : Host) → (length next.root + length next.lower ≤ most_entries → all_bytes next.root + all_bytes next.lower ≤ most_bytes → IsPlanned (Some host) next) → IsFit (Some host) (sized next)
+sized_fits host next planned =
+    let many = nat_lt most_entries (length next.root + length next.lower) in
+    let large = nat_lt most_bytes (all_bytes next.root + all_bytes next.lower) in
+    elim many as (λ b. many ≡ b → IsFit (Some host) (within next (if b then Some limits.Entries else if large then Some limits.Bytes else None))) [
+      | true ↦ λ _. tt
+      | false ↦ λ few.
+          elim large as (λ b. large ≡ b → IsFit (Some host) (within next (if b then Some limits.Bytes else None))) [
+            | true ↦ λ _. tt
+            | false ↦ λ small. planned (not_more _ _ few) (not_more _ _ small)
+          ] refl
+    ] refl
+
+fitting_fits : (host : Host) (resource path : List (List ℕ)) (es : Entries Stamp) (text : List ℕ) (intent : Intent) → IsValidHost host → IsTreeText text es → FittingWants host resource path es intent → IsFit (Some host) intent
+fitting_fits host resource path es text intent valid tree (inl (fit, coming)) =
+    let next = changed_at host path coming.0 in
+    fit_of (Some host) (sized next) intent coming.2 (sized_fits host next (graft_is_planned host path resource es coming.0 valid tree.tree.each coming.1))
+fitting_fits host resource path es text intent valid tree (inr (none, is)) = fit_of (Some host) _ intent is tt
+
+open_fits : (host : Host) (resource path : List (List ℕ)) (es : Entries Stamp) (text : List ℕ) (intent : Intent) → IsValidHost host → IsTreeText text es → OpenWants host resource path es intent → IsFit (Some host) intent
+open_fits host resource path es text intent valid tree (inl (free, wants)) = fitting_fits host resource path es text intent valid tree wants
+open_fits host resource path es text intent valid tree (inr (at, under, is)) = fit_of (Some host) _ intent is tt
+
+tree_fits : (host : Host) (resource path : List (List ℕ)) (es : Entries Stamp) (text : List ℕ) (intent : Intent) → IsValidHost host → IsTreeText text es → TreeWants host resource path es intent → IsFit (Some host) intent
+tree_fits host resource path es text intent valid tree (inl (free, wants)) = open_fits host resource path es text intent valid tree wants
+tree_fits host resource path es text intent valid tree (inr (locked, at)) = fit_of (Some host) _ intent at.2 tt
+
+text_fits : (host : Host) (resource path : List (List ℕ)) (found : DepotText) (intent : Intent) → IsValidHost host → TextWants host resource path found intent → IsFit (Some host) intent
+text_fits host resource path Absent intent valid is = fit_of (Some host) _ intent is tt
+text_fits host resource path TooLong intent valid is = fit_of (Some host) _ intent is tt
+text_fits host resource path (Whole text) intent valid (inl (es, tree, wants)) = tree_fits host resource path es text intent valid tree wants
+text_fits host resource path (Whole text) intent valid (inr (line, first, is)) = fit_of (Some host) _ intent is tt
+
+remove_fits : (host : Host) (path : List (List ℕ)) → IsValidHost host → IsFit (Some host) (remove_intent host path)
+remove_fits host path valid =
+    elim (not (is_some (lookup host.root path))) as (λ b. IsFit (Some host) (if b then Refuses (NoEntry path) else if is_read_only host path then Refuses (ReadOnly path) else Changes (changed_at host path (cut path host.root)) Done)) [
+      | true ↦ tt
+      | false ↦ elim (is_read_only host path) as (λ b. IsFit (Some host) (if b then Refuses (ReadOnly path) else Changes (changed_at host path (cut path host.root)) Done)) [
+        | true ↦ tt
+        | false ↦ cut_is_planned host path valid
+      ]
+    ]
+
+entry_fits : (host : Host) (path : List (List ℕ)) (entry : Option (Entry HeldFile)) → IsFit (Some host) (tree_at host path entry)
+entry_fits host path None = tt
+entry_fits host path (Some entry) = elim (is_directory entry) as (λ b. IsFit (Some host) (if b then Answers (answers.Tree (text_below host path)) else Refuses (NotDirectory path))) [ true ↦ tt | false ↦ tt ]
+
+text_of_tree_fits : (host : Host) (path : List (List ℕ)) → IsFit (Some host) (tree_intent host path)
+text_of_tree_fits host [] = tt
+text_of_tree_fits host (name ∷ path) = entry_fits host (name ∷ path) (lookup host.root (name ∷ path))
+
+shown_fits : (host : Host) (path : List (List ℕ)) (entry : Option (Entry HeldFile)) → lookup host.root path ≡ entry → IsFit (Some host) (cat_at path entry)
+shown_fits host path None is = tt
+shown_fits host path (Some (Dir mode)) is = tt
+shown_fits host path (Some (Opaque mode)) is = tt
+shown_fits host path (Some (File mode held)) is = record { tree = host.root; among = (zero, omega arith, refl); file = record { path = path; mode = mode; stands = is } }
+shown_fits host path (Some (Link target)) is = tt
+shown_fits host path (Some Hide) is = tt
+
+migrate_fits : (host : Host) (newest : Bool) → IsValidHost host → IsFit (Some host) (migrate_intent host newest)
+migrate_fits host newest valid = elim newest as (λ b. IsFit (Some host) (if b then Answers Unchanged else Changes host Done)) [ true ↦ tt | false ↦ same_is_planned host valid ]
+
+-- where there is a store, whose host is valid
+pub wants_fit : (seen : Seen) (depot : DepotState) (command : Command) (intent : Intent) → IsValidHost seen.host → WantsOf seen depot command intent → IsFit (Some seen.host) intent
+wants_fit seen depot (Init arch scope hierarchies) intent valid is = fit_of (Some seen.host) _ intent is tt
+wants_fit seen depot (ImportFs resource path) intent valid (found, text, wants) = text_fits seen.host resource path found intent valid wants
+wants_fit seen depot (Remove path) intent valid is = fit_of (Some seen.host) _ intent is (remove_fits seen.host path valid)
+wants_fit seen depot (Sysext view) intent valid is = view_fits seen.host seen.told extensions.Sysext view intent is
+wants_fit seen depot (Confext view) intent valid is = view_fits seen.host seen.told extensions.Confext view intent is
+wants_fit seen depot (Tree path) intent valid is = fit_of (Some seen.host) _ intent is (text_of_tree_fits seen.host (meant_path path))
+wants_fit seen depot (Cat path) intent valid is = fit_of (Some seen.host) _ intent is (shown_fits seen.host path (lookup seen.host.root path) refl)
+wants_fit seen depot (Compare a b) intent valid is = absurd is
+wants_fit seen depot Check intent valid is = fit_of (Some seen.host) _ intent is refl
+wants_fit seen depot Layer intent valid is = absurd is
+wants_fit seen depot Migrate intent valid is = fit_of (Some seen.host) _ intent is (migrate_fits seen.host seen.newest valid)
+
+-- where there is none
+pub first_wants_fit : (command : Command) (intent : Intent) → IsWellFormed command → WantsFirst command intent → IsFit None intent
+first_wants_fit (Init arch scope hierarchies) intent formed (host, new, is) = fit_of None _ intent is (new_is_planned arch scope hierarchies host formed.0 formed.1 new)
+first_wants_fit (ImportFs resource path) intent formed is = fit_of None _ intent is tt
+first_wants_fit (Remove path) intent formed is = fit_of None _ intent is tt
+first_wants_fit (Sysext view) intent formed is = fit_of None _ intent is tt
+first_wants_fit (Confext view) intent formed is = fit_of None _ intent is tt
+first_wants_fit (Tree path) intent formed is = fit_of None _ intent is tt
+first_wants_fit (Cat path) intent formed is = fit_of None _ intent is tt
+first_wants_fit (Compare a b) intent formed is = fit_of None _ intent is tt
+first_wants_fit Check intent formed is = fit_of None _ intent is tt
+first_wants_fit Layer intent formed is = fit_of None _ intent is tt
+first_wants_fit Migrate intent formed is = fit_of None _ intent is tt

@@ -1,0 +1,20 @@
+use Rattle.std.proofs.Common.{false, sym, subst}
+use Rattle.std.specs.Prelude.{IfErr, IfOk}
+use Rattle.ext_intents.specs.Causes.{ViewCause}
+use Rattle.ext_intents.specs.Views.{ListWants}
+use Rattle.ext_intents.proofs.ViewsLemmas.{list_cause, list_refused}
+use Rattle.ext_intents.proofs.views.list_step.Goals as goal
+
+pub returns-in-Err-clause-wants : goal.returns-in-Err-clause-wants
+returns-in-Err-clause-wants g c =
+    let told = g.H.Shelf.told c.args.shelf.now in
+    subst (λ r. IfOk r (ListWants c.args.host.now told c.args.class)) (sym c.refused.ensures)
+    (list_refused told (g.H.Shelf.faults c.args.shelf.now) (g.H.Shelf.faults c.survey.new.shelf) c.args.host.now c.args.class c.in-Err.failed c.in-Err.ensures.gives)
+
+pub returns-in-Err-clause-cause : goal.returns-in-Err-clause-cause
+returns-in-Err-clause-cause g c =
+    let told = g.H.Shelf.told c.args.shelf.now in
+    let old = g.H.Shelf.faults c.args.shelf.now in
+    let new = g.H.Shelf.faults c.survey.new.shelf in
+    subst (λ r. IfErr r (ViewCause c.args.host.now told old new)) (sym c.refused.ensures)
+    (list_cause told old new c.args.host.now c.args.class false c.in-Err.failed c.in-Err.ensures.gives)

@@ -1,0 +1,15 @@
+pub mod DepotErr
+pub mod Intents
+pub mod Init
+pub mod Change
+pub mod Import
+pub mod Remove
+pub mod Tree
+pub mod Cat
+pub mod Check
+pub mod Migrate
+pub mod Compare
+pub mod Layer
+pub mod Views
+pub mod Causes
+pub mod Step

@@ -1,0 +1,55 @@
+-- What each command wants of a store, by what it sees of it and what the depot has: one line a command.
+use Rattle.std.specs.Prelude.{◌≡◌, Bool, true, false, Option, Some, None}
+use Rattle.ext_text.specs.declared.extension.Extension.TheVariants as extensions
+use Rattle.ext_depot.specs.Depot.{DepotState}
+use Rattle.ext_host.specs.Drawn.{IsFileOf, trees_of}
+use Rattle.ext_host.specs.Held.{HeldFile}
+use Rattle.ext_host.specs.Shelf.{Told}
+use Rattle.ext_host.specs.declared.host.Host.{Host}
+use Rattle.ext_cmd.specs.declared.command.Command.{Command}
+use Rattle.ext_cmd.specs.declared.command.Command.TheVariants.{Init, ImportFs, Remove, Sysext, Confext, Tree, Cat, Compare, Check, Layer, Migrate}
+use Rattle.ext_cmd.specs.declared.refusal.Refusal.TheVariants.{NoStore, StoreExists}
+use Rattle.ext_intents.specs.Cat.{cat_intent}
+use Rattle.ext_intents.specs.Import.{ImportWants}
+use Rattle.ext_intents.specs.Init.{InitWants}
+use Rattle.ext_intents.specs.Intents.{Seen}
+use Rattle.ext_intents.specs.Migrate.{migrate_intent}
+use Rattle.ext_intents.specs.Remove.{remove_intent}
+use Rattle.ext_intents.specs.Tree.{meant_path, tree_intent}
+use Rattle.ext_intents.specs.Views.{ViewWants}
+use Rattle.ext_intents.specs.declared.intent.Intent.{Intent}
+use Rattle.ext_intents.specs.declared.intent.Intent.TheVariants.{Checks, Refuses}
+
+-- where there is a store
+abbrev pub WantsOf : Seen → DepotState → Command → Intent → Type 0
+WantsOf seen depot (Init arch scope hierarchies) intent = intent ≡ Refuses StoreExists
+WantsOf seen depot (ImportFs resource path) intent = ImportWants seen.host depot resource path intent
+WantsOf seen depot (Remove path) intent = intent ≡ remove_intent seen.host path
+WantsOf seen depot (Sysext view) intent = ViewWants seen.host seen.told extensions.Sysext view intent
+WantsOf seen depot (Confext view) intent = ViewWants seen.host seen.told extensions.Confext view intent
+WantsOf seen depot (Tree path) intent = intent ≡ tree_intent seen.host (meant_path path)
+WantsOf seen depot (Cat path) intent = intent ≡ cat_intent seen.host path
+WantsOf seen depot (Compare a b) intent = ⊥
+WantsOf seen depot Check intent = intent ≡ Checks
+WantsOf seen depot Layer intent = ⊥
+WantsOf seen depot Migrate intent = intent ≡ migrate_intent seen.host seen.newest
+
+-- of each file of the host both tell one thing
+abbrev pub TellAlike : Host → (HeldFile → Told) → (HeldFile → Told) → Type 0
+TellAlike host told other = (held : HeldFile) → IsFileOf (trees_of host) held → told held ≡ other held
+
+-- where there is none
+abbrev pub WantsFirst : Command → Intent → Type 0
+WantsFirst (Init arch scope hierarchies) intent = InitWants arch scope hierarchies intent
+WantsFirst _ intent = intent ≡ Refuses NoStore
+
+-- what a command wants
+abbrev pub Wants : Option Seen → DepotState → Command → Intent → Type 0
+Wants None depot command intent = WantsFirst command intent
+Wants (Some seen) depot command intent = WantsOf seen depot command intent
+
+-- a command of a store: `compare` and `layer` look at none
+abbrev pub is_of_store : Command → Bool
+is_of_store (Compare a b) = false
+is_of_store Layer = false
+is_of_store _ = true

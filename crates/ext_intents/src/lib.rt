@@ -1,0 +1,27 @@
+//! Steps of commands: what each of them wants of a store.
+//!
+//! A command sees the host that the store has, the bytes of the host's files through a shelf, and the depot. What it wants
+//! is an [`Intent`]: another host in place of that one, an answer, the bytes of a file, or a refusal, the first that holds in
+//! its order. Nothing here sees a disk, and nothing is carried out: the crate of the runs does that, once for all of them. A
+//! command has one file, here and in the definitions.
+#![tactic(auto)]
+
+mod cat;
+mod compare;
+mod import;
+mod init;
+mod intent;
+mod layer;
+mod migrate;
+mod plan_err;
+mod remove;
+mod steps;
+mod tree;
+mod view_items;
+mod views;
+
+pub use compare::compare_step;
+pub use intent::Intent;
+pub use layer::layer_step;
+pub use plan_err::PlanErr;
+pub use steps::{first_step, step};

@@ -1,0 +1,81 @@
+// The steps of all commands of a store.
+ghost use Rattle.std.specs.Prelude.{◌≤◌, IsTrue, IfOk, IfErr};
+ghost use Rattle.ext_depot.specs.Depot.{IsKept};
+ghost use Rattle.ext_host.specs.Valid.{IsValidHost};
+ghost use Rattle.ext_host.specs.Planning.{ServesHost};
+ghost use Rattle.ext_intents.specs.Causes.{StepCause};
+ghost use Rattle.ext_intents.specs.Step.{WantsFirst, WantsOf, is_of_store};
+
+use crate::cat::cat_step;
+use crate::import::import_step;
+use crate::init::init_step;
+use crate::intent::Intent;
+use crate::migrate::migrate_step;
+use crate::plan_err::PlanErr;
+use crate::remove::remove_step;
+use crate::tree::tree_step;
+use crate::views::view_step;
+use ext_cmd::{Command, Refusal};
+use ext_depot::Depot;
+use ext_host::{Host, Shelf};
+use ext_text::{Extension, OutOfMemory};
+use std::alloc::Global;
+
+/// What a command wants where there is no store.
+///
+/// # Errors
+/// Out of memory alone.
+pub fn first_step(alloc: Global, command: &Command) -> Result<Intent, OutOfMemory>
+    requires { IsTrue (is_of_store command.now) }
+    ensures { IfOk result (WantsFirst command.now) }
+{
+    match command {
+        Command::Init {
+            arch,
+            scope,
+            hierarchies,
+        } => init_step(alloc, *arch, *scope, hierarchies),
+        _ => Ok(Intent::Refuses(Refusal::NoStore)),
+    }
+}
+
+/// What a command wants of the host that a store has, whose text has its newest form or not.
+///
+/// # Errors
+/// - A fault of the depot, only where it counted one.
+/// - A file of the host that the shelf does not give, for the cause that it has.
+/// - Out of memory.
+///
+/// Whatever the answer, the depot and the shelf tell the same afterwards.
+pub fn step<P: Depot, H: Shelf>(
+    alloc: Global,
+    command: &Command,
+    host: &Host,
+    newest: bool,
+    depot: &mut P,
+    shelf: &mut H,
+) -> Result<Intent, PlanErr>
+    requires store { IsTrue (is_of_store command.now) }
+    requires valid { IsValidHost host.now }
+    requires serves { ServesHost (H.serves shelf.old) host.now }
+    ensures wants { IfOk result (WantsOf (record { host = host.now; newest = newest; told = H.told shelf.old })
+        (P.state depot.old) command.now) }
+    ensures kept { IsKept (P.state depot.old) (P.state depot.new) }
+    ensures stays { H.stays shelf.old shelf.new }
+    ensures count { H.faults shelf.old ≤ H.faults shelf.new }
+    ensures cause { IfErr result (StepCause host.now (H.told shelf.old) (H.faults shelf.old) (H.faults shelf.new)
+        (P.state depot.old).faults (P.state depot.new).faults) }
+{
+    match command {
+        Command::Init { .. } => Ok(Intent::Refuses(Refusal::StoreExists)),
+        Command::ImportFs { resource, path } => import_step(alloc, host, resource, path, depot),
+        Command::Remove { path } => Ok(remove_step(host, path)?),
+        Command::Sysext(view) => view_step(alloc, host, Extension::Sysext, *view, shelf),
+        Command::Confext(view) => view_step(alloc, host, Extension::Confext, *view, shelf),
+        Command::Tree { path } => Ok(tree_step(alloc, host, path)?),
+        Command::Cat { path } => Ok(cat_step(host, path)?),
+        Command::Check => Ok(Intent::Checks),
+        Command::Migrate => Ok(migrate_step(host, newest)?),
+        Command::Compare(_, _) | Command::Layer => unreachable!(),
+    }
+}

@@ -1,4 +1,0 @@
-use Rattle.ext_reading.proofs.homes.Homes.note.Goals as goal
-
-pub returns-in-File : goal.returns-in-File
-returns-in-File c = rw c.in-File.is c.note_file.ensures

@@ -1,5 +1,0 @@
-use Rattle.ext_reading.proofs.ListingLemmas.{said_is_listed}
-use Rattle.ext_reading.proofs.laws.what_is_said_is_listed.Goals as goal
-
-pub returns : goal.returns
-returns c = said_is_listed

@@ -1,3 +1,0 @@
-pub mod LineLemmas
-pub mod PrintingLemmas
-pub mod ForCallers

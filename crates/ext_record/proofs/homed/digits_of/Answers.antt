@@ -1,6 +1,0 @@
-use Rattle.ext_record.specs.Homed.{file_digits}
-use Rattle.ext_record.proofs.homed.digits_of.Goals as goal
-
-pub returns : goal.returns
-unfolding file_digits
-returns c = c.five_digits.ensures

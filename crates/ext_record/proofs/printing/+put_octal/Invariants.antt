@@ -1,4 +1,0 @@
-use Rattle.ext_record.proofs.printing.+put_octal.Given as goal
-
-abbrev pub decreases-put_octal : goal.decreases-put_octal
-decreases-put_octal g l = l.number

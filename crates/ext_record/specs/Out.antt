@@ -1,5 +1,0 @@
--- What a count of bytes says where it stops at the last value of its type.
-use Rattle.std.specs.Prelude.{ℕ, ◌-◌, ◌^◌, min}
-
-abbrev pub at_most_64_bits : ℕ → ℕ
-at_most_64_bits n = min n (2 ^ 64 - 1)

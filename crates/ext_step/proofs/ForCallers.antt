@@ -1,4 +1,0 @@
--- For the crates above: what a command wants of a store is fit for what is seen.
-pub use Rattle.ext_step.proofs.WantsLemmas.{wants_fit, first_wants_fit}
--- and it is the same where the same is told of the host's files
-pub use Rattle.ext_step.proofs.AlikeLemmas.{wants_alike}

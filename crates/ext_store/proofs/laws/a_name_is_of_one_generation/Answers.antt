@@ -1,5 +1,0 @@
-use Rattle.ext_store.proofs.NamesLemmas.{one_generation}
-use Rattle.ext_store.proofs.laws.a_name_is_of_one_generation.Goals as goal
-
-pub returns : goal.returns
-returns c = one_generation

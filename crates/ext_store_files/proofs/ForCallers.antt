@@ -1,0 +1,20 @@
+-- The lemmas on this crate's definitions that other crates cite.
+
+-- a generation's name is read as its number, and what is read is the number of the generation that has the name
+pub use Rattle.ext_store_files.proofs.NamesLemmas.{named_generation, read_generation, one_generation}
+-- which names are left-overs, both ways
+pub use Rattle.ext_store_files.proofs.NamesLemmas.{left_is, is_left}
+-- paths that differ, each of them in a list, are no more than the list has
+pub use Rattle.ext_store_files.proofs.LeftOversLemmas.{distinct_no_more}
+-- facts of two disks that both tell, or neither
+pub use Rattle.ext_store_files.proofs.ToldLemmas.{told_map, told_then, told_itself, told_same}
+-- what is made of calls that make and write: nothing, one after another, with a wider reach, and what only rests
+pub use Rattle.ext_store_files.proofs.WritingLemmas.{works_itself, works_then, works_wider, rests_works}
+-- what holds of a disk where it is told: a weaker fact, two facts, and a fact of the disk that follows
+pub use Rattle.ext_store_files.proofs.WritingLemmas.{holds_map, holds_both, holds_then}
+-- where something stands, something stands at each prefix; a path below another as the other and the rest
+pub use Rattle.ext_store_files.proofs.ClearingLemmas.{stands_above, rest_of, prefix_append, proper_append, proper_rest}
+-- a depot keeps what it has through each call
+pub use Rattle.ext_store_files.proofs.CopyingLemmas.{kept_itself, kept_then, kept_told, kept_there}
+-- a count that rose lately rose since an earlier time
+pub use Rattle.ext_store_files.proofs.CopyingLemmas.{rose_since}

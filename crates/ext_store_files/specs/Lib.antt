@@ -1,0 +1,11 @@
+pub mod Fault
+pub mod Names
+pub mod LeftOvers
+pub mod Rows
+pub mod Reading
+pub mod Removal
+pub mod HeldFiles
+pub mod GenShelf
+pub mod Writing
+pub mod Copying
+pub mod Comparing
