@@ -128,6 +128,7 @@ def tests_of(folder, program):
     made.write("crates/ext_trial/out/ext_trial", b'#!/bin/sh\necho "$@"\necho 2 passed, 0 failed\n')
     made.write("tests/program", COUNTS % (30, 0, 4, 0))
     made.write("tests/system-calls", COUNTS % (500, 0, 0, 0))
+    made.write("tests/hostile", b'#!/bin/sh\necho "$@"\necho "60 passed, 0 failed, 0 skipped: failures of calls 9 (init 9)"\n')
     made.tool("python3", "")
     made.tool("strace", "")
     return made
@@ -135,15 +136,16 @@ def tests_of(folder, program):
 
 ALL = b"== cases\ntests/cases/a.cases\n2 passed, 0 failed\n== tests/program\ntold\n30 passed, 0 failed, 4 skipped\n"
 CALLS = b"== tests/system-calls\ntold\n500 passed, 0 failed, 0 skipped\n"
+HOSTILE = b"== tests/hostile\n--short\n60 passed, 0 failed, 0 skipped: failures of calls 9 (init 9)\n"
 
 
 def the_tests_are_counted_together(repository):
-    expect(repository.run("tests/run"), (ALL + CALLS + b"532 passed, 0 failed, 4 skipped\n", b"", 0))
+    expect(repository.run("tests/run"), (ALL + CALLS + HOSTILE + b"592 passed, 0 failed, 4 skipped\n", b"", 0))
     repository.write("tests/system-calls", COUNTS % (499, 1, 0, 1))
     told = CALLS.replace(b"500 passed, 0", b"499 passed, 1")
-    expect(repository.run("tests/run"), (ALL + told + b"531 passed, 1 failed, 4 skipped\n", b"", 1))
+    expect(repository.run("tests/run"), (ALL + told + HOSTILE + b"591 passed, 1 failed, 4 skipped\n", b"", 1))
     repository.write("tests/system-calls", b"#!/bin/sh\nexit 1\n")
-    expect(repository.run("tests/run"), (ALL + b"== tests/system-calls\n32 passed, 1 failed, 4 skipped\n", b"", 1))
+    expect(repository.run("tests/run"), (ALL + b"== tests/system-calls\n" + HOSTILE + b"92 passed, 1 failed, 4 skipped\n", b"", 1))
 
 
 def a_missing_tool_ends_the_tests_unless_it_is_skipped(repository):
@@ -153,8 +155,8 @@ def a_missing_tool_ends_the_tests_unless_it_is_skipped(repository):
         told = b"tests/run: %s is missing: install the package %s, or skip what needs it with --skip-missing\n" % (tool.encode(), tool.encode()) + told
         expect(repository.run("tests/run"), (b"", told, 2))
     cases = ALL[: ALL.index(b"== tests/program")]
-    skipped = b"".join(b"skipped: %s: there is no python3\n" % name for name in (b"tests/program", b"tests/system-calls"))
-    expect(repository.run("tests/run", "--skip-missing"), (cases + skipped + b"2 passed, 0 failed, 2 skipped\n", b"", 0))
+    skipped = b"".join(b"skipped: %s: there is no python3\n" % name for name in (b"tests/program", b"tests/system-calls", b"tests/hostile"))
+    expect(repository.run("tests/run", "--skip-missing"), (cases + skipped + b"2 passed, 0 failed, 3 skipped\n", b"", 0))
 
 
 WITH_PROGRAMS = [

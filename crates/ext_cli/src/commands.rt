@@ -1,6 +1,6 @@
 // What is said of each command to a person, and which folders one can't have.
 use ext_cmd::Command;
-use ext_folder::is_within;
+use ext_folder::{Nesting, nesting_of};
 use ext_text::OutOfMemory;
 
 /// A command's first word, and what its words are.
@@ -57,18 +57,19 @@ pub(crate) static SYNOPSES: [Synopsis; 11] = [
     },
 ];
 
-/// Whether a command would read the depot in the store folder or below it, where cleaning takes away what it reads.
+/// How the depot stands to the store folder, where a command reads what stands there: in it or below it cleaning would take
+/// away what is to be read.
 ///
 /// # Errors
 /// `OutOfMemory` alone.
-pub(crate) fn folders_clash(
+pub(crate) fn nesting_for(
     rt: &HostRuntime,
     command: &Command,
     store: &str,
     depot: &str,
-) -> Result<bool, OutOfMemory> {
+) -> Result<Nesting, OutOfMemory> {
     match command {
-        Command::ImportFs { .. } => is_within(rt.alloc(), rt, depot, store),
-        _ => Ok(false),
+        Command::ImportFs { .. } => nesting_of(rt.alloc(), rt, depot, store),
+        _ => Ok(Nesting::Apart),
     }
 }

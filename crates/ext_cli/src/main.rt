@@ -17,10 +17,10 @@ mod reasons;
 mod usage;
 
 use access::{Access, WaitingLine};
-use commands::folders_clash;
+use commands::nesting_for;
 use ending::{Ending, report};
 use ext_cmd::{CmdErr, Command, read_words};
-use ext_folder::{FolderDepot, FolderDisk, LockedDisk, ReleasingSink};
+use ext_folder::{FolderDepot, FolderDisk, LockedDisk, Nesting, ReleasingSink};
 use ext_io::{StdSink, StdSource};
 use ext_text::{OutOfMemory, Text, Words};
 use ext_top::{Status, run};
@@ -95,9 +95,22 @@ fn run_command(
     command: &Command,
     words: &Words,
 ) -> Result<Ending, OutOfMemory> {
-    if folders_clash(rt, command, store.as_str(), depot.as_str())? {
-        return usage::clashing_folders(rt.alloc());
+    match nesting_for(rt, command, store.as_str(), depot.as_str())? {
+        Nesting::Within => usage::clashing_folders(rt.alloc()),
+        Nesting::Unseen(trouble) => reasons::faulty(rt.alloc(), Status::DepotFault, &trouble),
+        Nesting::OtherUnseen(trouble) => reasons::faulty(rt.alloc(), Status::DiskFault, &trouble),
+        Nesting::Apart => run_apart(rt, store, depot, command, words),
     }
+}
+
+// The same, where the depot doesn't stand in the store folder.
+fn run_apart(
+    rt: &HostRuntime,
+    store: &String,
+    depot: &String,
+    command: &Command,
+    words: &Words,
+) -> Result<Ending, OutOfMemory> {
     let access = Access::of(command);
     let lock = access.lock(rt, store.as_str());
     let mut source = StdSource::new(rt.stdin());

@@ -36,6 +36,18 @@ pub(crate) fn ending_with(
     }
 }
 
+/// The ending of a run with this status, where this went wrong before it began.
+pub(crate) fn faulty(
+    alloc: Global,
+    status: Status,
+    trouble: &Trouble,
+) -> Result<Ending, OutOfMemory> {
+    match of_trouble(alloc, Some(trouble))? {
+        Some(reason) => Ok(Ending::because(status, reason)),
+        None => Ok(Ending::of(status)),
+    }
+}
+
 fn of_trouble(alloc: Global, trouble: Option<&Trouble>) -> Result<Option<String>, OutOfMemory> {
     match trouble {
         Some(trouble) => {

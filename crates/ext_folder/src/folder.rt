@@ -307,7 +307,7 @@ impl<R: Files> Folder<R> {
     }
 }
 
-// Nothing stands there, or a file stands in the place of a folder on the way.
-fn is_missing(error: &io::Error) -> bool {
+/// Nothing stands there, or a file stands in the place of a folder on the way.
+pub(crate) fn is_missing(error: &io::Error) -> bool {
     matches!(error.kind(), ErrorKind::NotFound | ErrorKind::NotADirectory)
 }

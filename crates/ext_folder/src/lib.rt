@@ -32,6 +32,6 @@ pub use folder_depot::FolderDepot;
 pub use folder_disk::FolderDisk;
 pub use folder_lock::{FolderLock, Hold, Notice};
 pub use locked_disk::LockedDisk;
-pub use nesting::is_within;
+pub use nesting::{Nesting, nesting_of};
 pub use releasing_sink::ReleasingSink;
 pub use trouble::Trouble;

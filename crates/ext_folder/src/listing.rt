@@ -8,12 +8,13 @@ ghost use Rattle.ext_text.specs.Path.{IsPath};
 use crate::folder::Folder;
 use crate::folder_err::FolderErr;
 use crate::noted::read_some;
+use ext_io::TRIES;
 use ext_lines::allocated;
 use ext_text::{Name, NameErr, Names, Path, PathErr};
 use std::alloc::Global;
 use std::collections::BTreeSet;
 use std::fs::Files;
-use std::io::Read;
+use std::io::{ErrorKind, Read};
 
 /// The most bytes of names that are asked for in one read.
 const PIECE: usize = 32_768;
@@ -35,9 +36,21 @@ impl<R: Files> Folder<R> {
             // Only with a slash is a link to a folder followed, as the root may be.
             allocated(location.push('/'))?;
         }
-        let mut listed = self.rt.open_dir(location.as_str())?;
+        let mut listed = open_again(&self.rt, location.as_str())?;
         in_order(alloc, dir, names_of(alloc, &mut listed)?)
     }
+}
+
+// A folder that is opened for its names, and again where the system was interrupted, but not without end.
+fn open_again<R: Files>(rt: &R, location: &str) -> Result<R::Dir, FolderErr> {
+    for _ in 0..TRIES {
+        match rt.open_dir(location) {
+            Err(error) if error.kind() == ErrorKind::Interrupted => {}
+            Err(error) => return Err(FolderErr::Refused(error)),
+            Ok(listed) => return Ok(listed),
+        }
+    }
+    Err(FolderErr::Stuck)
 }
 
 // The names that a folder lists, but for itself and the folder above. The system gives no order, and may list a name twice

@@ -1,49 +1,73 @@
+// How folders of the system stand to each other.
+use crate::folder::is_missing;
+use crate::folder_err::FolderErr;
+use crate::trouble::Trouble;
 use ext_lines::allocated;
 use ext_text::OutOfMemory;
 use std::alloc::Global;
-use std::fs;
 use std::fs::{Files, Metadata};
 use std::os::unix::fs::MetadataExt;
+use std::{fs, io};
 
 // How many folders above one are looked at: a path of the system has no more names.
 const MOST_FOLDERS: u32 = 2048;
 
-/// Whether a folder of the system is another one or stands below it, by device and inode of it and of each folder above it.
-/// Where one of them can't be looked at, it isn't.
+/// How a folder of the system stands to another one.
+#[derive(Debug, Drop)]
+pub enum Nesting {
+    /// It is that one, or stands below it.
+    Within,
+    /// It is not and does not, or one of the two is missing.
+    Apart,
+    /// A look at it, or at a folder above it, failed, so that it can't be told.
+    Unseen(Trouble),
+    /// A look at the other one failed.
+    OtherUnseen(Trouble),
+}
+
+/// How a folder of the system stands to another one, by device and inode of it and of each folder above it.
 ///
 /// # Errors
 /// `OutOfMemory` alone.
-pub fn is_within<R: Files>(
+pub fn nesting_of<R: Files>(
     alloc: Global,
     rt: &R,
     folder: &str,
     other: &str,
-) -> Result<bool, OutOfMemory> {
+) -> Result<Nesting, OutOfMemory> {
     match fs::metadata(rt, other) {
-        Ok(other) => is_below(alloc, rt, folder, &other),
-        Err(_unseen) => Ok(false),
+        Ok(found) => nesting_below(alloc, rt, folder, &found),
+        Err(error) if is_missing(&error) => Ok(Nesting::Apart),
+        Err(error) => Ok(Nesting::OtherUnseen(unseen(alloc, other, error)?)),
     }
 }
 
-fn is_below<R: Files>(
+fn nesting_below<R: Files>(
     alloc: Global,
     rt: &R,
     folder: &str,
     other: &Metadata,
-) -> Result<bool, OutOfMemory> {
+) -> Result<Nesting, OutOfMemory> {
     let mut location = allocated(String::from_str(alloc, folder))?;
     let mut below = None;
     for _ in 0..MOST_FOLDERS {
-        let found = fs::metadata(rt, location.as_str()).ok();
-        match found {
-            Some(found) if is_same(&found, other) => return Ok(true),
+        match fs::metadata(rt, location.as_str()) {
+            Ok(found) if is_same(&found, other) => return Ok(Nesting::Within),
             // The folder above the topmost is that one again.
-            Some(found) if below != Some(inode(&found)) => below = Some(inode(&found)),
-            _ => return Ok(false),
+            Ok(found) if below == Some(inode(&found)) => return Ok(Nesting::Apart),
+            Ok(found) => below = Some(inode(&found)),
+            Err(error) if below.is_none() && is_missing(&error) => return Ok(Nesting::Apart),
+            Err(error) => return Ok(Nesting::Unseen(unseen(alloc, location.as_str(), error)?)),
         }
         allocated(location.push_str("/.."))?;
     }
-    Ok(false)
+    Ok(Nesting::Apart)
+}
+
+// A look at a location that failed.
+fn unseen(alloc: Global, location: &str, error: io::Error) -> Result<Trouble, OutOfMemory> {
+    let location = allocated(String::from_str(alloc, location))?;
+    Trouble::new(alloc, "look at", location, &FolderErr::Refused(error))
 }
 
 fn is_same(one: &Metadata, other: &Metadata) -> bool {

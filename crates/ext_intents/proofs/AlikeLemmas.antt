@@ -4,11 +4,13 @@ use Rattle.std.specs.FinMap.{FinMap}
 use Rattle.ext_lines.specs.ByteOrder.{bytes_cmp}
 use Rattle.ext_text.specs.declared.extension.Extension.{Extension}
 use Rattle.ext_text.specs.declared.extension.Extension.TheVariants as extensions
-use Rattle.ext_tree.specs.Tree.{Entries}
+use Rattle.ext_text.specs.declared.which.Which.{Which}
 use Rattle.ext_depot.specs.Depot.{DepotState}
+use Rattle.ext_tree.specs.Tree.{Entries}
 use Rattle.ext_host.specs.Held.{HeldFile}
 use Rattle.ext_host.specs.Shelf.{Told}
 use Rattle.ext_host.specs.declared.host.Host.{Host}
+use Rattle.ext_host.specs.Planning.{IsBaseTree}
 use Rattle.ext_find.specs.HostRelease.{IsGiven}
 use Rattle.ext_find.specs.declared.found.FoundItem.{FoundItem}
 use Rattle.ext_find.specs.declared.found.FoundKind.{FoundKind}
@@ -16,7 +18,6 @@ use Rattle.ext_find.specs.declared.found.FoundKind.TheVariants as found
 use Rattle.ext_view.specs.Matched.{AreMatched}
 use Rattle.ext_view.specs.Merging.{IsRefreshed, IsTooLarge}
 use Rattle.ext_view.specs.Surveying.{HasHostRelease, IsHostRelease, IsItemOf, IsJudged, IsKindOf, IsSurveyOf}
-use Rattle.ext_host.specs.Planning.{IsBaseTree}
 use Rattle.ext_view.specs.declared.outcome.Merge.{Merge}
 use Rattle.ext_view.specs.declared.surveyed.SurveyItem.{SurveyItem}
 use Rattle.ext_view.specs.declared.surveyed.SurveyKind.{SurveyKind}
@@ -26,7 +27,6 @@ use Rattle.ext_cmd.specs.declared.command.ViewCommand.{ViewCommand}
 use Rattle.ext_cmd.specs.declared.command.ViewCommand.TheVariants as views
 use Rattle.ext_cmd.specs.declared.refusal.Refusal.{Refusal}
 use Rattle.ext_cmd.specs.declared.refusal.Refusal.TheVariants as refusals
-use Rattle.ext_text.specs.declared.which.Which.{Which}
 use Rattle.ext_intents.specs.Step.{TellAlike, WantsOf}
 use Rattle.ext_intents.specs.Views.{IsNotRefreshed, IsNotSurveyed, ListWantsOf, MergeWants, RefreshWants, RefreshWantsOf, ViewWants}
 use Rattle.ext_intents.specs.declared.intent.Intent.{Intent}

@@ -6,9 +6,9 @@ use Rattle.std.specs.List.{AllByRecursion, flat_map}
 use Rattle.std.specs.FinMap.Entries.{where_key}
 use Rattle.std.proofs.lemmas.Bool.{and_parts, false≢true, true≢false}
 use Rattle.std.proofs.lemmas.List.Sums.{sum_by-cons}
-use Rattle.ext_text.specs.Path.{are_related, is_prefix, is_proper_prefix, path_cmp}
 use Rattle.std.specs.Ordering.{eq_by_cmp}
 use Rattle.ext_lines.specs.ByteOrder.{bytes_cmp}
+use Rattle.ext_text.specs.Path.{are_related, is_prefix, is_proper_prefix, path_cmp}
 use Rattle.ext_text.proofs.ForCallers.{all_weaker, prefix_trans, same_name, tied_name}
 use Rattle.ext_tree.specs.Cut.{IsCut, cut}
 use Rattle.ext_tree.specs.EntryLine.{IsWritable}

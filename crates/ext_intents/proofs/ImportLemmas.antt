@@ -14,8 +14,8 @@ use Rattle.ext_host.specs.DepotBodies as bodies
 use Rattle.ext_host.specs.DepotBodies.{from_depot}
 use Rattle.ext_host.specs.Held.{HeldFile}
 use Rattle.ext_host.specs.declared.host.Host.{Host}
-use Rattle.ext_cmd.specs.declared.refusal.Refusal.TheVariants.{Limit}
 use Rattle.ext_host.proofs.ForCallers as host_lemmas
+use Rattle.ext_cmd.specs.declared.refusal.Refusal.TheVariants.{Limit}
 use Rattle.ext_intents.specs.Change.{changed_at}
 use Rattle.ext_intents.specs.Import.{FittingWants, PartWants, within}
 use Rattle.ext_intents.specs.declared.intent.Intent.{Intent}

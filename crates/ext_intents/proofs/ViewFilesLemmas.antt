@@ -9,10 +9,10 @@ use Rattle.ext_host.specs.Drawn.{IsFileOf, trees_of}
 use Rattle.ext_host.specs.Held.{HeldFile}
 use Rattle.ext_host.specs.Host.{hierarchies_in, is_in, merged_hierarchies, present}
 use Rattle.ext_host.specs.declared.host.Host.{Host}
+use Rattle.ext_host.specs.Planning.{IsBaseTree}
 use Rattle.ext_find.specs.HostRelease.{IsReleaseFile}
 use Rattle.ext_view.specs.Image.{HasReleaseFile}
 use Rattle.ext_view.specs.Surveying.{IsRead}
-use Rattle.ext_host.specs.Planning.{IsBaseTree}
 
 -- a file of the base is one of what is seen or of what lies under the view
 base_file : (host : Host) (base : Entries HeldFile) (path : List (List ℕ)) (mode : ℕ) (held : HeldFile) → IsBaseTree host base → lookup base path ≡ Some (File mode held) → IsFileOf (trees_of host) held

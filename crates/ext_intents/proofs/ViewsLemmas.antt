@@ -8,9 +8,9 @@ use Rattle.ext_host.specs.Held.{HeldFile}
 use Rattle.ext_host.specs.Shelf.{Told}
 use Rattle.ext_host.specs.declared.host.Host.{Host}
 use Rattle.ext_host.specs.declared.host.Plan.{Plan}
+use Rattle.ext_host.specs.Planning.{PlansNext}
 use Rattle.ext_view.specs.Hierarchies.{is_merged}
 use Rattle.ext_view.specs.Merging.{Merges, PlansView, Refreshes, Unmerges}
-use Rattle.ext_host.specs.Planning.{PlansNext}
 use Rattle.ext_view.specs.Surveying.{Surveys}
 use Rattle.ext_view.specs.View.{chosen, with_view}
 use Rattle.ext_view.specs.declared.errors.ViewErr.{ViewErr}

@@ -2,26 +2,28 @@
 use Rattle.std.proofs.Common.{◌≡◌, ℕ, ◌+◌, ◌≤◌, Bool, true, false, if◌then◌else◌, List, [], ◌∷◌, length, inl, inr, Option, Some, None, is_some, not, zero, refl, sym, subst, arith}
 use Rattle.std.specs.Prelude.{nat_lt}
 use Rattle.std.proofs.lemmas.Bool.Decides.{nat_tests}
+use Rattle.ext_text.specs.declared.extension.Extension.TheVariants as extensions
+use Rattle.ext_text.specs.declared.which.Which.TheVariants as limits
+use Rattle.ext_depot.specs.Depot.{DepotState}
+use Rattle.ext_depot.specs.declared.depot_text.DepotText.{DepotText}
+use Rattle.ext_depot.specs.declared.depot_text.DepotText.TheVariants.{Absent, TooLong, Whole}
 use Rattle.ext_tree.specs.Cut.{cut}
 use Rattle.ext_tree.specs.Tree.{Entries, is_directory, lookup, most_entries}
 use Rattle.ext_tree.specs.TreeText.{IsTreeText}
 use Rattle.ext_tree.specs.declared.entry.Entry.{Entry}
 use Rattle.ext_tree.specs.declared.entry.Entry.TheVariants.{Dir, Opaque, File, Link, Hide}
 use Rattle.ext_tree.specs.declared.stamp.Stamp.{Stamp}
-use Rattle.ext_depot.specs.Depot.{DepotState}
 use Rattle.ext_host.specs.Held.{HeldFile}
 use Rattle.ext_host.specs.Valid.{IsValidHost, all_bytes, most_bytes}
 use Rattle.ext_host.specs.declared.host.Host.{Host}
+use Rattle.ext_host.specs.ReadOnly.{is_read_only}
 use Rattle.ext_cmd.specs.Words.{IsWellFormed}
 use Rattle.ext_cmd.specs.declared.command.Command.{Command}
 use Rattle.ext_cmd.specs.declared.command.Command.TheVariants.{Init, ImportFs, Remove, Sysext, Confext, Tree, Cat, Compare, Check, Layer, Migrate}
-use Rattle.ext_text.specs.declared.extension.Extension.TheVariants as extensions
-use Rattle.ext_text.specs.declared.which.Which.TheVariants as limits
 use Rattle.ext_cmd.specs.declared.answer.Answer.TheVariants as answers
 use Rattle.ext_cmd.specs.declared.answer.Answer.TheVariants.{Done, Unchanged}
-use Rattle.ext_cmd.specs.declared.refusal.Refusal.TheVariants.{Limit, NoEntry, NotDirectory, ReadOnly}
+use Rattle.ext_cmd.specs.declared.refusal.Refusal.TheVariants.{NoEntry, NotDirectory, ReadOnly}
 use Rattle.ext_intents.specs.Cat.{cat_at}
-use Rattle.ext_host.specs.ReadOnly.{is_read_only}
 use Rattle.ext_intents.specs.Change.{changed_at}
 use Rattle.ext_intents.specs.Import.{FittingWants, OpenWants, TextWants, TreeWants, sized, within}
 use Rattle.ext_intents.specs.Intents.{IsFit, IsPlanned, Seen}
@@ -29,8 +31,6 @@ use Rattle.ext_intents.specs.Migrate.{migrate_intent}
 use Rattle.ext_intents.specs.Remove.{remove_intent}
 use Rattle.ext_intents.specs.Step.{WantsFirst, WantsOf}
 use Rattle.ext_intents.specs.Tree.{meant_path, text_below, tree_at, tree_intent}
-use Rattle.ext_depot.specs.declared.depot_text.DepotText.{DepotText}
-use Rattle.ext_depot.specs.declared.depot_text.DepotText.TheVariants.{Absent, TooLong, Whole}
 use Rattle.ext_intents.specs.declared.intent.Intent.{Intent}
 use Rattle.ext_intents.specs.declared.intent.Intent.TheVariants.{Changes, Answers, Refuses}
 use Rattle.ext_intents.proofs.FitLemmas.{cut_is_planned, graft_is_planned, same_is_planned}

@@ -7,26 +7,26 @@ use Rattle.std.specs.List.{AllByRecursion}
 use Rattle.ext_text.specs.Path.{is_proper_prefix}
 use Rattle.ext_text.specs.declared.which.Which.{Which}
 use Rattle.ext_text.specs.declared.which.Which.TheVariants as limits
+use Rattle.ext_depot.specs.Depot.{DepotState}
+use Rattle.ext_depot.specs.DepotText.{IsTextAt}
+use Rattle.ext_depot.specs.declared.depot_text.DepotText.{DepotText}
+use Rattle.ext_depot.specs.declared.depot_text.DepotText.TheVariants.{Absent, TooLong, Whole}
 use Rattle.ext_tree.specs.FirstFault.{IsFirstFault, IsOne}
 use Rattle.ext_tree.specs.Graft as graft
 use Rattle.ext_tree.specs.Graft.{IsGraft, IsOpen, IsTooLong, is_non_directory_at}
 use Rattle.ext_tree.specs.Tree.{Entries, lookup}
 use Rattle.ext_tree.specs.TreeText.{IsTreeText}
 use Rattle.ext_tree.specs.declared.stamp.Stamp.{Stamp}
-use Rattle.ext_depot.specs.Depot.{DepotState}
 use Rattle.ext_host.specs.DepotBodies as bodies
 use Rattle.ext_host.specs.DepotBodies.{from_depot}
 use Rattle.ext_host.specs.Held.{HeldFile}
 use Rattle.ext_host.specs.Limits.{passed_limit}
 use Rattle.ext_host.specs.declared.host.Host.{Host}
+use Rattle.ext_host.specs.ReadOnly.{IsReadOnlyAt, is_read_only}
 use Rattle.ext_cmd.specs.Resource.{tree_path}
 use Rattle.ext_cmd.specs.declared.answer.Answer.TheVariants.{Done}
 use Rattle.ext_cmd.specs.declared.refusal.Refusal.TheVariants.{ReadOnly, Limit, NotDirectory, BadTree, NotInDepot}
-use Rattle.ext_host.specs.ReadOnly.{IsReadOnlyAt, is_read_only}
 use Rattle.ext_intents.specs.Change.{changed_at}
-use Rattle.ext_depot.specs.DepotText.{IsTextAt}
-use Rattle.ext_depot.specs.declared.depot_text.DepotText.{DepotText}
-use Rattle.ext_depot.specs.declared.depot_text.DepotText.TheVariants.{Absent, TooLong, Whole}
 use Rattle.ext_intents.specs.declared.intent.Intent.{Intent}
 use Rattle.ext_intents.specs.declared.intent.Intent.TheVariants.{Changes, Refuses}
 
@@ -58,7 +58,8 @@ pub record AllFit (resource path : List (List ℕ)) (es : Entries Stamp) : Type 
 -- the tree in place of what stands at and below the path
 abbrev pub FittingWants : Host → List (List ℕ) → List (List ℕ) → Entries Stamp → Intent → Type 0
 FittingWants host resource path es intent =
-    (AllFit resource path es × ((root : Entries HeldFile) × IsGraft host.root path (from_depot resource es) root × (intent ≡ sized (changed_at host path root))))
+    (AllFit resource path es × ((root : Entries HeldFile) × IsGraft host.root path (from_depot resource es) root
+    × (intent ≡ sized (changed_at host path root))))
     ⊎ ((¬ AllFit resource path es) × (intent ≡ Refuses (Limit limits.Path)))
 
 -- what is wanted where nothing stands in the way of the path

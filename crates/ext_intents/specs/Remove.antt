@@ -4,9 +4,9 @@ use Rattle.std.specs.Prelude.{ℕ, List, is_some, not, if◌then◌else◌}
 use Rattle.ext_tree.specs.Cut.{cut}
 use Rattle.ext_tree.specs.Tree.{lookup}
 use Rattle.ext_host.specs.declared.host.Host.{Host}
+use Rattle.ext_host.specs.ReadOnly.{is_read_only}
 use Rattle.ext_cmd.specs.declared.answer.Answer.TheVariants.{Done}
 use Rattle.ext_cmd.specs.declared.refusal.Refusal.TheVariants.{NoEntry, ReadOnly}
-use Rattle.ext_host.specs.ReadOnly.{is_read_only}
 use Rattle.ext_intents.specs.Change.{changed_at}
 use Rattle.ext_intents.specs.declared.intent.Intent.{Intent}
 use Rattle.ext_intents.specs.declared.intent.Intent.TheVariants.{Changes, Refuses}

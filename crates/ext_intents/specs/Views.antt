@@ -9,11 +9,11 @@ use Rattle.ext_host.specs.Host.{merged_names, present}
 use Rattle.ext_host.specs.Shelf.{Told}
 use Rattle.ext_host.specs.declared.host.Host.{Host}
 use Rattle.ext_host.specs.declared.host.Plan.{Plan}
+use Rattle.ext_host.specs.Planning.{IsBaseTree, PlansNext}
 use Rattle.ext_release.specs.Release.{IsFirstFault}
 use Rattle.ext_find.specs.HostRelease.{ReleaseFileAt}
 use Rattle.ext_view.specs.Hierarchies.{is_merged}
 use Rattle.ext_view.specs.Merging.{IsRefreshed, IsTooLarge, Unmerges}
-use Rattle.ext_host.specs.Planning.{IsBaseTree, PlansNext}
 use Rattle.ext_view.specs.Surveying.{HasHostRelease, IsSurveyOf}
 use Rattle.ext_view.specs.declared.outcome.Merge.{Merge}
 use Rattle.ext_view.specs.declared.surveyed.SurveyItem.{SurveyItem}
@@ -81,12 +81,14 @@ IsNotRefreshed host told base class force refusal = IsNotSurveyed told base refu
 -- the merged host, where it is within the limits, and the names of its images, the lowest first
 abbrev pub RefreshWantsOf : Host → (HeldFile → Told) → Entries HeldFile → Extension → Bool → Intent → Type 0
 RefreshWantsOf host told base class force intent =
-    ((merge : Merge) × IsRefreshed told host base class force merge × PlansNext host merge.plan × (intent ≡ planned merge.plan (answers.Merged merge.names)))
+    ((merge : Merge) × IsRefreshed told host base class force merge × PlansNext host merge.plan
+    × (intent ≡ planned merge.plan (answers.Merged merge.names)))
     ⊎ ((refusal : Refusal) × IsNotRefreshed host told base class force refusal × (intent ≡ Refuses refusal))
 
 -- what `refresh` wants of a host
 abbrev pub RefreshWants : Host → (HeldFile → Told) → Extension → Bool → Intent → Type 0
-RefreshWants host told class force intent = (base : Entries HeldFile) × IsBaseTree host base × RefreshWantsOf host told base class force intent
+RefreshWants host told class force intent =
+    (base : Entries HeldFile) × IsBaseTree host base × RefreshWantsOf host told base class force intent
 
 -- what `merge` wants of a host
 abbrev pub MergeWants : Host → (HeldFile → Told) → Extension → Bool → Intent → Type 0
@@ -96,7 +98,8 @@ MergeWants host told class force intent =
 
 -- the unmerged host, where the class is merged
 abbrev pub UnmergeWants : Host → Extension → Intent → Type 0
-UnmergeWants host class intent = (plan : Option Plan) × Unmerges host class (Ok plan) × PlansNext host plan × (intent ≡ planned plan answers.Unmerged)
+UnmergeWants host class intent =
+    (plan : Option Plan) × Unmerges host class (Ok plan) × PlansNext host plan × (intent ≡ planned plan answers.Unmerged)
 
 -- what each of these commands wants of a host
 abbrev pub ViewWants : Host → (HeldFile → Told) → Extension → ViewCommand → Intent → Type 0

@@ -1,13 +1,13 @@
 // The command `import-fs`.
 ghost use Rattle.std.specs.Prelude.{◌≡◌, IfOk, IfErr, MatchOption};
 ghost use Rattle.std.specs.Option.{option_copied};
-ghost use Rattle.ext_tree.specs.Graft.{IsOpen, is_non_directory_at};
 ghost use Rattle.ext_depot.specs.Depot.{IsKept};
+ghost use Rattle.ext_depot.specs.declared.depot_text.DepotText.TheVariants.{Whole};
+ghost use Rattle.ext_tree.specs.Graft.{IsOpen, is_non_directory_at};
 ghost use Rattle.ext_host.specs.Valid.{IsValidHost};
 ghost use Rattle.ext_cmd.specs.declared.refusal.Refusal.TheVariants.{Limit};
 ghost use Rattle.ext_intents.specs.DepotErr.{PlanCause};
 ghost use Rattle.ext_intents.specs.Import.{FittingWants, ImportWants, IsUnder, PartWants, TextWants, TreeWants, sized};
-ghost use Rattle.ext_depot.specs.declared.depot_text.DepotText.TheVariants.{Whole};
 ghost use Rattle.ext_intents.specs.declared.intent.Intent.TheVariants.{Refuses};
 
 use crate::intent::Intent;

@@ -1,11 +1,12 @@
 -- What carrying out a command leaves: where nothing was done to the disk, and where outcomes are those of another definition.
 use Rattle.std.proofs.Common.{◌≡◌, ◌≤◌, ℕ, List, ◌++◌, inl, inr, Option, Some, None, IfSome, Result, Ok, Err, refl, sym, subst, arith}
-use Rattle.ext_tree.specs.declared.stamp.Stamp.{Stamp}
 use Rattle.ext_depot.specs.Depot.{DepotState}
 use Rattle.ext_disk.specs.Disk.{Places, Told, DiskState, BothTold, IsDisk}
+use Rattle.ext_tree.specs.declared.stamp.Stamp.{Stamp}
 use Rattle.ext_host.specs.Held.{HeldFile}
 use Rattle.ext_host.specs.declared.host.Host.{Host}
 use Rattle.ext_store_files.specs.Copying.{IsMissing, IsReadStamp}
+use Rattle.ext_store_files.specs.declared.fault.StoreFault.TheVariants.{OutOfMemory, DiskFault, DepotFault, Damaged}
 use Rattle.ext_homes.specs.Giving.{trees_before}
 use Rattle.ext_gen.specs.Opened.{Generation}
 use Rattle.ext_gen.specs.Preparing.{coming_number, host_before}
@@ -22,7 +23,6 @@ use Rattle.ext_top.specs.Applying.{Applies, AppliesEnds, AppliesTold, ApplyCause
 use Rattle.ext_top.specs.Machine.{Comes, IsMismatch, IsNextState, IsNotThere, Outcome, Replaces, RefusesNext, StopsFor, stored_of}
 use Rattle.ext_top.specs.declared.applied.Applied.{Applied}
 use Rattle.ext_top.specs.declared.apply_err.ApplyErr.{ApplyErr}
-use Rattle.ext_store_files.specs.declared.fault.StoreFault.TheVariants.{OutOfMemory, DiskFault, DepotFault, Damaged}
 use Rattle.ext_top.specs.declared.apply_err.ApplyErr.TheVariants.{Fault, Unfinished}
 use Rattle.ext_top.proofs.PlacedLemmas.{host_alike, stops_alike}
 use Rattle.ext_top.proofs.StoredLemmas.{alike_depot, depot_alike}

@@ -1,26 +1,25 @@
 -- A command that may change nothing wants no other host, so a run of it leaves the disk as it was.
-use Rattle.std.proofs.Common.{◌≡◌, ℕ, Bool, true, false, List, [], ◌∷◌, ◌⊎◌, inl, inr, Option, Some, None, refl, sym, ◌∙◌, ap, subst, if◌then◌else◌, arith}
+use Rattle.std.proofs.Common.{◌≡◌, ℕ, Bool, true, false, List, [], ◌∷◌, inl, inr, Option, Some, None, refl, sym, ◌∙◌, ap, subst, if◌then◌else◌, arith}
 use Rattle.ext_text.specs.declared.extension.Extension.{Extension}
 use Rattle.ext_text.specs.declared.extension.Extension.TheVariants as extensions
+use Rattle.ext_disk.specs.Disk.{BothTold, DiskState, Told}
+use Rattle.ext_depot.specs.Depot.{DepotState}
 use Rattle.ext_tree.specs.Tree.{is_directory, lookup}
 use Rattle.ext_tree.specs.declared.entry.Entry.{Entry}
 use Rattle.ext_tree.specs.declared.entry.Entry.TheVariants.{Dir, Opaque, File, Link, Hide}
-use Rattle.ext_disk.specs.Disk.{BothTold, DiskState, Told}
-use Rattle.ext_depot.specs.Depot.{DepotState}
 use Rattle.ext_host.specs.Held.{HeldFile}
 use Rattle.ext_host.specs.Shelf.{Told as ToldFile}
 use Rattle.ext_host.specs.declared.host.Host.{Host}
 use Rattle.ext_store_files.proofs.ForCallers.{told_map}
 use Rattle.ext_gen.specs.Opened.{Generation}
 use Rattle.ext_cmd.proofs.ForCallers.{one_command}
-use Rattle.ext_cmd.specs.Words.{IsWellFormed, command_words}
 use Rattle.ext_cmd.specs.declared.command.Command.{Command}
 use Rattle.ext_cmd.specs.declared.command.Command.TheVariants.{Init, ImportFs, Remove, Sysext, Confext, Tree, Cat, Compare, Check, Layer, Migrate}
 use Rattle.ext_cmd.specs.declared.command.ViewCommand.{ViewCommand}
 use Rattle.ext_cmd.specs.declared.command.ViewCommand.TheVariants as views
 use Rattle.ext_cmd.specs.declared.answer.Answer.TheVariants as answers
 use Rattle.ext_cmd.specs.declared.refusal.Refusal.TheVariants as refusals
-use Rattle.ext_intents.specs.Cat.{cat_at, cat_intent}
+use Rattle.ext_intents.specs.Cat.{cat_at}
 use Rattle.ext_intents.specs.Intents.{Seen}
 use Rattle.ext_intents.specs.Step.{Wants, WantsFirst, WantsOf, is_of_store}
 use Rattle.ext_intents.specs.Tree.{meant_path, text_below, tree_at, tree_intent}

@@ -14,6 +14,7 @@ use Rattle.ext_host.specs.declared.body.Body.TheVariants.{Here, Kept, Depot}
 use Rattle.ext_host.specs.declared.home.Home.{Home}
 use Rattle.ext_store_files.specs.HeldFiles.{body_told, told_at}
 use Rattle.ext_store_files.specs.Names.{home_path}
+use Rattle.ext_store_files.specs.declared.fault.StoreFault.TheVariants as store_faults
 use Rattle.ext_homes.specs.Giving.{trees_before}
 use Rattle.ext_index.specs.ValidIndex.{IsKeptUpTo}
 use Rattle.ext_gen.specs.Opened.{Generation}
@@ -31,7 +32,6 @@ use Rattle.ext_top.specs.Replying.{FileCause, ReplyCause, TextCause, WritesPartl
 use Rattle.ext_top.specs.declared.applied.Reply.{Reply}
 use Rattle.ext_top.specs.declared.applied.Reply.TheVariants.{Text, File, Refused}
 use Rattle.ext_top.specs.declared.apply_err.ApplyErr.{ApplyErr}
-use Rattle.ext_store_files.specs.declared.fault.StoreFault.TheVariants as store_faults
 use Rattle.ext_top.specs.declared.apply_err.ApplyErr.TheVariants as apply_errors
 use Rattle.ext_top.specs.declared.bad_store.BadStore.TheVariants.{Broken, Damaged}
 use Rattle.ext_top.specs.declared.lines.Written.{Written}

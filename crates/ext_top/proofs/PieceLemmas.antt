@@ -2,9 +2,9 @@
 use Rattle.std.proofs.Common.{◌≡◌, ℕ, ◌+◌, ◌<◌, ◌≤◌, List, ◌++◌, length, drop, inl, inr, None, Result, Ok, Err, refl, sym, ap, ◌∙◌, subst, arith, append_assoc, length-append}
 use Rattle.ext_text.specs.Causes.{Rose}
 use Rattle.ext_io.specs.SinkState.{SinkState}
-use Rattle.ext_tree.specs.declared.stamp.Stamp.{Stamp}
 use Rattle.ext_disk.specs.Disk.{DiskState}
 use Rattle.ext_disk.specs.Since.{Rests}
+use Rattle.ext_tree.specs.declared.stamp.Stamp.{Stamp}
 use Rattle.ext_host.specs.Held.{HeldFile}
 use Rattle.ext_host.specs.Shelf as shelf
 use Rattle.ext_host.specs.Shelf.{untold, missing, stored, IsFound}

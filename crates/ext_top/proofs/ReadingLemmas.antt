@@ -1,17 +1,16 @@
 -- Commands that only read the store: nothing is done, or its files are checked, or one of them is shown.
 use Rattle.std.proofs.Common.{◌≡◌, ℕ, true, List, inl, Option, Some, None, IfSome, Ok, Err, refl, sym, ap, ◌∙◌, subst}
-use Rattle.ext_tree.specs.declared.stamp.Stamp.{Stamp}
 use Rattle.ext_depot.specs.Depot.{DepotState}
 use Rattle.ext_disk.specs.Disk.{Told, DiskState, BothTold, IsDisk, now}
 use Rattle.ext_host.specs.Drawn.{IsFileOf}
 use Rattle.ext_host.specs.Held.{HeldFile}
 use Rattle.ext_host.specs.Shelf.{IsFound, ShelfCause}
-use Rattle.ext_host.specs.declared.home.Home.{Home}
 use Rattle.ext_host.specs.declared.host.Host.{Host}
 use Rattle.ext_host.specs.declared.shelf.ShelfErr.{ShelfErr}
 use Rattle.ext_host.specs.declared.shelf.ShelfErr.TheVariants as shelf_errors
 use Rattle.ext_host.specs.declared.damage.Damage.{Damage}
 use Rattle.ext_store_files.specs.HeldFiles.{body_told, is_served}
+use Rattle.ext_store_files.specs.declared.fault.StoreFault.TheVariants.{OutOfMemory, DiskFault, DepotFault, Damaged}
 use Rattle.ext_homes.specs.Giving.{lists_kept, trees_before}
 use Rattle.ext_gen.specs.Checking as gen
 use Rattle.ext_gen.specs.Checking.{AreChecked, files_of_host, sizes_of}
@@ -32,7 +31,6 @@ use Rattle.ext_top.specs.Machine.{Comes, Counts, Outcome, bytes_at, checked_text
 use Rattle.ext_top.specs.declared.applied.Applied.{Applied}
 use Rattle.ext_top.specs.declared.applied.Reply.TheVariants.{Text, File, Refused}
 use Rattle.ext_top.specs.declared.apply_err.ApplyErr.{ApplyErr}
-use Rattle.ext_store_files.specs.declared.fault.StoreFault.TheVariants.{OutOfMemory, DiskFault, DepotFault, Damaged}
 use Rattle.ext_top.specs.declared.apply_err.ApplyErr.TheVariants.{Fault, Unfinished}
 use Rattle.ext_top.proofs.ApplyingLemmas.{rested_told, trees_alike}
 use Rattle.ext_top.proofs.CheckLemmas.{file_of_host, kept_is_listed, number_of_host, size_of_host}

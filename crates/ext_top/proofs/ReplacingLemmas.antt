@@ -2,11 +2,11 @@
 use Rattle.std.proofs.Common.{◌≡◌, ℕ, suc, ◌+◌, ◌<◌, false, List, [], ◌∷◌, ◌++◌, inl, inr, Option, Some, None, IfSome, Result, Ok, Err, refl, sym, ap, ◌∙◌, subst, arith}
 use Rattle.std.specs.Prelude.{Contains}
 use Rattle.std.specs.List.{AllByRecursion}
-use Rattle.ext_tree.specs.Tree.{Entries}
 use Rattle.ext_io.specs.declared.failed.Failed.{Failed}
 use Rattle.ext_depot.specs.Depot.{DepotState}
 use Rattle.ext_disk.specs.Disk.{Places, Told, DiskState, BothTold, now}
 use Rattle.ext_disk.specs.Since.{IsLater}
+use Rattle.ext_tree.specs.Tree.{Entries}
 use Rattle.ext_host.specs.Drawn.{AreDrawnFrom, IsFileOf, trees_of}
 use Rattle.ext_host.specs.Held.{HeldFile}
 use Rattle.ext_host.specs.declared.body.Body.{Body}
@@ -14,6 +14,9 @@ use Rattle.ext_host.specs.declared.body.Body.TheVariants.{Here, Kept, Depot}
 use Rattle.ext_host.specs.declared.host.Host.{Host}
 use Rattle.ext_host.specs.declared.past.Past.{Past}
 use Rattle.ext_store_files.specs.Removal.{MoreThan}
+use Rattle.ext_store_files.specs.declared.fault.StoreFault.TheVariants as store_faults
+use Rattle.ext_store_files.specs.declared.fault.StoreFault.TheVariants.{OutOfMemory, DiskFault, DepotFault, Damaged}
+use Rattle.ext_store_files.specs.LeftOvers.{most_left_overs}
 use Rattle.ext_homes.specs.Brought.{is_brought}
 use Rattle.ext_homes.specs.Giving.{lists_kept, stored_by, trees_before}
 use Rattle.ext_homes.specs.Refused.{StopsAt}
@@ -25,7 +28,6 @@ use Rattle.ext_gen.specs.PreparingPaths.{Cleans, CleansSays}
 use Rattle.ext_gen.specs.Store.{State, at, Stands, generation_in}
 use Rattle.ext_gen.specs.Sound.{IsDurably, KeepsDurably}
 use Rattle.ext_gen.specs.declared.errors.StoreErr.{StoreErr}
-use Rattle.ext_store_files.specs.declared.fault.StoreFault.TheVariants as store_faults
 use Rattle.ext_gen.specs.declared.errors.StoreErr.TheVariants as store_errors
 use Rattle.ext_gen.proofs.ForCallers.{opened_is_valid_for, stands_since_then, stands_since_wider}
 use Rattle.ext_cmd.specs.declared.refusal.Refusal.{Refusal}
@@ -35,8 +37,6 @@ use Rattle.ext_top.specs.Machine.{IsMismatch, IsNextState, IsNotThere, Outcome, 
 use Rattle.ext_top.specs.declared.applied.Applied.{Applied}
 use Rattle.ext_top.specs.declared.applied.Reply.TheVariants.{Text, Refused}
 use Rattle.ext_top.specs.declared.apply_err.ApplyErr.{ApplyErr}
-use Rattle.ext_store_files.specs.declared.fault.StoreFault.TheVariants.{OutOfMemory, DiskFault, DepotFault, Damaged}
-use Rattle.ext_store_files.specs.LeftOvers.{most_left_overs}
 use Rattle.ext_top.specs.declared.apply_err.ApplyErr.TheVariants.{Fault, Unfinished}
 use Rattle.ext_top.proofs.ApplyingLemmas.{trees_alike}
 use Rattle.ext_top.proofs.PlacedLemmas.{host_alike, stops_alike}

@@ -2,24 +2,22 @@
 use Rattle.std.proofs.Common.{◌≡◌, ℕ, ◌≤◌, Bool, false, List, [], ◌∷◌, ◌⊎◌, inl, inr, Option, Some, None, is_some, IfSome, Result, Ok, Err, refl, sym, ap, ◌∙◌, subst, arith, append-nil}
 use Rattle.ext_text.specs.Causes.{Rose}
 use Rattle.ext_io.specs.SinkState.{SinkState}
-use Rattle.ext_tree.specs.declared.stamp.Stamp.{Stamp}
 use Rattle.ext_depot.specs.Depot.{DepotState}
 use Rattle.ext_disk.specs.Disk.{Places, Told, DiskState, BothTold, now}
 use Rattle.ext_disk.specs.Since.{IsLater}
 use Rattle.ext_host.specs.Shelf.{IsFound}
-use Rattle.ext_host.specs.declared.home.Home.{Home}
 use Rattle.ext_host.specs.declared.damage.Damage.{Damage}
 use Rattle.ext_store_files.specs.HeldFiles.{node_told, told_at}
 use Rattle.ext_store_files.specs.Names.{home_path}
 use Rattle.ext_store_files.specs.Removal.{AllStand, MoreThan}
+use Rattle.ext_store_files.specs.declared.fault.StoreFault.TheVariants as store_faults
+use Rattle.ext_store_files.specs.LeftOvers.{most_left_overs}
 use Rattle.ext_gen.specs.Opened.{Generation}
 use Rattle.ext_gen.specs.Opening.{KeepsNow, OpenCause, OpenSays, OpensTold}
 use Rattle.ext_gen.specs.Preparing.{is_left}
 use Rattle.ext_gen.specs.Store.{State, Points, Stands}
 use Rattle.ext_gen.specs.Sound.{IsDurably, IsMember, IsSound}
 use Rattle.ext_gen.specs.declared.errors.StoreErr.{StoreErr}
-use Rattle.ext_store_files.specs.declared.fault.StoreFault.TheVariants as store_faults
-use Rattle.ext_store_files.specs.LeftOvers.{most_left_overs}
 use Rattle.ext_gen.specs.declared.errors.StoreErr.TheVariants as store_errors
 use Rattle.ext_gen.proofs.ForCallers.{either_is_sound, durably_is_sound, sound_is_not_broken, stands_since_then, stands_since_wider}
 use Rattle.ext_cmd.specs.declared.refusal.Refusal.{Refusal}

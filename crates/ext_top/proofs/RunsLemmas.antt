@@ -6,6 +6,7 @@ use Rattle.ext_io.specs.SourceState.{SourceState}
 use Rattle.ext_io.specs.SinkState.{SinkState}
 use Rattle.ext_tree.specs.Tree.{Entries}
 use Rattle.ext_tree.specs.declared.stamp.Stamp.{Stamp}
+use Rattle.ext_gen.specs.Store.{none}
 use Rattle.ext_cmd.specs.Refusals.{refusal_line}
 use Rattle.ext_cmd.specs.Replies.{answer_text}
 use Rattle.ext_cmd.specs.Words.{IsWellFormed, command_words}
@@ -16,7 +17,6 @@ use Rattle.ext_intents.specs.Layer.{LayersWant, LayerWants}
 use Rattle.ext_intents.specs.Step.{is_of_store}
 use Rattle.ext_intents.specs.declared.intent.Intent.{Intent}
 use Rattle.ext_intents.specs.declared.intent.Intent.TheVariants.{Answers, Refuses}
-use Rattle.ext_gen.specs.Store.{none}
 use Rattle.ext_top.specs.Alone.{AloneWants, IsAlone, reads_source, status_of_refusal}
 use Rattle.ext_top.specs.Machine.{Outcome, gives, refuses, refusal_of, reply_of}
 use Rattle.ext_top.specs.Running.{CameTo, Devices, EndsAlone, Runs, RunsKind, TakesAll, TakesSome, WritesIntent, WritesLast, WritesOutcome, most_source, streams}

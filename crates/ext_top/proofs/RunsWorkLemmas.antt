@@ -3,10 +3,10 @@ use Rattle.std.proofs.Common.{inl, inr, Option, Some, None, IfSome, Ok, refl}
 use Rattle.ext_depot.specs.Depot.{DepotState}
 use Rattle.ext_disk.specs.Disk.{Told, DiskState, BothTold, now}
 use Rattle.ext_store_files.proofs.ForCallers.{told_map}
+use Rattle.ext_store_files.specs.declared.fault.StoreFault.TheVariants as store_faults
 use Rattle.ext_gen.specs.Opened.{Generation}
 use Rattle.ext_gen.specs.Opening.{KeepsNow, OpenSays}
 use Rattle.ext_gen.specs.declared.errors.StoreErr.{StoreErr}
-use Rattle.ext_store_files.specs.declared.fault.StoreFault.TheVariants as store_faults
 use Rattle.ext_gen.specs.declared.errors.StoreErr.TheVariants as store_errors
 use Rattle.ext_cmd.specs.declared.command.Command.{Command}
 use Rattle.ext_cmd.specs.declared.refusal.Refusal.{Refusal}

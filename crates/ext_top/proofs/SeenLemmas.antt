@@ -15,15 +15,18 @@ use Rattle.ext_host.specs.declared.home.Home.{Home}
 use Rattle.ext_host.specs.declared.host.Host.{Host}
 use Rattle.ext_host.specs.declared.shelf.ShelfErr.{ShelfErr}
 use Rattle.ext_host.specs.declared.shelf.ShelfErr.TheVariants as shelf_errors
-use Rattle.ext_find.specs.HostRelease.{ShelfFault}
+use Rattle.ext_host.specs.Planning.{ServesHost}
 use Rattle.ext_store_files.specs.HeldFiles.{IsListed, body_told, is_served, told_at}
 use Rattle.ext_store_files.specs.Names.{home_path}
 use Rattle.ext_store_files.specs.Removal.{MoreThan}
+use Rattle.ext_store_files.specs.declared.fault.StoreFault.TheVariants.{OutOfMemory, DiskFault, DepotFault, Damaged}
+use Rattle.ext_store_files.specs.LeftOvers.{most_left_overs}
 use Rattle.ext_gen.specs.Opened.{Generation, IsOpened}
 use Rattle.ext_gen.specs.Preparing.{is_left}
 use Rattle.ext_gen.specs.Store.{Points, State, none, at, Stands, generation_in}
 use Rattle.ext_gen.specs.Sound.{IsDurably}
 use Rattle.ext_gen.proofs.ForCallers.{opened_is_served, opened_is_valid, stands_since_wider}
+use Rattle.ext_find.specs.HostRelease.{ShelfFault}
 use Rattle.ext_cmd.specs.declared.command.Command.{Command}
 use Rattle.ext_intents.specs.Causes.{StepCause}
 use Rattle.ext_intents.specs.Intents.{IsFit}
@@ -32,15 +35,12 @@ use Rattle.ext_intents.specs.declared.intent.Intent.{Intent}
 use Rattle.ext_intents.specs.declared.plan_err.PlanErr.{PlanErr}
 use Rattle.ext_intents.specs.declared.plan_err.PlanErr.TheVariants as plan_errors
 use Rattle.ext_intents.proofs.ForCallers.{wants_alike, wants_fit}
-use Rattle.ext_host.specs.Planning.{ServesHost}
 use Rattle.ext_top.specs.Applying.{AppliesEnds, AppliesTold, ApplyCause, IsPassed, IsShownReply, PointsAs, RestCause, SeeCause, of_plan, apply_err_of_shelf, seen_on}
 use Rattle.ext_top.specs.Machine.{Comes, Outcome, Step, bytes_at, seen_in}
 use Rattle.ext_top.specs.declared.applied.Applied.{Applied}
 use Rattle.ext_top.specs.declared.applied.Reply.{Reply}
 use Rattle.ext_top.specs.declared.applied.Reply.TheVariants.{Text, File, Refused}
 use Rattle.ext_top.specs.declared.apply_err.ApplyErr.{ApplyErr}
-use Rattle.ext_store_files.specs.declared.fault.StoreFault.TheVariants.{OutOfMemory, DiskFault, DepotFault, Damaged}
-use Rattle.ext_store_files.specs.LeftOvers.{most_left_overs}
 use Rattle.ext_top.specs.declared.apply_err.ApplyErr.TheVariants.{Fault, Unfinished}
 use Rattle.ext_top.proofs.ApplyingLemmas.{comes_alike, ends_wider, passed_wider, rested_told}
 use Rattle.ext_top.proofs.CheckLemmas.{kept_is_listed}

@@ -1,10 +1,10 @@
 -- What a store that stands for a state tells at the homes of its host's files.
 use Rattle.std.proofs.Common.{◌≡◌, ℕ, List, [], Option, Some, None, refl, sym, ap, ◌∙◌, subst, arith}
 use Rattle.std.specs.Prelude.{Contains}
-use Rattle.ext_tree.specs.Tree.{Entries}
-use Rattle.ext_tree.specs.declared.stamp.Stamp.{Stamp}
 use Rattle.ext_depot.specs.Depot.{DepotState}
 use Rattle.ext_disk.specs.Disk.{DiskState, Told, now}
+use Rattle.ext_tree.specs.Tree.{Entries}
+use Rattle.ext_tree.specs.declared.stamp.Stamp.{Stamp}
 use Rattle.ext_host.specs.Drawn.{IsFileOf}
 use Rattle.ext_host.specs.Held.{HeldFile, IsStampOf}
 use Rattle.ext_host.specs.Shelf.{IsFound, stored}

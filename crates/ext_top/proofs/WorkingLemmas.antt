@@ -11,6 +11,8 @@ use Rattle.ext_store_files.specs.Names.{current_path, generation_path, home_path
 use Rattle.ext_store_files.specs.Removal.{AllStand, AtMost}
 use Rattle.ext_store_files.specs.Writing.{is_at}
 use Rattle.ext_store_files.proofs.ForCallers.{told_map, told_same, told_then}
+use Rattle.ext_store_files.specs.declared.fault.StoreFault.TheVariants as store_faults
+use Rattle.ext_store_files.specs.LeftOvers.{most_left_overs}
 use Rattle.ext_homes.specs.Giving.{stored_by}
 use Rattle.ext_gen.specs.Checking.{IsAsListed, files_of_host}
 use Rattle.ext_gen.specs.Committing.{SwitchesNow, is_switched}
@@ -20,8 +22,6 @@ use Rattle.ext_gen.specs.Preparing.{Prepares, PreparesTold, coming_number, host_
 use Rattle.ext_gen.specs.PreparingPaths.{ChangesAt, ChangesTold, Cleans, CleansSays, IsComing, gone, made, stays}
 use Rattle.ext_gen.specs.PreparingPaths as paths
 use Rattle.ext_gen.specs.declared.errors.StoreErr.{StoreErr}
-use Rattle.ext_store_files.specs.declared.fault.StoreFault.TheVariants as store_faults
-use Rattle.ext_store_files.specs.LeftOvers.{most_left_overs}
 use Rattle.ext_gen.specs.declared.errors.StoreErr.TheVariants as store_errors
 use Rattle.ext_cmd.specs.declared.command.Command.{Command}
 use Rattle.ext_cmd.specs.declared.refusal.Refusal.{Refusal}

@@ -1,20 +1,20 @@
 -- What carrying out a command leaves: of a store that durably stands for a state, the one that the machine gives.
 use Rattle.std.specs.Prelude.{◌≡◌, ◌==◌, true, ◌⊎◌, Option, Some, None, IfSome, Result, Ok, Err}
 use Rattle.ext_text.specs.Causes.{Rose}
-use Rattle.ext_tree.specs.declared.stamp.Stamp.{Stamp}
 use Rattle.ext_disk.specs.Disk.{Places, Told, DiskState, now}
 use Rattle.ext_disk.specs.Since.{Rests}
+use Rattle.ext_depot.specs.Depot.{DepotState}
 use Rattle.ext_host.specs.Drawn.{IsFileOf}
 use Rattle.ext_host.specs.Shelf.{IsFound}
-use Rattle.ext_host.specs.declared.home.Home.{Home}
 use Rattle.ext_host.specs.declared.shelf.ShelfErr.{ShelfErr}
-use Rattle.ext_host.specs.declared.shelf.ShelfErr.TheVariants as shelf_errors
 use Rattle.ext_host.specs.declared.damage.Damage.{Damage}
-use Rattle.ext_homes.specs.Giving.{home_told, lists_kept, trees_before}
-use Rattle.ext_gen.specs.Preparing.{host_before, is_left}
-use Rattle.ext_depot.specs.Depot.{DepotState}
 use Rattle.ext_store_files.specs.HeldFiles.{IsListed, body_told, is_served}
 use Rattle.ext_store_files.specs.Removal.{MoreThan}
+use Rattle.ext_store_files.specs.declared.fault.StoreFault.TheVariants.{OutOfMemory, DiskFault, DepotFault, Damaged}
+use Rattle.ext_store_files.specs.Fault.{fault_of_shelf}
+use Rattle.ext_store_files.specs.LeftOvers.{most_left_overs}
+use Rattle.ext_homes.specs.Giving.{home_told, lists_kept, trees_before}
+use Rattle.ext_gen.specs.Preparing.{host_before, is_left}
 use Rattle.ext_gen.specs.Opened.{Generation}
 use Rattle.ext_gen.specs.Store.{State, generation_in, Points}
 use Rattle.ext_gen.specs.Sound.{IsEither, IsDurably, StandsSince}
@@ -30,9 +30,6 @@ use Rattle.ext_top.specs.declared.applied.Applied.{Applied}
 use Rattle.ext_top.specs.declared.applied.Reply.{Reply}
 use Rattle.ext_top.specs.declared.applied.Reply.TheVariants.{Text, File, Refused}
 use Rattle.ext_top.specs.declared.apply_err.ApplyErr.{ApplyErr}
-use Rattle.ext_store_files.specs.declared.fault.StoreFault.TheVariants.{OutOfMemory, DiskFault, DepotFault, Damaged}
-use Rattle.ext_store_files.specs.Fault.{fault_of_shelf}
-use Rattle.ext_store_files.specs.LeftOvers.{most_left_overs}
 use Rattle.ext_top.specs.declared.apply_err.ApplyErr.TheVariants.{Fault, Unfinished}
 
 -- why a file is not given, as an error of carrying out
@@ -132,7 +129,8 @@ IsServedReply (Refused refusal) = Unit {0}
 abbrev pub IsShownReply : Option Generation → DiskState → DiskState → Reply → Type 0
 IsShownReply opened old new (Text text) = Unit {0}
 IsShownReply opened old new (File held) =
-    (is_served held.body ≡ true) × IsFileOf (trees_before (host_before opened)) held × Rests old new × IsListed (body_told old held.body) held.stamp
+    (is_served held.body ≡ true) × IsFileOf (trees_before (host_before opened)) held × Rests old new
+    × IsListed (body_told old held.body) held.stamp
 IsShownReply opened old new (Refused refusal) = Unit {0}
 
 -- an error of a preparation: it never finds a store broken

@@ -34,4 +34,5 @@ may_change Migrate = true
 -- where the words are those of a command that may change nothing, nothing is made, removed or appended, whatever the disk has
 abbrev pub StaysUnlessChanging : List (List ℕ) → Devices → Devices → Type 0
 StaysUnlessChanging words old new =
-    (command : Command) → IsWellFormed command → words ≡ command_words command → may_change command ≡ false → BothTold StaysTold old.disk.told new.disk.told
+    (command : Command) → IsWellFormed command → words ≡ command_words command → may_change command ≡ false
+    → BothTold StaysTold old.disk.told new.disk.told

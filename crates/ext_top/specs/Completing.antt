@@ -46,5 +46,6 @@ IsAnswered TooLong = ⊥
 -- what is said of each status then holds of one of these three
 abbrev pub Completes : List (List ℕ) → Devices → Devices → Status → Type 0
 Completes words old new status =
-    (command : Command) → IsWellFormed command → words ≡ command_words command → TellsWithin (reads_source command) old.source → TellsSound (is_of_store command) old.disk
+    (command : Command) → IsWellFormed command → words ≡ command_words command → TellsWithin (reads_source command) old.source
+    → TellsSound (is_of_store command) old.disk
     → NoneRose old new → IsAnswered status

@@ -68,7 +68,8 @@ pub record Tears (s : State) (depot : DepotState) (line : Line) (standing : Stan
 -- The table of exits. From a store that durably stands for a state no line stops for a bad store.
 abbrev pub StopsWith : Stop → State → DepotState → Line → Standing → List ℕ → Type 0
 StopsWith WriteFault s depot line standing part = Cuts s depot line standing part
-StopsWith DiskFault s depot line standing part = IsUndone s standing part ⊎ (Wavers s depot line standing part ⊎ Tears s depot line standing part)
+StopsWith DiskFault s depot line standing part =
+    IsUndone s standing part ⊎ (Wavers s depot line standing part ⊎ Tears s depot line standing part)
 StopsWith DepotFault s depot line standing part = IsUndone s standing part
 StopsWith OutOfMemory s depot line standing part = IsUndone s standing part ⊎ Tears s depot line standing part
 StopsWith (BadStore why) s depot line standing part = ⊥

@@ -15,4 +15,6 @@ OneReply = (command : Command) (bytes : List ℕ) (a b : Outcome) → ComesAlone
 
 -- `compare` is never refused: its reply is its line
 abbrev pub CompareIsDone : Type 0
-CompareIsDone = (a b bytes : List ℕ) (outcome : Outcome) → ComesAlone (Compare a b) bytes outcome → outcome ≡ gives none (answer_text (Order (version_cmp a b)))
+CompareIsDone =
+    (a b bytes : List ℕ) (outcome : Outcome) → ComesAlone (Compare a b) bytes outcome
+    → outcome ≡ gives none (answer_text (Order (version_cmp a b)))

@@ -47,13 +47,15 @@ LineEnds line s depot k l e (Ok written) = LineDone line s depot k l e written
 LineEnds line s depot k l e (Err stop) = LineStops line s depot k l e stop
 
 -- and each tree that a stop since may have left stands for the state before the line or the one after it
-pub record LineRuns (line : Line) (s : State) (depot : DepotState) (k l : SinkState) (result : Result Written Stop) (d e : Told) : Type 0 where
+pub record LineRuns (line : Line) (s : State) (depot : DepotState) (k l : SinkState) (result : Result Written Stop)
+    (d e : Told) : Type 0 where
   pub ends : LineEnds line s depot k l e.places result
   pub since : StandsSince (IsOnTheWay s depot (line ∷ [])) e d.clock
 
 -- what a line leaves on a disk that tells
 abbrev pub LineTold : Line → Option Generation → DepotState → SinkState → SinkState → Result Written Stop → Told → Told → Type 0
-LineTold line opened depot k l result d e = (s : State) → generation_in s ≡ opened → IsDurably s d.places → LineRuns line s depot k l result d e
+LineTold line opened depot k l result d e =
+    (s : State) → generation_in s ≡ opened → IsDurably s d.places → LineRuns line s depot k l result d e
 
 -- which fault a stop blames, whatever the store is
 abbrev pub LineCause : Option Generation → SinkState → SinkState → DiskState → DiskState → DepotState → DepotState → Stop → Type 0

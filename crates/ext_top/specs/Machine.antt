@@ -1,9 +1,9 @@
 -- The machine that a store is: what each command makes of a state and what it replies, for the files that the depot has. What
 -- a command wants of the host it sees is one definition a command; what becomes of it is here, once for all of them.
 use Rattle.std.specs.Prelude.{◌≡◌, ℕ, ◌==◌, ◌⊎◌, List, [], ◌++◌, Option, Some, None}
+use Rattle.ext_depot.specs.Depot.{DepotState}
 use Rattle.ext_tree.specs.Tree.{Entries}
 use Rattle.ext_tree.specs.declared.stamp.Stamp.{Stamp}
-use Rattle.ext_depot.specs.Depot.{DepotState}
 use Rattle.ext_host.specs.Held.{HeldFile}
 use Rattle.ext_host.specs.Shelf.{stored}
 use Rattle.ext_host.specs.declared.body.Body.{Body}

@@ -5,14 +5,11 @@ use Rattle.ext_lines.specs.Prefix.{IsPrefix}
 use Rattle.ext_text.specs.Causes.{Rose}
 use Rattle.ext_io.specs.SinkState.{SinkState}
 use Rattle.ext_io.specs.Whole.{AppendsProperPrefix}
-use Rattle.ext_tree.specs.declared.stamp.Stamp.{Stamp}
 use Rattle.ext_disk.specs.Disk.{DiskState}
 use Rattle.ext_host.specs.Held.{HeldFile}
 use Rattle.ext_host.specs.Shelf as shelf
 use Rattle.ext_host.specs.Shelf.{stored, IsFound, IsKeptAs}
-use Rattle.ext_host.specs.declared.home.Home.{Home}
 use Rattle.ext_host.specs.declared.shelf.ShelfErr.{ShelfErr}
-use Rattle.ext_host.specs.declared.shelf.ShelfErr.TheVariants as shelf_errors
 use Rattle.ext_host.specs.declared.damage.Damage.{Damage}
 use Rattle.ext_store_files.specs.HeldFiles.{body_told}
 use Rattle.ext_store_files.specs.Fault.{fault_of_shelf}
@@ -95,7 +92,8 @@ WritesRefusal refusal k l (Err Unfinished) = ⊥
 -- what writing a reply leaves
 abbrev pub WritesReply : Reply → DiskState → SinkState → SinkState → Result (Option Refusal) Stop → Type 0
 WritesReply (Text text) disk k l result = WritesText text k l result
-WritesReply (File held) disk k l result = WritesFile (body_told disk held.body) held.stamp.size k l result × IfOk result (λ last. last ≡ None)
+WritesReply (File held) disk k l result =
+    WritesFile (body_told disk held.body) held.stamp.size k l result × IfOk result (λ last. last ≡ None)
 WritesReply (Refused refusal) disk k l result = WritesRefusal refusal k l result
 
 -- the file is kept at the home, and what stands there is too short

@@ -6,16 +6,16 @@ use Rattle.ext_text.specs.Causes.{Rose}
 use Rattle.ext_io.specs.SourceState.{SourceState}
 use Rattle.ext_io.specs.SinkState.{SinkState}
 use Rattle.ext_io.specs.Whole.{ReadsAll, Took, AppendsProperPrefix}
-use Rattle.ext_tree.specs.declared.stamp.Stamp.{Stamp}
 use Rattle.ext_disk.specs.Disk.{DiskState, Told, BothTold, now}
 use Rattle.ext_disk.specs.Since.{Follows}
 use Rattle.ext_depot.specs.Depot.{DepotState, IsKept}
 use Rattle.ext_host.specs.Shelf.{IsFound}
-use Rattle.ext_host.specs.declared.home.Home.{Home}
 use Rattle.ext_host.specs.declared.damage.Damage.{Damage}
 use Rattle.ext_store_files.specs.HeldFiles.{node_told}
 use Rattle.ext_store_files.specs.Names.{home_path}
 use Rattle.ext_store_files.specs.Removal.{MoreThan}
+use Rattle.ext_store_files.specs.declared.fault.StoreFault.TheVariants as store_faults
+use Rattle.ext_store_files.specs.LeftOvers.{most_left_overs}
 use Rattle.ext_homes.specs.Giving.{lists_kept, trees_before}
 use Rattle.ext_gen.specs.Broken.{IsBroken}
 use Rattle.ext_gen.specs.Opened.{Generation}
@@ -23,8 +23,6 @@ use Rattle.ext_gen.specs.Preparing.{host_before, is_left}
 use Rattle.ext_gen.specs.Store.{State, generation_in, Points, Stands}
 use Rattle.ext_gen.specs.Sound.{IsDurably, IsMember, IsSound, StandsSince}
 use Rattle.ext_gen.specs.declared.errors.StoreErr.{StoreErr}
-use Rattle.ext_store_files.specs.declared.fault.StoreFault.TheVariants as store_faults
-use Rattle.ext_store_files.specs.LeftOvers.{most_left_overs}
 use Rattle.ext_gen.specs.declared.errors.StoreErr.TheVariants as store_errors
 use Rattle.ext_cmd.specs.Words.{IsUsage, IsWellFormed, command_words}
 use Rattle.ext_cmd.specs.declared.command.Command.{Command}
@@ -165,7 +163,8 @@ status_of batch (Err stop) = status_of_stop stop
 
 -- The lines ran from a state for which the store durably stood, and ended by the table of exits. Each tree that a stop since may
 -- have left stands for a state on the way.
-pub record RunsFrom (batch : Bool) (lines : List Line) (depot : DepotState) (k l : SinkState) (status : Status) (s : State) (d e : Told) : Type 0 where
+pub record RunsFrom (batch : Bool) (lines : List Line) (depot : DepotState) (k l : SinkState) (status : Status) (s : State)
+    (d e : Told) : Type 0 where
   pub result : Result (Option Refusal) Stop
   pub status_is : status ≡ status_of batch result
   pub bytes : List ℕ
@@ -182,7 +181,8 @@ RunsTold batch lines opened depot k l status d e =
 
 -- The store was opened: the lines ran from the state for which it stood, and ended by the table of exits. Each tree that a stop
 -- since may have left stands for a state on the way, or for one for which it might have stood before.
-pub record RunsOpened (batch : Bool) (lines : List Line) (depot : DepotState) (k l : SinkState) (status : Status) (d e : Told) : Type 0 where
+pub record RunsOpened (batch : Bool) (lines : List Line) (depot : DepotState) (k l : SinkState) (status : Status)
+    (d e : Told) : Type 0 where
   pub state : State
   pub stood : Stands (now d.places) state
   pub result : Result (Option Refusal) Stop

@@ -67,8 +67,10 @@ WorksFor W from d e = StaysTold d e ⊎ ((intent : Intent) × W intent × WorksA
 -- the files that were written, the index, and the line of `next`.
 pub record ReplacedTold (from : Option Generation) (coming : Generation) (written : List (List ℕ)) (d e : Told) : Type 0 where
   pub few : AtMost most_left_overs (is_left from) d.places
-  pub generations : (m : ℕ) → IsGeneration m → is_some (e.places (generation_path m)).node ≡ true → (m ≡ coming.number) ⊎ (is_needed from m ≡ true)
-  pub appended : e.appended ≤ d.appended + (sum_by length written + (length (coming_index coming.number coming.host) + length (current_text coming.number)))
+  pub generations : (m : ℕ) → IsGeneration m → is_some (e.places (generation_path m)).node ≡ true
+      → (m ≡ coming.number) ⊎ (is_needed from m ≡ true)
+  pub appended : e.appended ≤ d.appended
+      + (sum_by length written + (length (coming_index coming.number coming.host) + length (current_text coming.number)))
 
 -- Another host was put there. Each file that it brings has the least home at which the store has the same bytes, where all that
 -- were compared with it are as listed; or it was written, and the written ones have their numbers in this order.
@@ -80,7 +82,8 @@ pub record Replaced (from : Option Generation) (next : Host) (old new : DiskStat
 
 -- a change was refused: by a limit, before anything was done; else left-overs were removed, and few enough
 abbrev pub IsCleared : Option Generation → DiskState → Refusal → Type 0
-IsCleared from old refusal = ((which : Which) × (refusal ≡ Limit which)) ⊎ IfSome old.told (λ d. AtMost most_left_overs (is_left from) d.places)
+IsCleared from old refusal =
+    ((which : Which) × (refusal ≡ Limit which)) ⊎ IfSome old.told (λ d. AtMost most_left_overs (is_left from) d.places)
 
 -- each file of the host has its stamp, where its bytes are told
 abbrev pub AreListed : Option Generation → DiskState → Type 0
@@ -89,7 +92,8 @@ AreListed (Some g) disk = AllByRecursion (IsAsListed disk) (files_of_host g.host
 
 -- what was met of an intent, by the refusal, if there is one, and by the generation that the store has then
 abbrev pub Met : Intent → Option Generation → DiskState → DiskState → DepotState → Option Refusal → Option Generation → Type 0
-Met (Changes next answer) from old new depot None after = (coming : Generation) × (after ≡ Some coming) × Replaced from next old new depot coming
+Met (Changes next answer) from old new depot None after =
+    (coming : Generation) × (after ≡ Some coming) × Replaced from next old new depot coming
 Met (Changes next answer) from old new depot (Some refusal) after = (after ≡ from) × IsCleared from old refusal
 Met (Answers answer) from old new depot refusal after = (after ≡ from) × (refusal ≡ None)
 Met Checks from old new depot refusal after = (after ≡ from) × (refusal ≡ None) × AreListed from old

@@ -8,8 +8,8 @@ ghost use Rattle.ext_gen.specs.Preparing.{host_before};
 ghost use Rattle.ext_cmd.specs.Replies.{answer_text};
 ghost use Rattle.ext_cmd.specs.declared.answer.Answer.{Answer};
 ghost use Rattle.ext_intents.specs.Intents.{IsPlanned};
-ghost use Rattle.ext_top.specs.Machine.{Replaces};
 ghost use Rattle.ext_intents.specs.declared.intent.Intent.TheVariants.{Changes};
+ghost use Rattle.ext_top.specs.Machine.{Replaces};
 ghost use Rattle.ext_top.specs.Applying.{AppliesTold, ApplyCause, IsOfPreparing, IsShownReply, PointsAs, refusal_from};
 ghost use Rattle.ext_top.specs.Working.{Met, ReplacesTold, WorksFor, refused_by};
 

@@ -1,10 +1,10 @@
 use Rattle.std.proofs.Common.{◌≡◌, refl}
 use Rattle.std.proofs.lemmas.Result.{err_from_is_err_and}
-use Rattle.ext_cmd.specs.Replies.{answer_text}
 use Rattle.ext_disk.proofs.ForCallers.{follows_itself}
+use Rattle.ext_cmd.specs.Replies.{answer_text}
+use Rattle.ext_intents.specs.declared.intent.Intent.TheVariants.{Changes}
 use Rattle.ext_top.specs.Machine.{Replaces}
 use Rattle.ext_top.proofs.ReadingLemmas.{unread_applies}
-use Rattle.ext_intents.specs.declared.intent.Intent.TheVariants.{Changes}
 use Rattle.ext_top.proofs.WorkingLemmas.{replaces_works, works_nothing}
 use Rattle.ext_top.proofs.replacing.replace.Goals as goal
 

@@ -1,0 +1,257 @@
+"""A command is stopped at each call that it made on a real store folder: each folder that a stop there may leave is built, and the
+store in it has to be whole, as before the command or after it, and the command has to work on it."""
+import random
+import re
+import shutil
+import subprocess
+from dataclasses import dataclass
+
+from scenes.failing import stray
+from scenes.running import Failed, shortened
+from scenes.stops import Disk, File, Shapes
+from scenes.traces import straced
+from scenes.uses import is_done
+
+WATCHED = "openat,creat,mkdir,mkdirat,write,pwrite64,writev,fsync,fdatasync,ftruncate,rename,renameat,renameat2,unlink,unlinkat,rmdir"
+WATCHED += ",link,linkat,symlink,symlinkat,close"
+LINE = re.compile(r"\d+ +(\w+)\((.*)\) += (\d+)")
+SECONDS = 300
+# How many folders are built and looked at together, and how many where the first that shows something ends it.
+PIECE, FEW = 400, 20
+# Why a sync can be left out, and no stop shows it. The first is the one with which a store is opened: a command before may have
+# been killed between its switch and the sync after it, so that a stop leads back to the store before that.
+SAFE = "what the switch before may lead back to stays until the next sync"
+REFUSED = "what a refused command wrote is left over"
+EMPTY = "the file has no bytes"
+
+
+def unescaped(text):
+    return bytes.fromhex(text.replace("\\x", ""))
+
+
+def events(store, lines):
+    """What a command did to what stands in its store folder: the calls of the model of a stop. A call that the model hasn't
+    is told."""
+    ours = set()
+    for line in lines:
+        found = LINE.match(line)
+        if not found:
+            continue
+        name, inner, given = found.groups()
+        texts = [unescaped(text) for text in re.findall(r'"([^"]*)"', inner)]
+        paths = [text.decode(errors="replace") for text in texts] if name != "write" else []
+        below = [path.removeprefix(store).strip("/") for path in paths if path == store or path.startswith(f"{store}/")]
+        handle = int(given) if name == "openat" else int(re.match(r"\d*", inner)[0] or -1)
+        if name == "openat":
+            ours.discard(handle)
+            if below:
+                ours.add(handle)
+                yield ("make" if "O_CREAT" in inner else "open"), below[0], handle
+        elif name == "close":
+            ours.discard(handle)
+        elif name == "write" and handle == 1:
+            yield ("reply",)
+        elif name == "write" and handle in ours:
+            yield "write", handle, texts[0][: int(given)]
+        elif name == "fsync" and handle in ours:
+            yield "sync", handle
+        elif name in ("mkdir", "rename", "unlink", "rmdir") and below:
+            yield ("remove" if name in ("unlink", "rmdir") else name), *below
+        elif below or handle in ours:
+            raise Failed(f"the model of a stop has no {name}")
+
+
+def made(room, use, command):
+    """The calls of a command on the store folder of a room."""
+    options = ["-xx", "-s", "1000000", "-e", f"trace={WATCHED}"]
+    words = [room.place.program, room.place.store, room.place.depot, *command.split(" ")]
+    written, _, status, lines = straced(words, room.folder / "calls", *options, source=use.source)
+    if status > 1:
+        raise Failed(f"`{command}` ends with {status}: {shortened(written)}")
+    return list(events(str(room.place.store), lines))
+
+
+@dataclass
+class Moment:
+    """A moment at which a command is stopped: after which of its calls, whether it has told by then that it was done, and the
+    disk as it is."""
+
+    after: str
+    told: bool
+    disk: Disk
+
+
+class Story:
+    """A command that is stopped. Where a command before it made its store, that was killed before its last sync, so that its
+    switch may be undone too."""
+
+    def __init__(self, room, use):
+        self.room, self.use = room, use
+        self.is_killed = bool(use.before) and not callable(use.before[-1])
+        first = use.before[:-1] if self.is_killed else use.before
+        self.folder = room.stored(first)
+        self.killed = killed(made(room, use, use.before[-1])) if self.is_killed else []
+        room.stored(use.before)
+        self.events = made(room, use, use.command)
+        befores = [first, use.before] if self.is_killed else [use.before]
+        # What a look shows of each state in which the store may be, by its `current`.
+        self.states = {}
+        for before in [*befores, (*use.before, use.command)] if is_done(use) else befores:
+            kept = room.stored(before)
+            self.states[(kept / "current").read_bytes() if (kept / "current").exists() else None] = room.look(use, before)
+        self.last = list(self.states)[-1]
+
+    def moments(self, without=None):
+        """Each moment, where the sync of this number is left out."""
+        disk = Disk(self.folder)
+        for event in self.killed:
+            disk.do(*event)
+        disk.handles.clear()
+        told = False
+        yield Moment("the first call", told, disk)
+        for at, event in enumerate(self.events):
+            if at != without:
+                disk.do(*event)
+            told = told or event[0] == "reply"
+            if event[0] != "open":
+                yield Moment(self.text(at), told, disk)
+
+    def text(self, at):
+        """An event for who reads it, with the path that its handle leads to."""
+        call, *what = self.events[at]
+        if call in ("write", "sync"):
+            made = next(event for event in reversed(self.events[:at]) if event[0] in ("make", "open") and event[2] == what[0])
+            return f"call {at + 1}, {call} {made[1] or 'the store folder'}"
+        return " ".join([f"call {at + 1}, {call}", *map(str, what[: 1 if call == "make" else 2])])
+
+    def number(self, at):
+        """The number of the moment after an event."""
+        return 1 + sum(event[0] != "open" for event in self.events[:at])
+
+    def syncs(self):
+        return [at for at, event in enumerate(self.events) if event[0] == "sync"]
+
+    def needless(self, at):
+        """Why nothing shows where the sync of this number is left out, or nothing."""
+        is_first, is_refused = at == self.syncs()[0], self.use.reply.startswith(b"refused ")
+        if is_refused and not is_first:
+            return REFUSED
+        if is_first and len(self.syncs()) > 1 and ("remove", self.generation()) not in self.events:
+            return SAFE
+        disk = Disk(self.folder)
+        for event in self.killed:
+            disk.do(*event)
+        for event in self.events[:at]:
+            disk.do(*event)
+        node = disk.handles[self.events[at][1]]
+        return EMPTY if isinstance(node, File) and not node.content else None
+
+    def generation(self):
+        """The folder of the generation that was the current one before the switch before."""
+        return (next(iter(self.states)) or b"").decode().strip() if self.is_killed else ""
+
+    def state(self, shapes, number, told):
+        """The state that a look at a shape has to show: that which its `current` names, and the last one once that was told."""
+        current = shapes.at(number, "current")
+        return self.last if told or current not in self.states else current
+
+
+def killed(events):
+    """The calls of a command that was killed right after it switched."""
+    switched = max(at for at, event in enumerate(events) if event[0] == "rename")
+    return events[: switched + 1]
+
+
+def folders(story, shapes, draws, seed):
+    """Each shape that a stop may leave, with whether it was told by then that the command was done, and the moment when it comes
+    first."""
+    found, rng = {}, random.Random(seed)
+    for moment in story.moments():
+        for number in sorted(moment.disk.left(shapes, draws, rng)):
+            found.setdefault((number, moment.told), moment.after)
+    return found
+
+
+def left_out(story, shapes, trial, good, at, draws, seed):
+    """Whether a look finds something where the sync of this number is left out, and how many folders were looked at. Those that
+    stops leave anyway are known to be good. The last moments come first, since in them the least else isn't durable."""
+    fresh, rng = {}, random.Random(seed)
+    for number, moment in enumerate(story.moments(at)):
+        left = moment.disk.left(shapes, draws, rng) if number >= story.number(at) else ()
+        fresh.update(((shape, moment.told), number) for shape in left if (shape, moment.told) not in good)
+    keys = sorted(fresh, key=lambda key: (-fresh[key], key))
+    for start in range(0, len(keys), FEW):
+        if looked(story, shapes, trial, keys[start : start + FEW]):
+            return True, min(start + FEW, len(keys))
+    return False, len(keys)
+
+
+def escaped(content):
+    """Bytes as a word or a line of a case."""
+    text = "".join(chr(byte) if 32 < byte < 127 and byte not in b"\\$" else f"\\x{byte:02x}" for byte in content)
+    return text or "\\e"
+
+
+def wanted(written, status):
+    """The lines of a case that expect this."""
+    lines = written.split(b"\n")
+    yield from (f"> {escaped(line)}" if line else ">" for line in lines[:-1])
+    if lines[-1]:
+        yield f">| {escaped(lines[-1])}"
+    if status:
+        yield f"status {status}"
+
+
+def case(story, place, depot, name, state):
+    """A case that looks at a folder, in which this state has to stand."""
+    yield from (f"case {name}", f"folder {place} {depot}")
+    for at, command in enumerate(story.use.commands):
+        yield f"$ {command}"
+        written, status = story.states[state][at]
+        if len(written) < 400:
+            yield from wanted(written, status)
+        else:
+            yield f"> $text-{list(story.states).index(state)}-{at}" if written.endswith(b"\n") else f">| {escaped(written)}"
+
+
+def texts(story):
+    """The long texts that cases expect, defined before all cases."""
+    for number, looks in enumerate(story.states.values()):
+        for at, (written, _) in enumerate(looks):
+            if len(written) >= 400 and written.endswith(b"\n"):
+                name = f"text-{number}-{at}"
+                yield from (f"text {name}", *(escaped(line) for line in written.split(b"\n")[:-1]), f"end of {name}")
+
+
+def looked(story, shapes, trial, batch):
+    """Builds folders, and gives what was other than it had to be, by the shape and whether it was told by then."""
+    folder, depot = story.room.folder / "stopped", story.room.place.depot
+    folder.mkdir()
+    try:
+        lines = [*texts(story)]
+        for at, (number, told) in enumerate(batch):
+            shapes.build(number, folder / str(at))
+            lines += case(story, folder / str(at), depot, at, story.state(shapes, number, told))
+        file = folder / "looks.cases"
+        file.write_text("".join(f"{line}\n" for line in lines))
+        ended = subprocess.run([trial, file], capture_output=True, timeout=SECONDS)
+        failed = judged(batch, ended.stdout.decode(errors="replace").splitlines(), ended)
+        for at, key in enumerate(batch):
+            if key not in failed and (found := stray(folder / str(at))):
+                failed[key] = f"at the end are left over {', '.join(found)}"
+        return failed
+    finally:
+        shutil.rmtree(folder)
+
+
+def judged(batch, lines, ended):
+    """The cases that failed. Each has to be counted."""
+    failed = {}
+    for line in lines[:-1]:
+        found = re.match(r".*?looks\.cases:\d+: (\d+): (.*)", line)
+        if not found:
+            raise Failed(f"ext_trial tells {line}")
+        failed[batch[int(found[1])]] = found[2]
+    if not lines or lines[-1] != f"{len(batch) - len(failed)} passed, {len(failed)} failed":
+        raise Failed(f"ext_trial ends with {ended.returncode}: {shortened(lines[-1:])} {shortened(ended.stderr)}")
+    return failed

@@ -1,0 +1,215 @@
+"""The uses of the program that tests/hostile goes through: a table by command, so that a later command is a row."""
+import hashlib
+import shutil
+import subprocess
+from dataclasses import dataclass
+from pathlib import Path
+
+from scenes.running import HOST as LAYERED, Failed, shortened, tree_text
+from scenes.stores import DONE, OLD_INDEX
+
+# How long a command may take.
+SECONDS = 10
+
+
+def tree_of(files):
+    """The text of a tree of these files, and of the folders that they need."""
+    lines = {}
+    for path, content in files.items():
+        for folder in list(Path(path).parents)[:-1]:
+            lines[str(folder)] = f"d 755 {folder}"
+        lines[path] = f"f 644 {len(content)} {hashlib.sha256(content).hexdigest()} {path}"
+    return tree_text(*(lines[path] for path in sorted(lines, key=lambda path: path.split("/"))))
+
+
+RELEASE = b"ID=debian\n"
+IMAGE = "usr/lib/extension-release.d/extension-release."
+# What the depot has. `few` has a file of the host's bytes, and one without any; of `large` a file is written in two pieces.
+RESOURCES = {
+    "host": {"etc/os-release": RELEASE, "own": b"own", "usr/tool": b"tool 1\n"},
+    "few": {"a/new": b"new", "a/same": b"own", "none": b""},
+    "large": {"large": b"0123456789" * 7_000},
+    "many": {f"f{at:02}": b"content %d" % at for at in range(20)},
+    "other": {"other": b"other"},
+    "x": {f"{IMAGE}x": RELEASE + b"\n", "usr/tool": b"tool x\n"},
+    "y": {f"{IMAGE}y": b"ID=fedora\n", "usr/more": b"more\n"},
+    **{name: {f"etc/extension-release.d/extension-release.{name}": RELEASE, f"etc/{name}.conf": name.encode()} for name in "cd"},
+}
+# The last command of each look: whatever came before, a change is possible.
+NEXT = "import-fs other /next"
+
+
+def fill(place):
+    """Puts the resources into the depot of a place, with one that lacks its last file, and a text that is none."""
+    for name, files in RESOURCES.items():
+        place.resource(name, tree_of(files), files)
+    place.resource("less", tree_of({"a": b"a", "b": b"b", "c": b"c"}), {"a": b"a", "b": b"b"})
+    place.resource("bad", b"hostext-tree 1\nend\nend\n")
+
+
+def an_old_text(place):
+    """A store whose index is of the form before."""
+    place.index(1, OLD_INDEX)
+
+
+def left_overs(place):
+    """What a command leaves over that was cut off before its switch: the coming generation, and `next`; and a later one."""
+    current = place.store / "current"
+    coming = f"g-{int(current.read_text()[2:]) + 1 if current.exists() else 1}"
+    left = {f"{coming}/000/00": b"left", f"{coming}/index": b"left", "g-90/index": b"", "next": f"{coming}\n".encode()}
+    for path, content in left.items():
+        (place.store / path).parent.mkdir(parents=True, exist_ok=True)
+        (place.store / path).write_bytes(content)
+
+
+@dataclass(frozen=True)
+class Use:
+    """A command as it is tried: what it writes; the commands that make its store in an empty folder, among which may be a
+    function that puts something there; what it writes where it was done already; what stands on standard input; whether it
+    looks at a store, and whether it has to wait for it; and whether the short run leaves it out."""
+
+    command: str
+    reply: bytes
+    before: tuple = ()
+    again: bytes = None
+    source: bytes = b""
+    stored: bool = True
+    waits: bool = False
+    long: bool = False
+
+    @property
+    def name(self):
+        """Under which it is counted."""
+        words = self.command.split(" ")
+        return " ".join(words[:2]) if words[0] in ("sysext", "confext") else words[0]
+
+    @property
+    def title(self):
+        last = self.before[-1] if self.before else "nothing"
+        before = last.__name__.replace("_", " ") if callable(last) else f"`{last}`"
+        return f"`{self.command}` after {before}{', which waits' if self.waits else ''}"
+
+    @property
+    def has_stops(self):
+        return self.stored and not self.waits
+
+    @property
+    def commands(self):
+        """What a look runs: whether the store is whole, the command again, and one more change."""
+        return ["tree", "check", self.command, "tree", "check", NEXT, "tree", "check"]
+
+
+INIT = ("init x86-64 system",)
+ON_HOST = (*INIT, "import-fs host /")
+WITH_IMAGES = (*ON_HOST, "import-fs y /var/lib/extensions/y", "import-fs x /var/lib/extensions/x")
+MERGED = (*WITH_IMAGES, "sysext merge")
+FORCED = (*WITH_IMAGES, "sysext merge --force", "remove /var/lib/extensions/y")
+# After these the next change makes room.
+ROOM_TO_MAKE = ("import-fs many /srv", "remove /srv")
+WITH_CONFIGURATION = (*ON_HOST, "import-fs c /var/lib/confexts/c")
+CONFIGURED = (*WITH_CONFIGURATION, "confext merge")
+EXISTS, IS_MERGED = b"refused 2 store-exists\n", b"refused 3 merged\n"
+ONE, BOTH, NONE = b"merged 1\nx\n", b"merged 2\nx\ny\n", b"unmerged\n"
+USES = [
+    Use("init x86-64 system", DONE, again=EXISTS),
+    Use("init x86-64 system /usr /etc", DONE, (left_overs,), again=EXISTS),
+    Use("init x86-64 system", EXISTS, INIT),
+    Use("import-fs host /", DONE, INIT),
+    Use("import-fs few /srv", DONE, ON_HOST),
+    Use("import-fs few /new", DONE, (*ON_HOST, "import-fs other /")),
+    Use("import-fs few /srv", DONE, (*ON_HOST, left_overs)),
+    Use("import-fs large /srv", DONE, ON_HOST),
+    Use("import-fs many /", DONE, ON_HOST),
+    Use("import-fs host /", DONE, (*INIT, "import-fs many /", "import-fs other /")),
+    Use("import-fs gone /", b"refused 24 not-in-depot gone.tree\n", ON_HOST),
+    Use("import-fs bad /", b"refused 23 bad-tree 3 bad.tree\n", ON_HOST),
+    Use("import-fs less /", b"refused 24 not-in-depot less/c\n", ON_HOST),
+    Use("import-fs host /usr", b"refused 4 read-only /usr\n", MERGED),
+    Use("remove /own", DONE, ON_HOST, again=b"refused 8 no-entry /own\n"),
+    Use("remove /own", DONE, ON_HOST, again=b"refused 8 no-entry /own\n", waits=True),
+    Use("remove /gone", b"refused 8 no-entry /gone\n", ON_HOST),
+    Use("sysext list", b"x image /var/lib/extensions/x fits\ny image /var/lib/extensions/y id\n", WITH_IMAGES),
+    Use("sysext status", ONE, MERGED),
+    Use("sysext merge", ONE, WITH_IMAGES, again=IS_MERGED),
+    Use("sysext merge --force", BOTH, WITH_IMAGES, again=IS_MERGED),
+    Use("sysext merge", b"refused 5 no-host-release\n", INIT),
+    Use("sysext merge", ONE, (*WITH_IMAGES, *ROOM_TO_MAKE), again=IS_MERGED, long=True),
+    Use("sysext refresh", ONE, FORCED),
+    Use("sysext refresh", ONE, (*FORCED, *ROOM_TO_MAKE), long=True),
+    Use("sysext unmerge", NONE, (*MERGED, *ROOM_TO_MAKE), long=True),
+    Use("sysext refresh --force", BOTH, MERGED),
+    Use("sysext unmerge", NONE, MERGED),
+    Use("sysext unmerge", NONE, WITH_IMAGES),
+    Use("confext list", b"c image /var/lib/confexts/c fits\n", WITH_CONFIGURATION),
+    Use("confext status", NONE, WITH_CONFIGURATION),
+    Use("confext merge", b"merged 1\nc\n", WITH_CONFIGURATION, again=IS_MERGED),
+    Use("confext refresh", b"merged 2\nc\nd\n", (*CONFIGURED, "import-fs d /var/lib/confexts/d")),
+    Use("confext unmerge", NONE, CONFIGURED),
+    Use("tree", tree_of(RESOURCES["host"]), ON_HOST),
+    Use("tree /etc", tree_of({"os-release": RELEASE}), ON_HOST),
+    Use("tree /etc", tree_of({"os-release": RELEASE}), ON_HOST, waits=True),
+    Use("cat /own", b"own", ON_HOST),
+    Use("cat /srv/large", RESOURCES["large"]["large"], (*ON_HOST, "import-fs large /srv")),
+    Use("check", b"ok 9 71\n", MERGED),
+    Use("migrate", DONE, (an_old_text,), again=b"unchanged\n"),
+    Use("migrate", b"unchanged\n", ON_HOST),
+    Use("compare 1.0 1", b"greater\n", ON_HOST, stored=False),
+    Use("layer", LAYERED, ON_HOST, source=LAYERED, stored=False),
+]
+
+
+class Room:
+    """A place with a full depot, and the stores that uses begin with, each made once."""
+
+    def __init__(self, place, folder):
+        self.place, self.folder = place, folder
+        self.found = {}
+        fill(place)
+
+    def run(self, command, source=b""):
+        """What a command writes, and its status."""
+        words = [self.place.program, self.place.store, self.place.depot, *command.split(" ")]
+        try:
+            ended = subprocess.run(words, input=source, capture_output=True, timeout=SECONDS)
+        except subprocess.TimeoutExpired:
+            raise Failed(f"`{command}` had not ended after {SECONDS} seconds") from None
+        return ended.stdout, ended.returncode
+
+    def stored(self, before):
+        """A store that these commands made. A copy stands in the place."""
+        shutil.rmtree(self.place.store)
+        if before in self.found:
+            shutil.copytree(self.found[before], self.place.store)
+            return self.found[before]
+        self.place.store.mkdir()
+        for command in before:
+            self.make(command)
+        kept = self.found[before] = self.folder / f"kept-{len(self.found)}"
+        shutil.copytree(self.place.store, kept)
+        return kept
+
+    def make(self, command):
+        if callable(command):
+            command(self.place)
+            return
+        written, status = self.run(command)
+        if status:
+            raise Failed(f"`{command}` ends with {status}: {shortened(written)}")
+
+    def look(self, use, before):
+        """What each command of a look at such a store writes, and its status."""
+        self.stored(before)
+        return [self.run(command, use.source) for command in use.commands]
+
+    def states(self, use):
+        """What a look has to show before the command and after it, which has to write what the table says."""
+        before, after = self.look(use, use.before), self.look(use, (*use.before, use.command) if is_done(use) else use.before)
+        again = use.reply if use.again is None else use.again
+        for found, wanted in (before[2], use.reply), (after[2], again):
+            if found != (wanted, 1 if wanted.startswith(b"refused ") else 0):
+                raise Failed(f"{use.title} ends with {shortened(found)}, and is to write {shortened(wanted)}")
+        return before, after
+
+
+def is_done(use):
+    return use.stored and not use.reply.startswith(b"refused ")
