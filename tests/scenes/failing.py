@@ -26,7 +26,7 @@ WAYS = {
     "flock": ("EIO", "ENOLCK", "EINTR"),
     "fcntl": ("EMFILE", "EINTR"),
 }
-# Those that are tried again where they were interrupted, but for the opening of a folder that is listed.
+# Those that are tried again where they were interrupted.
 TRIED_AGAIN = {"openat", "read", "write", "getdents64", "fsync"}
 # The names of a call of a device by which a fault at a call of the system may be told.
 TOLD = {
@@ -87,17 +87,16 @@ def command_of(room, use):
     return [room.place.program, room.place.store, room.place.depot, *use.command.split(" ")]
 
 
-def may_be_ignored(call, locks_at):
-    """Whether a command may go on where the call fails: a close; a handle by which a lock is given back, and giving it back; and a
-    look, before the lock, at whether the depot stands in the store."""
-    return call.name in ("close", "fcntl") or "LOCK_UN" in call.inner or (call.name == "statx" and call.at < locks_at)
+def may_be_ignored(call):
+    """Whether a command may go on where the call fails: a close; a handle by which a lock is given back, and giving it back."""
+    return call.name in ("close", "fcntl") or "LOCK_UN" in call.inner
 
 
-def endings(use, call, way, locks_at):
+def endings(use, call, way):
     """The statuses with which the command may end where the call fails so."""
     done = 1 if use.reply.startswith(b"refused ") else 0
-    tried_again = way == "EINTR" and call.name in TRIED_AGAIN and "O_DIRECTORY" not in call.inner
-    if call.on == "standard error" or may_be_ignored(call, locks_at) or tried_again:
+    tried_again = way == "EINTR" and call.name in TRIED_AGAIN
+    if call.on == "standard error" or may_be_ignored(call) or tried_again:
         return (done,)
     return (STATUSES[call.on], done) if way == "EINTR" else (STATUSES[call.on],)
 
@@ -109,7 +108,6 @@ class Failing:
         self.room, self.use = room, use
         self.before, self.after = room.states(use)
         self.calls = made(room, use)
-        self.locks_at = next((call.at for call in self.calls if call.on == "store" and call.name == "openat"), 0)
         self.seen = set()
 
     def tries(self, short):
@@ -127,7 +125,7 @@ class Failing:
             raise Failed("the call isn't made")
         if call.place not in failed[0]:
             raise Failed(f"another call is made: {failed[0]}")
-        allowed = endings(self.use, call, way, self.locks_at)
+        allowed = endings(self.use, call, way)
         if status not in allowed:
             raise Failed(f"it ends with {status} {shortened(told)}, and not {' or '.join(map(str, allowed))}")
         if status in LINES:
