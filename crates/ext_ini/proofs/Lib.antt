@@ -1,0 +1,5 @@
+pub mod SectionsLemmas
+pub mod TakingLemmas
+pub mod ReadingLemmas
+pub mod AscendLemmas
+pub mod RefusedLemmas

@@ -1,0 +1,10 @@
+pub mod Wildcard
+pub mod Literal
+pub mod Part
+pub mod Pattern
+pub mod Reading
+pub mod Faults
+pub mod Matching
+pub mod Filling
+pub mod Following
+pub mod Laws

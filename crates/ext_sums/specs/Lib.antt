@@ -1,0 +1,6 @@
+pub mod Entry
+pub mod Sums
+pub mod Manifest
+pub mod Merging
+pub mod Reading
+pub mod Laws
