@@ -1,5 +1,7 @@
 // The search itself.
 ghost use Rattle.std.specs.Prelude.{◌≡◌, ◌+◌, map, length, IfOk, OnOk};
+ghost use Rattle.std.specs.BTreeMap.{IsOrdered};
+ghost use Rattle.ext_vers.specs.Version.{order_of};
 ghost use Rattle.ext_find.specs.Directories.{Opens};
 ghost use Rattle.ext_find.specs.Found.{AreFound};
 ghost use Rattle.ext_find.specs.Keeps.{Keeps, KeepsToo, before};
@@ -15,11 +17,12 @@ use crate::usable::usable_at;
 use ext_text::{Arch, Class, ListOf, Names, OutOfMemory, PathRef};
 use ext_tree::Tree;
 use ext_walk::next_name;
-use indexmap::IndexMap;
 use std::alloc::Global;
+use std::collections::BTreeMap;
 
-// What was found so far: of each stem the first usable entry.
-type Kept = IndexMap<Stem, FoundImage>;
+// What was found so far: of each stem the first usable entry. The order of the stems finds one, and no hash, since whoever
+// names images could choose names of one hash.
+type Kept = BTreeMap<Stem, FoundImage>;
 
 /// The images of a class that a host has, with its masks and its images in files, in the order of versions of the names.
 ///
@@ -48,7 +51,8 @@ type Kept = IndexMap<Stem, FoundImage>;
 /// After systemd-sysext(8), systemd-confext(8), portablectl(1) and systemd.v(7). The order of the directories of the last
 /// two classes, the order within a directory, and what those pages are silent on, are this project's own choice.
 ///
-/// The work grows with the names in the search directories and with what is looked at in each image, times logarithms.
+/// The work grows with the names in the search directories and with what is looked at in each image, times logarithms,
+/// whatever the names are.
 ///
 /// # Errors
 /// `OutOfMemory` alone.
@@ -68,11 +72,10 @@ pub fn find<C: Measured>(
         arch,
         hierarchies,
     };
-    let mut kept = IndexMap::new(alloc);
+    let mut kept = BTreeMap::new(alloc);
     'directories: for index in 0..count_of_directories(class) {
         keep_directory(&search, index, &mut kept)?;
     }
-    kept.sort_keys()?;
     items_of(alloc, kept)
 }
 
@@ -137,7 +140,7 @@ fn keep_item(kept: &mut Kept, item: Option<FoundItem>) -> Result<(), OutOfMemory
                     kind,
                     release,
                 };
-                kept.insert(stem, found_image)?;
+                let _ = kept.insert(stem, found_image)?;
             }
             Ok(())
         }
@@ -146,7 +149,8 @@ fn keep_item(kept: &mut Kept, item: Option<FoundItem>) -> Result<(), OutOfMemory
 
 // The items that were kept, in their order.
 fn items_of(alloc: Global, kept: Kept) -> Result<Found, OutOfMemory>
-    ensures { IfOk result (λ items. items ≡ map (λ e. item_with e.0 e.1) kept.entries) }
+    ensures items { IfOk result (λ items. items ≡ map (λ e. item_with e.0 e.1) kept.entries) }
+    ensures ordered { IsOrdered order_of kept }
 {
     let items = kept
         .into_iter()

@@ -3,7 +3,6 @@ ghost use Rattle.std.specs.Prelude.{◌≡◌};
 
 use ext_text::Name;
 use std::cmp::Ordering;
-use std::hash::{Hash, Hasher};
 use std::marker::Model;
 
 // The name of an item. Names are ordered as versions are. Contracts see it as its bytes.
@@ -85,19 +84,5 @@ impl Ord for Stem {
 
     fn cmp(&self, other: &Stem) -> Ordering {
         ext_vers::order(self.name.bytes(), other.name.bytes())
-    }
-}
-
-impl Hash for Stem {
-    ghost use Rattle.std.specs.Cmp.Rules.{hashing};
-    ghost use Rattle.std.specs.Hash as fed;
-    ghost use Rattle.std.proofs.Common.{rules};
-
-    ghost hash_input = { λ s. fed.slice fed.u8 s };
-
-    ghost respects_eq = { Prim.search (hashing, rules) };
-
-    fn hash<H: Hasher>(&self, state: &mut H) {
-        self.name.hash(state);
     }
 }

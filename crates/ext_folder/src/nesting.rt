@@ -9,7 +9,7 @@ use std::fs::{Files, Metadata};
 use std::os::unix::fs::MetadataExt;
 use std::{fs, io};
 
-// How many folders above one are looked at: a path of the system has no more names.
+// How many folders above one are looked at. Each look takes three bytes more, and the system refuses a path of 4,096.
 const MOST_FOLDERS: u32 = 2048;
 
 /// How a folder of the system stands to another one.

@@ -26,3 +26,9 @@ pub use Rattle.ext_gen.proofs.DurableLemmas.{AreFixed, durably_is_fixed, fixed_i
 pub use Rattle.ext_gen.proofs.DurableLemmas.{durably_unchanged, durably_kept, keeps_durably_itself, keeps_durably_then}
 -- what stops leave of a durable store, of more states, and of two stretches
 pub use Rattle.ext_gen.proofs.DurableLemmas.{durably_since, stands_since_wider, stands_since_then}
+-- at most so many left-overs are gone where nothing changed, where few stood, and where so many are
+pub use Rattle.ext_gen.proofs.PreparingLeftLemmas.{few_same, few_stood, few_lost}
+-- the name of a generation that is needed is no left-over's
+pub use Rattle.ext_gen.proofs.PreparingChangeLemmas.{needed_not_left}
+-- the generation before is needed
+pub use Rattle.ext_gen.proofs.PreparingFilesLemmas.{before_needed}

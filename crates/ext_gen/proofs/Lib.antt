@@ -21,6 +21,7 @@ pub mod CommittingLemmas
 pub mod PointsLemmas
 pub mod OpeningLemmas
 pub mod CheckingLemmas
+pub mod VerifiedLemmas
 pub mod OpenedLemmas
 pub mod ChangesLemmas
 pub mod ForCallers

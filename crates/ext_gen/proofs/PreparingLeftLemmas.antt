@@ -39,16 +39,16 @@ all_left left d e [] all = tt
 all_left left d e (p ∷ ps) all = ((and_parts (left p) (not (is_some (e p).node)) all.0).0, all.1, all_left left d e ps all.2)
 
 -- where nothing changed
-few_same : (left : List (List ℕ) → Bool) (d : Places) → FewGone left d d
+pub few_same : (left : List (List ℕ) → Bool) (d : Places) → FewGone left d d
 few_same left d [] stand = omega arith
 few_same left d (p ∷ ps) stand = absurd (not_both (is_some (d p).node) (and_parts (left p) (not (is_some (d p).node)) stand.all.0).1 stand.all.1)
 
 -- where few stood
-few_stood : (left : List (List ℕ) → Bool) (d e : Places) → AtMost most_left_overs left d → FewGone left d e
+pub few_stood : (left : List (List ℕ) → Bool) (d e : Places) → AtMost most_left_overs left d → FewGone left d e
 few_stood left d e few ps stand = few ps (record { distinct = stand.distinct; all = all_left left d e ps stand.all })
 
 -- where so many are gone
-few_lost : (left : List (List ℕ) → Bool) (count : ℕ → Type 0) (d e : Places) → ((n : ℕ) → count n → n ≤ most_left_overs) → Loses left d e count → FewGone left d e
+pub few_lost : (left : List (List ℕ) → Bool) (count : ℕ → Type 0) (d e : Places) → ((n : ℕ) → count n → n ≤ most_left_overs) → Loses left d e count → FewGone left d e
 few_lost left count d e bound loses ps stand =
     omega (arith, bound (length loses.0) loses.2, distinct_no_more ps loses.0 stand.distinct (λ q is. here q (stands_in (is_gone left e) d q ps stand.all is) (cases_Bool (is_one_of q loses.0))))
   where

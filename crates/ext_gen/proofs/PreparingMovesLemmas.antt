@@ -119,7 +119,3 @@ one_folder n files j (Some d) below are = are j below
 
 pub works_nowhere_then : (r s t : DiskState) → Works nowhere nowhere 0 r s → Works nowhere nowhere 0 s t → Works nowhere nowhere 0 r t
 works_nowhere_then r s t one two = works_then nowhere nowhere 0 0 0 r s t (omega arith) one two
-
-pub on_ok : {T E : Type 0} (r : Result T E) (P Q : Type 0) → (P → Q) → OnOk r P → OnOk r Q
-on_ok (Ok t) P Q gives is = gives is
-on_ok (Err e) P Q gives is = tt

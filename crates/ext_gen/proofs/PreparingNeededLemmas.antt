@@ -3,6 +3,7 @@ use Rattle.std.proofs.Common.{◌≡◌, ℕ, ◌+◌, ◌<◌, Bool, true, fals
 use Rattle.std.specs.List.{list_any}
 use Rattle.ext_host.specs.declared.past.Past.{Past}
 use Rattle.ext_gen.specs.Preparing.{has_file_in, trees_of_pasts}
+use Rattle.ext_store_files.proofs.ForCallers.{any_append}
 use Rattle.ext_gen.proofs.PreparingListLemmas.{one_more}
 
 or_parts : (a b c : Bool) → ((a || b) || c) ≡ (a || (b || c))
@@ -12,10 +13,6 @@ or_parts false b c = refl
 pub or_none : (b : Bool) → (b || false) ≡ b
 or_none true = refl
 or_none false = refl
-
-any_append : {X : Type 0} (f : X → Bool) (xs ys : List X) → list_any f (xs ++ ys) ≡ (list_any f xs || list_any f ys)
-any_append f [] ys = refl
-any_append f (x ∷ xs) ys = ap (λ b. f x || b) (any_append f xs ys) ∙ sym (or_parts (f x) (list_any f xs) (list_any f ys))
 
 -- with those of one entry more
 pub any_more : {X : Type 0} (f : X → Bool) (xs : List X) (i : ℕ) (x : X) (start mid new : Bool) → i < length xs → x ≡ get_or xs i x → mid ≡ (start || list_any f (take i xs)) → new ≡ (mid || f x)

@@ -110,7 +110,7 @@ before_home (Some g) opened stamp home is =
     let within = opened_home g opened (record { stamp = stamp; body = Kept home }) home is refl in
     (record { first = within.first; last = omega (arith, within.last); file = within.file }, omega (arith, within.last))
 
-same_home : (a b : Home) → Kept a ≡ Kept b → a ≡ b
+pub same_home : (a b : Home) → Kept a ≡ Kept b → a ≡ b
 same_home a b same = ap home_in same
   where
     home_in : Body → Home
@@ -118,7 +118,7 @@ same_home a b same = ap home_in same
     home_in (Kept home) = home
     home_in (Depot path) = a
 
-get_within : (xs : List (List ℕ)) (k : ℕ) (x : List ℕ) → slice_get xs k ≡ Some x → k < length xs
+pub get_within : (xs : List (List ℕ)) (k : ℕ) (x : List ℕ) → slice_get xs k ≡ Some x → k < length xs
 get_within [] k x is = absurd (false≢true (ap is_some is))
 get_within (y ∷ xs) zero x is = omega arith
 get_within (y ∷ xs) (suc k) x is = let below = get_within xs k x is in omega arith

@@ -35,7 +35,7 @@ use Rattle.ext_gen.proofs.PointsLemmas.{one_generation}
 use Rattle.ext_gen.proofs.StatesLemmas.{stands_points}
 use Rattle.ext_gen.proofs.PreparingChangeLemmas.{needed_not_left, not_next, one_number}
 use Rattle.ext_gen.proofs.PreparingFilesLemmas.{before_needed, file_needed, no_file_of_none, opened_home}
-use Rattle.ext_gen.proofs.PreparingOpenedLemmas.{IsFrom, before, coming, before_home, coming_is, host_from}
+use Rattle.ext_gen.proofs.PreparingOpenedLemmas.{IsFrom, before, coming, before_home, coming_is, get_within, host_from, same_home}
 
 -- the state before rests on nothing that is removed or written
 base_out : (s : State) (p : List (List ℕ)) → IfSome (generation_in s) IsOpened → IsGenerationPath s p → is_left (generation_in s) p ≡ false
@@ -111,19 +111,6 @@ record IsThere (n : ℕ) (written : List (List ℕ)) (s : State) (e : Places) (h
   stamped : IsStampOf (contents_after n written s home) held.stamp
   durable : is_durable e (home_path home.generation home.file) ≡ true
 
-same_kept : (a b : Home) → Kept a ≡ Kept b → a ≡ b
-same_kept a b same = ap home_in same
-  where
-    home_in : Rattle.ext_host.specs.declared.body.Body.Body → Home
-    home_in (Rattle.ext_host.specs.declared.body.Body.TheVariants.Here bytes) = a
-    home_in (Kept home) = home
-    home_in (Rattle.ext_host.specs.declared.body.Body.TheVariants.Depot path) = a
-
-get_within : (xs : List (List ℕ)) (k : ℕ) (x : List ℕ) → slice_get xs k ≡ Some x → k < length xs
-get_within [] k x is = absurd (false≢true (ap is_some is))
-get_within (y ∷ xs) zero x is = omega arith
-get_within (y ∷ xs) (suc k) x is = let below = get_within xs k x is in omega arith
-
 -- of the state before
 old_there : (s : State) (n : ℕ) (written : List (List ℕ)) (e : Places) (held : HeldFile) (home : Home) → IfSome (generation_in s) IsOpened → n ≡ coming_number (generation_in s) → IsDurably s e
     → lists_kept (trees_before (host_before (generation_in s))) held.stamp home → IsThere n written s e held home
@@ -152,9 +139,9 @@ new_there s n host written e held k bytes complete get stamp =
 all_there : (s : State) (n : ℕ) (host : Host) (written : List (List ℕ)) (e : Places) (held : HeldFile) (home : Home) → IfSome (generation_in s) IsOpened → n ≡ coming_number (generation_in s) → IsDurably s e
     → IsComplete n written (coming_index n host) e → held.body ≡ Kept home → IsFrom (lists_kept (trees_before (host_before (generation_in s)))) n written held → IsThere n written s e held home
 all_there s n host written e held home opened number durably complete body (before other is listed) =
-    old_there s n written e held home opened number durably (subst (lists_kept (trees_before (host_before (generation_in s))) held.stamp) (same_kept other home (sym is ∙ body)) listed)
+    old_there s n written e held home opened number durably (subst (lists_kept (trees_before (host_before (generation_in s))) held.stamp) (same_home other home (sym is ∙ body)) listed)
 all_there s n host written e held home opened number durably complete body (coming k bytes is get stamp) =
-    subst (IsThere n written s e held) (same_kept (record { generation = n; file = k }) home (sym is ∙ body)) (new_there s n host written e held k bytes complete get stamp)
+    subst (IsThere n written s e held) (same_home (record { generation = n; file = k }) home (sym is ∙ body)) (new_there s n host written e held k bytes complete get stamp)
 
 -- where each file of the coming host comes from
 abbrev FilesFrom : Option Generation → ℕ → List (List ℕ) → Host → Type 0

@@ -6,6 +6,7 @@ use Rattle.ext_disk.specs.Calls.{Allows, Call, IsWithin, Does, DoesTold, MayCall
 use Rattle.ext_disk.specs.Since.{Since}
 use Rattle.ext_store_files.specs.Names.{current_path}
 use Rattle.ext_store_files.specs.Writing.{WorksTold}
+use Rattle.ext_store_files.proofs.ForCallers.{still_synced}
 use Rattle.ext_gen.specs.Store.{State, Stands}
 use Rattle.ext_gen.specs.Sound.{IsBaseDurable, IsDurably, StandsSince}
 use Rattle.ext_gen.proofs.StatesLemmas.{stands_same}
@@ -17,10 +18,6 @@ node_synced false x = refl
 unsynced_bytes_synced : (b : Bool) (x : Place) → (cond b (synced x) x).unsynced_bytes ≡ x.unsynced_bytes
 unsynced_bytes_synced true x = refl
 unsynced_bytes_synced false x = refl
-
-still_synced : (b : Bool) (x : Place) → is_synced x ≡ true → is_synced (cond b (synced x) x) ≡ true
-still_synced true x is = refl
-still_synced false x is = is
 
 -- the same stands there
 pub now_synced : (dir : List (List ℕ)) (d : Places) (p : List (List ℕ)) → (synced_in dir d p).node ≡ (d p).node

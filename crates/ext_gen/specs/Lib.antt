@@ -6,6 +6,7 @@ pub mod Broken
 pub mod Opening
 pub mod Committing
 pub mod Checking
+pub mod Verified
 pub mod PreparingIndex
 pub mod PreparingPaths
 pub mod PreparingStages

@@ -16,6 +16,7 @@ mod opening;
 mod prepared;
 mod preparing;
 mod syncing;
+mod verified;
 
 pub use checking::check;
 pub use committing::commit;

@@ -2,14 +2,13 @@
 use Rattle.std.proofs.Common.{◌≡◌, ◌≢◌, ℕ, ◌-◌, ◌*◌, ◌/◌, ◌%◌, ◌^◌, ◌<◌, Bool, true, false, not, List, [], ◌∷◌, ◌++◌, length, take, drop, get_or, refl, sym, ap, ◌∙◌, subst, arith}
 use Rattle.std.specs.Str.Parse.{digits_value}
 use Rattle.std.proofs.lemmas.Bool.{false≢true, and_parts}
-use Rattle.std.proofs.lemmas.Fmt.{decimal_is_IsNumeral}
 use Rattle.ext_lines.specs.Hexadecimal.{five_digits, hex_digit}
 use Rattle.ext_lines.proofs.ForCallers.{five_injective}
 use Rattle.ext_text.specs.Path.{is_prefix}
 use Rattle.ext_text.proofs.ForCallers.{prefix_first, prefix_self, prefix_whole, same_path}
 use Rattle.ext_store_files.specs.Names.{generation_name, generation_path, home_folder, home_path}
 use Rattle.ext_store_files.specs.Writing.{is_at}
-use Rattle.ext_store_files.proofs.ForCallers.{proper_append, rest_of}
+use Rattle.ext_store_files.proofs.ForCallers.{name_value, proper_append, rest_of}
 use Rattle.ext_homes.specs.Written.{is_below}
 
 pub outside : (a b : Bool) → (a ≡ true → b ≡ true) → b ≡ false → a ≡ false
@@ -65,9 +64,6 @@ same_folder n k high inside =
 
 pub home_no_folder : (n j k : ℕ) → home_path n j ≢ home_folder n k
 home_no_folder n j k same = let long = ap length same in absurd (omega arith)
-
-name_value : (n : ℕ) → n < 2 ^ 32 → digits_value 10 (drop 2 (generation_name n)) ≡ n
-name_value n small = (decimal_is_IsNumeral n (omega arith)).1
 
 pub one_generation_name : (m n : ℕ) → m < 2 ^ 32 → n < 2 ^ 32 → generation_name m ≡ generation_name n → m ≡ n
 one_generation_name m n low high same = sym (name_value m low) ∙ ap (λ (l : List ℕ). digits_value 10 (drop 2 l)) same ∙ name_value n high

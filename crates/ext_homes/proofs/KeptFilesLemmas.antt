@@ -1,19 +1,24 @@
 -- The files that a host keeps: which they are, and how a search finds those of a stamp.
-use Rattle.std.proofs.Common.{◌≡◌, ◌≢◌, ◌⊎◌, ℕ, zero, suc, ◌<◌, ◌≤◌, Bool, true, false, cond, not, List, [], ◌∷◌, length, take, drop, get_or, Some, if◌then◌else◌, refl, sym, ap, ◌∙◌, subst, inl, inr, arith}
-use Rattle.std.specs.Cmp.{IsTotalOrder}
-use Rattle.std.specs.List.{AllByRecursion, AllWithin, Contains, filter, flat_map}
-use Rattle.std.specs.List.Sorted.{IsPartitionedBy, IsPartitionPoint, IsPermutation, IsSorted}
-use Rattle.std.specs.Ordering.{ordering_then, ordering_reverse, is_eq, is_lt, eq_by_cmp}
+use Rattle.std.proofs.Common.{◌≡◌, ◌≢◌, ◌⊎◌, ℕ, zero, suc, ◌+◌, ◌<◌, ◌≤◌, Bool, true, false, cond, not, eqb, ◌&&◌, List, [], ◌∷◌, ◌++◌, length, take, drop, get_or, Some, if◌then◌else◌, refl, sym, ap, ◌∙◌, subst, inl, inr, arith, append_assoc}
+use Rattle.std.specs.Cmp.{IsEquivalence, IsTotalOrder, tied_then, unsigned_ties}
+use Rattle.std.specs.Cmp.Lexicographic.{pointwise, slice_cmp, texts_ties}
+use Rattle.std.specs.List.{AllByRecursion, AllWithin, Contains, dedup, filter, flat_map}
+use Rattle.std.specs.List.Sorted.{IsPartitionedBy, IsPartitionPoint, IsPermutation, IsSorted, IsStrictlySortedBy}
+use Rattle.std.specs.Ordering.{nat_cmp, ordering_then, ordering_reverse, is_eq, is_lt, eq_by_cmp}
 use Rattle.std.specs.declared.cmp.Ordering.{Ordering}
 use Rattle.std.specs.declared.cmp.Ordering.TheVariants.{Less, Equal, Greater}
 use Rattle.std.specs.Option.{is_some}
-use Rattle.std.proofs.lemmas.Bool.{false≢true, cond-false, not-true}
+use Rattle.std.proofs.lemmas.Bool.{false≢true, and_parts, cond-false, eqb-true, not-true}
+use Rattle.std.proofs.lemmas.Grind.{flat_map-append}
+use Rattle.std.proofs.lemmas.List.{append-nil, take_more}
 use Rattle.std.proofs.lemmas.Option.{slice_get_read}
-use Rattle.std.proofs.lemmas.Cmp.{on_total, then_total, lists_total, nat_cmp_total, alike_right, tied_back}
-use Rattle.std.proofs.lemmas.List.Elements.{Contains-append_cases, Contains-append_left, Contains-append_right, All-contains, All-from_recursion, recursion_from_All}
-use Rattle.std.proofs.lemmas.List.Sorted.{Contains-permutation, IsPermutation-sym, ranks_by, sorted_far}
+use Rattle.std.proofs.lemmas.Cmp.{on_total, then_total, lists_total, nat_cmp_total, alike_right, eq_by_cmp_equiv, tied_back}
+use Rattle.std.proofs.lemmas.List.Kept.{Contains-dedup, Contains-from_dedup, IsStrictlySortedBy-dedup}
+use Rattle.std.proofs.lemmas.List.Elements.{Contains-append_cases, Contains-append_left, Contains-append_right, All-contains, All-from_recursion}
+use Rattle.std.proofs.lemmas.List.Sorted.{Contains-permutation, IsPermutation-sym}
 use Rattle.ext_text.specs.Order.{paths_total}
 use Rattle.ext_text.specs.Path.{path_cmp}
+use Rattle.ext_text.proofs.ForCallers.{is_equal, is_less}
 use Rattle.ext_tree.specs.Tree.{Entries, IsTree, lookup}
 use Rattle.ext_tree.specs.declared.entry.Entry.{Entry}
 use Rattle.ext_tree.specs.declared.entry.Entry.TheVariants.{Dir, Opaque, File, Link, Hide}
@@ -24,8 +29,9 @@ use Rattle.ext_host.specs.Held.{HeldFile}
 use Rattle.ext_host.specs.declared.body.Body.{Body}
 use Rattle.ext_host.specs.declared.body.Body.TheVariants.{Here, Kept, Depot}
 use Rattle.ext_host.specs.declared.home.Home.{Home}
+use Rattle.ext_host.specs.declared.past.Past.{Past}
 use Rattle.ext_homes.specs.Placed.{home_cmp}
-use Rattle.ext_homes.specs.KeptFiles.{AreInOrder, AreKept, body_kept, entry_kept, file_stamp, has_stamp, home_key_cmp, home_of, is_before, kept_cmp, kept_file, stamp_key_cmp, tree_kept, trees_kept}
+use Rattle.ext_homes.specs.KeptFiles.{AreInOrder, AreKept, HaveSame, past_trees, body_kept, entry_kept, file_stamp, has_stamp, home_key_cmp, home_of, is_before, kept_cmp, kept_file, stamp_key_cmp, tree_kept, trees_kept}
 use Rattle.ext_homes.specs.declared.kept_files.HomeKey.{HomeKey}
 use Rattle.ext_homes.specs.declared.kept_files.KeptFile.{KeptFile}
 use Rattle.ext_homes.specs.declared.kept_files.StampKey.{StampKey}
@@ -102,18 +108,74 @@ in_tree sought es stamp home is file =
     flat_in (λ (e : List (List ℕ) × Entry HeldFile). entry_kept sought e.1) es (at.0, File file.mode (as_held stamp (Kept home))) (kept_file stamp home) at.1 here
 
 -- the files that trees keep, in any order
-pub kept_by_trees : (sought : Stamp → Bool) (trees : List (Entries HeldFile)) (files sorted : List KeptFile) → AllByRecursion (λ es. IsTree es) trees → files ≡ trees_kept sought trees → IsPermutation files sorted
-    → AreKept trees sought sorted
-kept_by_trees sought trees files sorted are is moved = record {
+pub kept_by_trees : (sought : Stamp → Bool) (trees : List (Entries HeldFile)) (files : List KeptFile) → AllByRecursion (λ es. IsTree es) trees → HaveSame (trees_kept sought trees) files → AreKept trees sought files
+kept_by_trees sought trees files are same = record {
   each = λ stamp home among.
-      let at = in_flat (tree_kept sought) trees (kept_file stamp home) (subst (λ l. Contains l (kept_file stamp home)) is (Contains-permutation sorted files (kept_file stamp home) (IsPermutation-sym files sorted moved) among)) in
+      let at = in_flat (tree_kept sought) trees (kept_file stamp home) ((same (kept_file stamp home)).1 among) in
       record { tree = at.0; among = at.1; file = of_tree sought at.0 (kept_file stamp home) (All-contains (λ es. IsTree es) trees at.0 (All-from_recursion (λ es. IsTree es) trees are) at.1) at.2 };
   all = λ stamp home wanted file.
-      Contains-permutation files sorted (kept_file stamp home) moved
-      (subst (λ l. Contains l (kept_file stamp home)) (sym is) (flat_in (tree_kept sought) trees file.tree (kept_file stamp home) file.among (in_tree sought file.tree stamp home wanted file.file)));
+      (same (kept_file stamp home)).0 (flat_in (tree_kept sought) trees file.tree (kept_file stamp home) file.among (in_tree sought file.tree stamp home wanted file.file));
 }
 
-stamps_total : IsTotalOrder stamp_key_cmp
+-- lists of the same files
+pub have_itself : (xs : List KeptFile) → HaveSame xs xs
+have_itself xs f = (λ among. among, λ among. among)
+
+pub have_then : (xs ys zs : List KeptFile) → HaveSame xs ys → HaveSame ys zs → HaveSame xs zs
+have_then xs ys zs one two f = (λ among. (two f).0 ((one f).0 among), λ among. (one f).1 ((two f).1 among))
+
+pub have_more : (xs ys zs : List KeptFile) → HaveSame xs ys → HaveSame (xs ++ zs) (ys ++ zs)
+have_more xs ys zs same f = (joined xs ys (λ among. (same f).0 among), joined ys xs (λ among. (same f).1 among))
+  where
+    joined : (us vs : List KeptFile) → (Contains us f → Contains vs f) → Contains (us ++ zs) f → Contains (vs ++ zs) f
+    joined us vs moves among = elim (Contains-append_cases us zs f among) [
+      | inl first ↦ Contains-append_left vs zs f (moves first)
+      | inr second ↦ Contains-append_right vs zs f second
+    ]
+
+-- so they are where two lists are added one after another
+pub have_two : (start xs rs ls one two three : List KeptFile) → HaveSame (start ++ xs) one → HaveSame (one ++ rs) two → HaveSame (two ++ ls) three → HaveSame (start ++ ((xs ++ rs) ++ ls)) three
+have_two start xs rs ls one two three first second third =
+    let joined : ((start ++ xs) ++ rs) ++ ls ≡ start ++ ((xs ++ rs) ++ ls) = ap (λ l. l ++ ls) (append_assoc start xs rs) ∙ append_assoc start (xs ++ rs) ls in
+    subst (λ l. HaveSame l three) joined
+    (have_then (((start ++ xs) ++ rs) ++ ls) (two ++ ls) three
+    (have_more ((start ++ xs) ++ rs) two ls (have_then ((start ++ xs) ++ rs) (one ++ rs) two (have_more (start ++ xs) one rs first) second)) third)
+
+-- those of one past tree more
+pub past_more : (sought : Stamp → Bool) (past : List Past) (i : ℕ) (tree : Past) → i < length past → tree ≡ get_or past i tree
+    → trees_kept sought (past_trees (take (i + 1) past)) ≡ (trees_kept sought (past_trees (take i past)) ++ tree_kept sought tree.root) ++ tree_kept sought tree.lower
+past_more sought past i tree lt is =
+    let p = get_or past i tree in
+    let before = trees_kept sought (past_trees (take i past)) in
+    ap (λ l. trees_kept sought (past_trees l)) (take_more past i tree lt)
+    ∙ ap (trees_kept sought) (flat_map-append (λ (tree : Past). tree.root ∷ tree.lower ∷ []) (take i past) (p ∷ []))
+    ∙ flat_map-append (tree_kept sought) (past_trees (take i past)) (past_trees (p ∷ []))
+    ∙ ap (λ l. before ++ (tree_kept sought p.root ++ l)) (append-nil (tree_kept sought p.lower))
+    ∙ sym (append_assoc before (tree_kept sought p.root) (tree_kept sought p.lower))
+    ∙ ap (λ (q : Past). (before ++ tree_kept sought q.root) ++ tree_kept sought q.lower) (sym is)
+
+all_joined : (xs ys : List (Entries HeldFile)) → AllByRecursion (λ es. IsTree es) xs → AllByRecursion (λ es. IsTree es) ys → AllByRecursion (λ es. IsTree es) (xs ++ ys)
+all_joined [] ys first second = second
+all_joined (x ∷ xs) ys first second = (first.0, all_joined xs ys first.1 second)
+
+-- its trees are trees
+pub past_are : (past : List Past) (i : ℕ) (tree : Past) → i < length past → tree ≡ get_or past i tree → AllByRecursion (λ es. IsTree es) (past_trees (take i past)) → IsTree tree.root → IsTree tree.lower
+    → AllByRecursion (λ es. IsTree es) (past_trees (take (i + 1) past))
+past_are past i tree lt is before root lower =
+    let p = get_or past i tree in
+    let trees : List (Entries HeldFile) → Type 0 = AllByRecursion (λ es. IsTree es) in
+    let both : trees (p.root ∷ p.lower ∷ []) = subst (λ (q : Past). trees (q.root ∷ q.lower ∷ [])) is (root, (lower, tt)) in
+    subst trees (sym (ap past_trees (take_more past i tree lt) ∙ flat_map-append (λ (q : Past). q.root ∷ q.lower ∷ []) (take i past) (p ∷ [])))
+    (all_joined (past_trees (take i past)) (p.root ∷ p.lower ∷ []) before both)
+
+-- those of all trees of a host
+pub have_host : (start rs ls ps one two three : List KeptFile) → start ≡ [] → HaveSame (start ++ rs) one → HaveSame (one ++ ls) two → HaveSame (two ++ ps) three → HaveSame (rs ++ (ls ++ ps)) three
+have_host start rs ls ps one two three none first second third =
+    let begun : HaveSame rs one = subst (λ l. HaveSame (l ++ rs) one) none first in
+    subst (λ l. HaveSame l three) (append_assoc rs ls ps)
+    (have_then ((rs ++ ls) ++ ps) (two ++ ps) three (have_more (rs ++ ls) two ps (have_then (rs ++ ls) (one ++ ls) two (have_more rs one ls begun) second)) third)
+
+pub stamps_total : IsTotalOrder stamp_key_cmp
 stamps_total = then_total (on_total (λ (k : StampKey). k.size) nat_cmp_total) (on_total (λ (k : StampKey). k.digest) (lists_total nat_cmp_total))
 
 homes_total : IsTotalOrder home_key_cmp
@@ -127,16 +189,66 @@ abbrev pub AreSorted : List KeptFile → Type 0
 AreSorted [] = Unit {0}
 AreSorted (f ∷ files) = AllByRecursion (λ g. is_lt (kept_cmp g f) ≡ false) files × AreSorted files
 
-far_sorted : (files : List KeptFile) → ((i j : ℕ) (d : KeptFile) → i ≤ j → j < length files → is_lt (kept_cmp (get_or files j d) (get_or files i d)) ≡ false) → AreSorted files
-far_sorted [] far = tt
-far_sorted (f ∷ files) far = (
-  recursion_from_All (λ g. is_lt (kept_cmp g f) ≡ false) files (λ k d lt. far zero (suc k) d (omega arith) (omega arith)),
-  far_sorted files (λ i j d le lt. far (suc i) (suc j) d (omega arith) (omega arith)),
-)
+later_files : (f : KeptFile) (files : List KeptFile) → AllByRecursion (λ g. kept_cmp f g ≡ Less) files → AllByRecursion (λ g. is_lt (kept_cmp g f) ≡ false) files
+later_files f [] all = tt
+later_files f (g ∷ files) all = (ap is_lt (kept_total.antisymm g f ∙ ap ordering_reverse all.0), later_files f files all.1)
 
 -- as a sort leaves them
-pub sorted_files : (files : List KeptFile) → IsSorted kept_cmp files → AreSorted files
-sorted_files files order = far_sorted files (sorted_far (λ x y. is_lt (kept_cmp x y)) (ranks_by kept_total (λ (g : KeptFile). g)) files order)
+pub sorted_files : (files : List KeptFile) → IsStrictlySortedBy kept_cmp files → AreSorted files
+unfolding IsStrictlySortedBy
+sorted_files [] order = tt
+sorted_files (f ∷ files) order = (later_files f files order.0, sorted_files files order.1)
+
+stamps_tied : (a b : StampKey) → (eqb a.size b.size && pointwise eqb a.digest b.digest) ≡ eq_by_cmp stamp_key_cmp a b
+stamps_tied a b = (λ i. unsigned_ties a.size b.size i && texts_ties a.digest b.digest i) ∙ tied_then (nat_cmp a.size b.size) (slice_cmp nat_cmp a.digest b.digest)
+
+homes_tied : (a b : HomeKey) → (eqb a.generation b.generation && eqb a.file b.file) ≡ eq_by_cmp home_key_cmp a b
+homes_tied a b = (λ i. unsigned_ties a.generation b.generation i && unsigned_ties a.file b.file i) ∙ tied_then (nat_cmp a.generation b.generation) (nat_cmp a.file b.file)
+
+-- whether two kept files are the same
+abbrev same_file : KeptFile → KeptFile → Bool
+same_file a b = (eqb a.stamp.size b.stamp.size && pointwise eqb a.stamp.digest b.stamp.digest) && (eqb a.home.generation b.home.generation && eqb a.home.file b.home.file)
+
+files_tied : (a b : KeptFile) → same_file a b ≡ eq_by_cmp kept_cmp a b
+files_tied a b = (λ i. stamps_tied a.stamp b.stamp i && homes_tied a.home b.home i) ∙ tied_then (stamp_key_cmp a.stamp b.stamp) (home_key_cmp a.home b.home)
+
+equal_bytes : (xs ys : List ℕ) → pointwise eqb xs ys ≡ true → xs ≡ ys
+equal_bytes [] [] same = refl
+equal_bytes [] (y ∷ ys) same = absurd (false≢true same)
+equal_bytes (x ∷ xs) [] same = absurd (false≢true same)
+equal_bytes (x ∷ xs) (y ∷ ys) same =
+    let parts = and_parts (eqb x y) (pointwise eqb xs ys) same in
+    λ i. eqb-true x y parts.0 i ∷ equal_bytes xs ys parts.1 i
+
+equal_files : (a b : KeptFile) → same_file a b ≡ true → a ≡ b
+equal_files a b same =
+    let both = and_parts (eqb a.stamp.size b.stamp.size && pointwise eqb a.stamp.digest b.stamp.digest) (eqb a.home.generation b.home.generation && eqb a.home.file b.home.file) same in
+    let stamps = and_parts (eqb a.stamp.size b.stamp.size) (pointwise eqb a.stamp.digest b.stamp.digest) both.0 in
+    let homes = and_parts (eqb a.home.generation b.home.generation) (eqb a.home.file b.home.file) both.1 in
+    let digests = equal_bytes a.stamp.digest b.stamp.digest stamps.1 in
+    λ i. record {
+      stamp = record { size = eqb-true a.stamp.size b.stamp.size stamps.0 i; digest = digests i };
+      home = record { generation = eqb-true a.home.generation b.home.generation homes.0 i; file = eqb-true a.home.file b.home.file homes.1 i };
+    }
+
+files_alike : IsEquivalence same_file
+files_alike =
+    let alike = eq_by_cmp_equiv kept_total in
+    record {
+      refl = λ a. files_tied a a ∙ alike.refl a;
+      symm = λ a b. files_tied a b ∙ alike.symm a b ∙ sym (files_tied b a);
+      congr = λ a b c same. files_tied a c ∙ alike.congr a b c (sym (files_tied a b) ∙ same) ∙ sym (files_tied b c);
+    }
+
+-- sorted, each file stands once
+pub once_sorted : (files : List KeptFile) → IsSorted kept_cmp files → IsStrictlySortedBy kept_cmp (dedup same_file files)
+once_sorted files order = IsStrictlySortedBy-dedup kept_total files_tied files order
+
+pub once_same : (files sorted : List KeptFile) → IsPermutation files sorted → HaveSame files (dedup same_file sorted)
+once_same files sorted moved f = (
+  λ among. Contains-dedup files_alike equal_files sorted f (Contains-permutation files sorted f moved among),
+  λ among. Contains-permutation sorted files f (IsPermutation-sym files sorted moved) (Contains-from_dedup same_file sorted f among),
+)
 
 -- of two files in their order, the stamp of the first is less or the same
 not_after : (f g : KeptFile) → is_lt (kept_cmp g f) ≡ false → (stamp_key_cmp f.stamp g.stamp ≡ Less) ⊎ (stamp_key_cmp f.stamp g.stamp ≡ Equal)
@@ -146,16 +258,6 @@ not_after f g order = by_stamps (stamp_key_cmp g.stamp f.stamp) (stamps_total.an
     by_stamps Less is lt = absurd (false≢true (sym lt))
     by_stamps Equal is lt = inr is
     by_stamps Greater is lt = inl is
-
-is_less : (o : Ordering) → is_lt o ≡ true → o ≡ Less
-is_less Less is = refl
-is_less Equal is = absurd (false≢true is)
-is_less Greater is = absurd (false≢true is)
-
-is_equal : (o : Ordering) → is_eq o ≡ true → o ≡ Equal
-is_equal Less is = absurd (false≢true is)
-is_equal Equal is = refl
-is_equal Greater is = absurd (false≢true is)
 
 -- a test of stamps that the files before pass too, where those are of some kind
 rising : (P : KeptFile → Bool) (Q : KeptFile → Type 0) → ((f g : KeptFile) → Q f → is_lt (kept_cmp g f) ≡ false → P g ≡ true → P f ≡ true)

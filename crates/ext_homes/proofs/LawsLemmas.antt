@@ -85,7 +85,7 @@ brought_way old contents depot n held next a b w v has told one two =
     let same = one_way old contents n held.stamp (brought_told depot held.body) next one.0 two.0 w v has told one.1 two.1 in
     (one.2 ∙ ap (λ (h : Home). record { stamp = held.stamp; body = Kept h }) same.0 ∙ sym two.2, same.1)
 
-stored_told : (xs : List ℕ) → stored xs ≢ untold
+pub stored_told : (xs : List ℕ) → stored xs ≢ untold
 stored_told xs same = cc
 
 missing_told : missing ≢ untold
@@ -98,7 +98,7 @@ depot_tells files path = by_file (files path)
     by_file None = missing_told
     by_file (Some bytes) = stored_told bytes
 
-brought_tells : (depot : DepotState) (files : Files) → depot.contents ≡ Some files → (path : List (List ℕ)) → brought_told depot (Depot path) ≢ untold
+pub brought_tells : (depot : DepotState) (files : Files) → depot.contents ≡ Some files → (path : List (List ℕ)) → brought_told depot (Depot path) ≢ untold
 brought_tells depot files is path same = depot_tells files path (sym (ap (λ c. contents_told c path) is) ∙ same)
 
 body_way : (old : Stored) (contents : Home → List ℕ) (depot : DepotState) (files : Files) (n : ℕ) (stamp : Stamp) (body : Body) (next : ℕ) (a b : HeldFile) (w v : List (List ℕ)) → HasBytes old contents

@@ -7,9 +7,10 @@ use Rattle.std.specs.Ordering.{nat_cmp, ordering_then, ordering_reverse, is_eq}
 use Rattle.std.specs.declared.cmp.Ordering.{Ordering}
 use Rattle.std.specs.declared.cmp.Ordering.TheVariants.{Less, Equal, Greater}
 use Rattle.std.proofs.lemmas.Bool.{false≢true}
-use Rattle.std.proofs.lemmas.Cmp.{lists_total, nat_cmp_total, on_total, then_total, tied_itself}
+use Rattle.std.proofs.lemmas.Cmp.{nat_cmp_total, on_total, then_total, tied_itself}
 use Rattle.std.proofs.lemmas.List.{take_all}
 use Rattle.std.proofs.lemmas.List.Elements.{All-contains, All-from_recursion, All-more, recursion_from_All}
+use Rattle.ext_text.proofs.ForCallers.{is_equal}
 use Rattle.ext_disk.specs.Disk.{DiskState}
 use Rattle.ext_disk.specs.Since.{Rests}
 use Rattle.ext_disk.proofs.ForCallers.{rests_itself, rests_then}
@@ -36,17 +37,12 @@ use Rattle.ext_store_files.specs.declared.fault.StoreFault.TheVariants.{OutOfMem
 use Rattle.ext_homes.specs.declared.errors.HomesErr.TheVariants.{Fault, Mismatch, NotInDepot}
 use Rattle.ext_homes.specs.declared.kept_files.KeptFile.{KeptFile}
 use Rattle.ext_homes.specs.declared.kept_files.StampKey.{StampKey}
-use Rattle.ext_homes.proofs.KeptFilesLemmas.{contains_here, contains_later, all_passing}
+use Rattle.ext_homes.proofs.KeptFilesLemmas.{contains_here, contains_later, all_passing, stamps_total}
 
 then_equal : (o p : Ordering) → ordering_then o p ≡ Equal → (o ≡ Equal) × (p ≡ Equal)
 then_equal Less p is = cc
 then_equal Equal p is = (refl, is)
 then_equal Greater p is = cc
-
-is_equal : (o : Ordering) → is_eq o ≡ true → o ≡ Equal
-is_equal Less is = absurd (false≢true is)
-is_equal Equal is = refl
-is_equal Greater is = absurd (false≢true is)
 
 same_key : (a b : StampKey) → stamp_key_cmp a b ≡ Equal → a ≡ b
 same_key a b is =
@@ -64,9 +60,6 @@ same_home a b is =
 
 pub homes_total : IsTotalOrder home_cmp
 homes_total = then_total (on_total (λ (h : Home). h.generation) nat_cmp_total) (on_total (λ (h : Home). h.file) nat_cmp_total)
-
-stamps_total : IsTotalOrder stamp_key_cmp
-stamps_total = then_total (on_total (λ (k : StampKey). k.size) nat_cmp_total) (on_total (λ (k : StampKey). k.digest) (lists_total nat_cmp_total))
 
 -- homes neither of which is less than the other are one
 pub one_home : (a b : Home) → home_cmp a b ≢ Less → home_cmp b a ≢ Less → a ≡ b

@@ -1,10 +1,10 @@
 pub mod BroughtLemmas
 pub mod SoughtLemmas
 pub mod KeptFilesLemmas
-pub mod ComparingLemmas
 pub mod LeastLemmas
 pub mod HomePathsLemmas
 pub mod WritingLemmas
+pub mod NewLemmas
 pub mod PlacedLemmas
 pub mod StoredLemmas
 pub mod PlacingLemmas

@@ -36,6 +36,7 @@ use Rattle.ext_homes.specs.declared.errors.HomesErr.TheVariants.{Fault, Mismatch
 use Rattle.ext_homes.specs.declared.kept_files.KeptFile.{KeptFile}
 use Rattle.ext_homes.proofs.HomePathsLemmas.{other_generation}
 use Rattle.ext_homes.proofs.LeastLemmas.{brought_stays}
+use Rattle.ext_homes.proofs.WritingLemmas.{more_homes}
 use Rattle.ext_homes.proofs.StoredLemmas.{Any, IsAlike, all_any, cause_after, cause_since, entries_alike, homes_cause_since, placed_both}
 
 same_number : (n k : ℕ) (d : Places) → HasHomes n k d → HasHomes n (k + 0) d
@@ -259,9 +260,6 @@ goes_on files n next all rest new p e fresh later count more r s t a b c small b
   split = here_split all going.done rest (p, e) later going.split is ∙ sym (append_assoc going.done ((p, e) ∷ []) later);
   so_far = placed_then files n next count more going.done ((p, e) ∷ []) new ((p, fresh) ∷ []) r s t a b c small before going.so_far (one_placed files n count more p e fresh s t b c works kept placed);
 }
-
-more_homes : (n low high : ℕ) (d : Places) → low ≤ high → HasOnlyHomes n low d → HasOnlyHomes n high d
-more_homes n low high d fits only p below some = let at = only p below some in let less = at.1 in (at.0, omega arith, at.2)
 
 -- what is brought of all: of those before, of the entry, and of those after
 brought_here : (all done later : Entries HeldFile) (x : List (List ℕ) × Entry HeldFile) → all ≡ done ++ x ∷ later → brought all ≡ brought done ++ (brought_stamps x.1 ++ brought later)

@@ -1,6 +1,5 @@
 -- A brought file written as the file of a number: what stands before, between and after.
-use Rattle.std.proofs.Common.{◌≡◌, ◌≢◌, ◌⊎◌, ℕ, ◌+◌, ◌-◌, ◌%◌, ◌<◌, ◌≤◌, true, false, List, [], ◌∷◌, length, take, drop, Option, Some, None, IfSome, Result, Ok, Err, refl, sym, ap, ◌∙◌, subst, inl, inr, arith}
-use Rattle.std.specs.Prelude.{OnOk}
+use Rattle.std.proofs.Common.{◌≡◌, ◌≢◌, ◌⊎◌, ℕ, ◌+◌, ◌-◌, ◌%◌, ◌<◌, ◌≤◌, true, false, List, [], ◌∷◌, length, take, drop, Option, Some, None, IfSome, refl, sym, ap, ◌∙◌, subst, inl, inr, arith}
 use Rattle.std.proofs.lemmas.Bool.{cases_Bool, cases_lt}
 use Rattle.std.specs.Option.{is_some}
 use Rattle.ext_lines.specs.Hexadecimal.{five_digits}
@@ -22,7 +21,8 @@ none_at : (o : Option Node) → (is_some o ≡ true → ⊥) → o ≡ None
 none_at None out = refl
 none_at (Some node) out = absurd (out refl)
 
-more_homes : (n low high : ℕ) (d : Places) → low ≤ high → HasOnlyHomes n low d → HasOnlyHomes n high d
+-- with a higher limit no more homes are among them
+pub more_homes : (n low high : ℕ) (d : Places) → low ≤ high → HasOnlyHomes n low d → HasOnlyHomes n high d
 more_homes n low high d fits only p below some = let at = only p below some in let less = at.1 in (at.0, omega arith, at.2)
 
 -- nothing stands at the home of the next number
@@ -204,7 +204,3 @@ file_works n k most old mid new first works =
 
 pub only_folder_works : (n most : ℕ) (old mid : DiskState) → Works (is_below n) (is_below n) 0 old mid → Works (is_below n) (is_below n) most old mid
 only_folder_works n most old mid works = works_wider (is_below n) (is_below n) (is_below n) (is_below n) 0 most old mid (omega arith) (λ p out. out) (λ p out. out) works
-
-pub on_ok : {T E : Type 0} (r : Result T E) (P Q : Type 0) → (P → Q) → OnOk r P → OnOk r Q
-on_ok (Ok t) P Q gives is = gives is
-on_ok (Err e) P Q gives is = tt

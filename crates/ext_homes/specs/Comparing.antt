@@ -6,7 +6,7 @@ use Rattle.ext_disk.specs.Disk.{DiskState}
 use Rattle.ext_tree.specs.declared.stamp.Stamp.{Stamp}
 use Rattle.ext_host.specs.Held.{HeldFile}
 use Rattle.ext_host.specs.Shelf as shelf
-use Rattle.ext_host.specs.Shelf.{IsFound, IsKeptAs}
+use Rattle.ext_host.specs.Shelf.{IsFound}
 use Rattle.ext_host.specs.declared.body.Body.TheVariants.{Depot}
 use Rattle.ext_host.specs.declared.home.Home.{Home}
 use Rattle.ext_store_files.specs.HeldFiles.{IsListed}
@@ -35,15 +35,6 @@ abbrev pub homes_err_of_compare : CompareErr → List (List ℕ) → HomesErr
 homes_err_of_compare (compare_errors.Fault fault) path = Fault fault
 homes_err_of_compare compare_errors.NotInDepot path = NotInDepot path
 homes_err_of_compare (compare_errors.Mismatch listed found) path = Mismatch path listed found
-
--- why a kept file is not given
-abbrev pub KeptFileCause : DiskState → DiskState → shelf.Told → HeldFile → HomesErr → Type 0
-KeptFileCause disk new told held (Fault OutOfMemory) = Unit {0}
-KeptFileCause disk new told held (Fault DiskFault) = Rose disk.faults new.faults
-KeptFileCause disk new told held (Fault DepotFault) = ⊥
-KeptFileCause disk new told held (Fault (Damaged damage)) = IsKeptAs held damage.home damage.listed × IsFound damage.listed told damage.found
-KeptFileCause disk new told held (Mismatch path listed found) = ⊥
-KeptFileCause disk new told held (NotInDepot path) = ⊥
 
 -- why a brought file is not compared with the one at a home, of which this is told: that one comes first
 abbrev pub SameCause : DiskState → DiskState → DepotState → DepotState → shelf.Told → Home → HeldFile → HomesErr → Type 0

@@ -1,6 +1,6 @@
 -- The files that a host keeps, of stamps that are looked for, as a list in an order for searches: by their stamps, and of one
 -- stamp by their homes.
-use Rattle.std.specs.Prelude.{◌≡◌, ◌≢◌, Bool, true, List, [], ◌∷◌, if◌then◌else◌}
+use Rattle.std.specs.Prelude.{◌≡◌, ◌≢◌, ◌↔◌, Bool, true, List, [], ◌∷◌, if◌then◌else◌}
 use Rattle.std.specs.Cmp.Lexicographic.{slice_cmp}
 use Rattle.std.specs.List.{AllByRecursion, Contains, flat_map}
 use Rattle.std.specs.Ordering.{nat_cmp, ordering_then, is_eq, is_lt}
@@ -70,6 +70,10 @@ lists_in files stamp home = Contains files (kept_file stamp home)
 pub record AreKept (trees : List (Entries HeldFile)) (sought : Stamp → Bool) (files : List KeptFile) : Type 0 where
   pub each : (stamp : Stamp) (home : Home) → lists_in files stamp home → lists_kept trees stamp home
   pub all : (stamp : Stamp) (home : Home) → sought stamp ≡ true → lists_kept trees stamp home → lists_in files stamp home
+
+-- the same files are in both, in whatever order and however often
+abbrev pub HaveSame : List KeptFile → List KeptFile → Type 0
+HaveSame files others = (file : KeptFile) → Contains files file ↔ Contains others file
 
 -- a file that is kept, where its stamp is sought
 abbrev pub body_kept : (Stamp → Bool) → Stamp → Body → List KeptFile

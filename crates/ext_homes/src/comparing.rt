@@ -1,29 +1,24 @@
 // A brought file, compared with the stored files of its stamp.
-ghost use Rattle.std.specs.Prelude.{◌≡◌, ◌⊎◌, ◌<◌, ◌^◌, true, min, length, IsTrue, IfOk, IfErr};
+ghost use Rattle.std.specs.Prelude.{◌≡◌, ◌⊎◌, ◌<◌, ◌^◌, true, IfOk, IfErr};
 ghost use Rattle.ext_depot.specs.Depot.{IsKept};
 ghost use Rattle.ext_disk.specs.Since.{Rests};
-ghost use Rattle.ext_host.specs.Held.{IsStampOf};
-ghost use Rattle.ext_host.specs.Shelf.{stored};
-ghost use Rattle.ext_store_files.specs.Comparing.{IsCompared, IsSame};
-ghost use Rattle.ext_store_files.specs.HeldFiles.{IsListed, body_told, is_served};
+ghost use Rattle.ext_store_files.specs.Comparing.{IsCompared};
 ghost use Rattle.ext_store_files.specs.Names.{IsFileNumber};
 ghost use Rattle.ext_homes.specs.Brought.{is_brought};
-ghost use Rattle.ext_homes.specs.Comparing.{IsLeastOrNone, KeptFileCause, SameCause, homes_err_of_compare, stored_in};
+ghost use Rattle.ext_homes.specs.Comparing.{IsLeastOrNone, SameCause, homes_err_of_compare, stored_in};
 ghost use Rattle.ext_store_files.specs.declared.fault.StoreFault.TheVariants as store_faults;
 ghost use Rattle.ext_homes.specs.declared.errors.HomesErr.TheVariants as errors;
 ghost use Rattle.ext_homes.specs.Giving.{AreNumbered, home_told};
 ghost use Rattle.ext_homes.specs.KeptFiles.{lists_in};
 ghost use Rattle.ext_homes.specs.Placed.{brought_told};
 ghost use Rattle.ext_homes.specs.Refused.{HomeCause};
-ghost use Rattle.ext_io.specs.Pieces.{most_of_piece};
 
 use crate::errors::{HomesErr, mismatch, not_in_depot};
 use crate::kept_files::KeptFiles;
 use ext_depot::Depot;
 use ext_disk::Disk;
 use ext_host::{Body, Held, Home};
-use ext_io::{PIECE, are_equal, zeros};
-use ext_store_files::{CompareErr, is_same_as_kept, piece, verify};
+use ext_store_files::{CompareErr, is_same_as_kept, is_same_as_text};
 use ext_text::Path;
 use std::alloc::Global;
 
@@ -81,11 +76,9 @@ fn is_same<D: Disk, P: Depot>(
         (home_told (D.state disk.old) home.now) home.now held.now) }
 {
     match held.body() {
-        Body::Here(text) => {
-            let listed = Held::kept(*held.stamp(), *home);
-            is_same_as_text(alloc, disk, &listed, text.bytes())
-        }
+        Body::Here(text) => Ok(is_same_as_text(alloc, disk, home, held.stamp(), text.bytes())?),
         Body::Depot(from) => {
+            let from = from.path();
             match is_same_as_kept(alloc, disk, home, depot, from, held.stamp()) {
                 Ok(same) => Ok(same),
                 Err(refused) => Err(compare_err(refused, from)),
@@ -93,53 +86,6 @@ fn is_same<D: Disk, P: Depot>(
         }
         Body::Kept(_) => unreachable!(),
     }
-}
-
-// Whether a kept file has these bytes, which have its stamp. It is read to its end twice, once to compare it with its stamp.
-fn is_same_as_text<D: Disk>(
-    alloc: Global,
-    disk: &mut D,
-    kept: &Held,
-    text: &[u8],
-) -> Result<bool, HomesErr>
-    requires served { IsTrue (is_served kept.now.body) }
-    requires stamp { IsStampOf text.now kept.now.stamp }
-    ensures compared { IfOk result (IsCompared (body_told (D.state disk.old) kept.now.body) (stored text.now) kept.now.stamp) }
-    ensures rests { Rests (D.state disk.old) (D.state disk.new) }
-    ensures cause { IfErr result (KeptFileCause (D.state disk.old) (D.state disk.new)
-        (body_told (D.state disk.old) kept.now.body) kept.now) }
-{
-    verify(alloc, disk, kept)?;
-    let mut buffer = zeros(alloc, PIECE.min(text.len()))?;
-    has_bytes(alloc, disk, kept, text, &mut buffer)
-}
-
-// Whether a kept file has these bytes, where both have its stamp.
-fn has_bytes<D: Disk>(
-    alloc: Global,
-    disk: &mut D,
-    kept: &Held,
-    text: &[u8],
-    buffer: &mut [u8],
-) -> Result<bool, HomesErr>
-    requires served { IsTrue (is_served kept.now.body) }
-    requires stamp { IsStampOf text.now kept.now.stamp }
-    requires listed { IsListed (body_told (D.state disk.old) kept.now.body) kept.now.stamp }
-    requires room { length buffer.old ≡ min most_of_piece (length text.now) }
-    ensures same { IfOk result (IsSame (body_told (D.state disk.old) kept.now.body) (stored text.now)) }
-    ensures rests { Rests (D.state disk.old) (D.state disk.new) }
-    ensures cause { IfErr result (KeptFileCause (D.state disk.old) (D.state disk.new)
-        (body_told (D.state disk.old) kept.now.body) kept.now) }
-{
-    let mut at = 0;
-    'pieces: while at < text.len() {
-        let count = piece(alloc, disk, kept, at as u64, buffer)?;
-        if !are_equal(&buffer[..count], &text[at..at + count]) {
-            return Ok(false);
-        }
-        at += count;
-    }
-    Ok(true)
 }
 
 // The error of a comparison, with the path of the depot's file.

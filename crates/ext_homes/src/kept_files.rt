@@ -2,10 +2,11 @@
 // their homes.
 ghost use Rattle.std.specs.Prelude.{◌≡◌, ◌++◌, filter, IfOk, OnOk};
 ghost use Rattle.std.specs.List.{AllByRecursion};
+ghost use Rattle.std.specs.List.Sorted.{IsStrictlySortedBy};
 ghost use Rattle.std.specs.Option.{option_copied};
 ghost use Rattle.ext_tree.specs.Tree.{IsTree};
 ghost use Rattle.ext_homes.specs.Giving.{trees_before};
-ghost use Rattle.ext_homes.specs.KeptFiles.{entry_kept, has_stamp, is_before, past_trees, tree_kept, trees_kept};
+ghost use Rattle.ext_homes.specs.KeptFiles.{HaveSame, entry_kept, has_stamp, is_before, kept_cmp, past_trees, tree_kept, trees_kept};
 ghost use Rattle.ext_homes.specs.Sought.{is_sought};
 
 use crate::sought::Sought;
@@ -76,8 +77,8 @@ impl KeptFile {
     }
 }
 
-/// The files that a host keeps, of all its trees and of stamps that are looked for, ordered for a search. Contracts see them as
-/// a list in that order.
+/// The files that a host keeps, of all its trees and of stamps that are looked for, each once, ordered for a search. Contracts
+/// see them as a list in that order.
 #[derive(Debug, Drop)]
 pub(crate) struct KeptFiles {
     pub(crate) files: Vec<KeptFile>,
@@ -85,7 +86,7 @@ pub(crate) struct KeptFiles {
 
 impl Model for KeptFiles {
     ghost use Rattle.std.specs.Prelude.{List};
-    ghost use Rattle.std.specs.List.Sorted.{IsSorted};
+    ghost use Rattle.std.specs.List.Sorted.{IsStrictlySortedBy};
     ghost use Rattle.ext_homes.specs.KeptFiles.{kept_cmp};
     ghost use Rattle.ext_homes.specs.declared.kept_files.KeptFile.{KeptFile};
 
@@ -93,7 +94,7 @@ impl Model for KeptFiles {
 
     ghost view = { λ k. k.files.items };
 
-    ghost invariant = { λ k. IsSorted kept_cmp k.files.items };
+    ghost invariant = { λ k. IsStrictlySortedBy kept_cmp k.files.items };
 }
 
 impl KeptFiles {
@@ -112,7 +113,7 @@ impl KeptFiles {
         ensures { IfOk result (AreKept (trees_before (option_copied from.entry)) (is_sought sought.now)) }
     {
         let mut files = files_of(alloc, from, sought)?;
-        files.sort_unstable();
+        sort_once(&mut files);
         Ok(KeptFiles { files })
     }
 
@@ -144,49 +145,83 @@ fn has_stamp(key: &StampKey, file: &KeptFile) -> bool
     file.stamp.cmp(key).is_eq()
 }
 
-// The kept files of a host that are looked for, in the order of its trees.
+// Kept files while they are collected, and how many there were when each stood once.
+#[derive(Drop)]
+struct Collected {
+    files: Vec<KeptFile>,
+    once: usize,
+}
+
+// The kept files of a host that are looked for. There are never more than twice as many as stand once, and those of one tree.
 fn files_of(
     alloc: Global,
     from: Option<&Host>,
     sought: &Sought,
 ) -> Result<Vec<KeptFile>, OutOfMemory>
-    ensures files { IfOk result (λ files. files.items ≡ trees_kept (is_sought sought.now) (trees_before (option_copied from.entry))) }
+    ensures files { IfOk result (λ files. HaveSame (trees_kept (is_sought sought.now) (trees_before (option_copied from.entry)))
+        files.items) }
     ensures trees { OnOk result (AllByRecursion (λ es. IsTree es) (trees_before (option_copied from.entry))) }
 {
-    let mut files = Vec::new(alloc);
+    let mut collected = Collected {
+        files: Vec::new(alloc),
+        once: 0,
+    };
     match from {
-        None => Ok(files),
+        None => Ok(collected.files),
         Some(host) => {
-            append_tree(&mut files, &host.root, sought)?;
-            append_tree(&mut files, &host.lower, sought)?;
-            append_past(&mut files, host.past.as_slice(), sought)?;
-            Ok(files)
+            append_tree(&mut collected, &host.root, sought)?;
+            append_tree(&mut collected, &host.lower, sought)?;
+            append_past(&mut collected, host.past.as_slice(), sought)?;
+            Ok(collected.files)
         }
     }
 }
 
 // Adds those of past trees.
-fn append_past(files: &mut Vec<KeptFile>, past: &[Past], sought: &Sought) -> Result<(), OutOfMemory>
-    ensures files { OnOk result (files.new.items ≡ files.old.items ++ trees_kept (is_sought sought.now) (past_trees past.now)) }
+fn append_past(collected: &mut Collected, past: &[Past], sought: &Sought) -> Result<(), OutOfMemory>
+    ensures files { OnOk result (HaveSame (collected.old.files.items ++ trees_kept (is_sought sought.now) (past_trees past.now))
+        collected.new.files.items) }
     ensures trees { OnOk result (AllByRecursion (λ es. IsTree es) (past_trees past.now)) }
 {
     for tree in past {
-        append_tree(files, &tree.root, sought)?;
-        append_tree(files, &tree.lower, sought)?;
+        append_tree(collected, &tree.root, sought)?;
+        append_tree(collected, &tree.lower, sought)?;
     }
     Ok(())
 }
 
 // Adds those of a tree.
 fn append_tree(
-    files: &mut Vec<KeptFile>,
+    collected: &mut Collected,
     tree: &Tree<Held>,
     sought: &Sought,
 ) -> Result<(), OutOfMemory>
-    ensures files { OnOk result (files.new.items ≡ files.old.items ++ tree_kept (is_sought sought.now) tree.now) }
+    ensures files { OnOk result (HaveSame (collected.old.files.items ++ tree_kept (is_sought sought.now) tree.now)
+        collected.new.files.items) }
     ensures tree { IsTree tree.now }
 {
-    append_pairs(files, tree.pairs(), sought)
+    append_pairs(&mut collected.files, tree.pairs(), sought)?;
+    thin(collected);
+    Ok(())
+}
+
+// Leaves each file once where there are twice as many as when that was done last.
+fn thin(collected: &mut Collected)
+    ensures { HaveSame collected.old.files.items collected.new.files.items }
+{
+    if collected.files.len() / 2 >= collected.once {
+        sort_once(&mut collected.files);
+        collected.once = collected.files.len();
+    }
+}
+
+// Sorts files, and leaves each once.
+fn sort_once(files: &mut Vec<KeptFile>)
+    ensures same { HaveSame files.old.items files.new.items }
+    ensures sorted { IsStrictlySortedBy kept_cmp files.new.items }
+{
+    files.sort_unstable();
+    files.dedup();
 }
 
 // Adds those among entries.

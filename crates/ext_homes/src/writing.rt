@@ -96,6 +96,7 @@ fn put_file<D: Disk, P: Depot>(
             Err(_) => Err(HomesErr::Fault(StoreFault::DiskFault)),
         },
         Body::Depot(from) => {
+            let from = from.path();
             match copy_from_depot(alloc, disk, path, depot, from, held.stamp()) {
                 Ok(()) => Ok(()),
                 Err(refused) => Err(copy_err(refused, from)),

@@ -1,17 +1,19 @@
 ghost use Rattle.std.specs.Prelude.{◌≡◌, IfOk};
 
+use crate::depot_path::DepotPath;
+use crate::here_text::HereText;
 use crate::home::Home;
-use ext_text::{OutOfMemory, Path, Text};
+use ext_text::OutOfMemory;
 
 /// Where the bytes of a file are.
 #[derive(Debug, Drop)]
 pub enum Body {
     /// Here: these bytes.
-    Here(Text),
+    Here(HereText),
     /// In a store, at this home.
     Kept(Home),
     /// In the depot, at this path. Only a plan's host has such bodies.
-    Depot(Path),
+    Depot(DepotPath),
 }
 
 impl Body {

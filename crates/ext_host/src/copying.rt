@@ -1,11 +1,13 @@
-// Equal lists, and equal hosts.
+// Equal lists and hosts, and hosts with other trees.
 ghost use Rattle.std.specs.Prelude.{◌≡◌, IfOk};
 
 use crate::attachment::Attachment;
+use crate::held::Held;
 use crate::host::Host;
 use crate::manifest::{Item, Manifest};
 use crate::past::Past;
 use ext_text::{ListOf, Name, Names, OutOfMemory, Path};
+use ext_tree::Tree;
 use std::alloc::Global;
 
 /// What a host has lists of.
@@ -122,6 +124,23 @@ impl Host {
         let lower = self.lower.copy()?;
         let sysext = copy_of_merged(alloc, &self.sysext)?;
         let confext = copy_of_merged(alloc, &self.confext)?;
+        self.with_trees(root, lower, sysext, confext)
+    }
+
+    /// The host with these trees, and with these names for its merged extensions; all else is copied.
+    ///
+    /// # Errors
+    /// `OutOfMemory` alone.
+    pub fn with_trees(
+        &self,
+        root: Tree<Held>,
+        lower: Tree<Held>,
+        sysext: Option<Names>,
+        confext: Option<Names>,
+    ) -> Result<Host, OutOfMemory>
+        ensures { IfOk result (λ next. next ≡ record self.now { root = root; lower = lower; sysext = sysext; confext = confext }) }
+    {
+        let alloc = root.allocator();
         let attached = copy_of_list(alloc, &self.attached)?;
         let kept = copy_of_list(alloc, &self.kept)?;
         let sysext_hier = copy_of_list(alloc, &self.sysext_hier)?;

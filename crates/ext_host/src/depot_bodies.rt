@@ -4,6 +4,7 @@ ghost use Rattle.ext_text.specs.Path.{IsPath};
 ghost use Rattle.ext_host.specs.DepotBodies.{FileFits, FitsErr, GivesFromDepot, HasFileErr, JoinErr, from_depot, in_depot, pair_in_depot};
 ghost use Rattle.std.specs.List.{AllByRecursion};
 
+use crate::depot_path::DepotPath;
 use crate::held::Held;
 use ext_lines::allocated;
 use ext_text::{Path, PathErr};
@@ -33,23 +34,32 @@ fn pairs_at(
 {
     let mut placed = allocated(Vec::with_capacity(alloc, pairs.len()))?;
     for pair in pairs {
-        allocated(placed.push(pair_at(pair, res)?))?;
+        allocated(placed.push(pair_at(alloc, pair, res)?))?;
     }
     Ok(placed)
 }
 
 // The entry, a file's with a body below `res`.
-fn pair_at(pair: (Path, Entry<Stamp>), res: &Path) -> Result<(Path, Entry<Held>), TreeErr>
+fn pair_at(
+    alloc: Global,
+    pair: (Path, Entry<Stamp>),
+    res: &Path,
+) -> Result<(Path, Entry<Held>), TreeErr>
     ensures ok { IfOk result (λ placed. (placed ≡ pair_in_depot res.now pair) × FileFits res.now pair) }
     ensures err { IfErr result (HasFileErr res.now pair) }
 {
     let (path, entry) = pair;
-    let entry = entry_at(entry, &path, res)?;
+    let entry = entry_at(alloc, entry, &path, res)?;
     Ok((path, entry))
 }
 
 // The path's entry, a file's with a body below `res`.
-fn entry_at(entry: Entry<Stamp>, path: &Path, res: &Path) -> Result<Entry<Held>, TreeErr>
+fn entry_at(
+    alloc: Global,
+    entry: Entry<Stamp>,
+    path: &Path,
+    res: &Path,
+) -> Result<Entry<Held>, TreeErr>
     ensures ok { IfOk result (λ placed. (placed ≡ in_depot (res.now ++ path.now) entry) × FileFits res.now (path.now, entry)) }
     ensures err { IfErr result (HasFileErr res.now (path.now, entry)) }
 {
@@ -57,7 +67,7 @@ fn entry_at(entry: Entry<Stamp>, path: &Path, res: &Path) -> Result<Entry<Held>,
         Entry::Dir(mode) => Ok(Entry::Dir(mode)),
         Entry::Opaque(mode) => Ok(Entry::Opaque(mode)),
         Entry::File(mode, stamp) => {
-            let path = joined(res, path)?;
+            let path = DepotPath::new(alloc, joined(res, path)?)?;
             Ok(Entry::File(mode, Held::depot(stamp, path)))
         }
         Entry::Link(target) => Ok(Entry::Link(target)),

@@ -3,9 +3,11 @@ ghost use Rattle.ext_host.specs.Held.{HasStamp, IsStampOf};
 ghost use Rattle.ext_host.specs.declared.body.Body.TheVariants as bodies;
 
 use crate::body::Body;
+use crate::depot_path::DepotPath;
+use crate::here_text::HereText;
 use crate::home::Home;
 use crate::stamping::stamp_of;
-use ext_text::{OutOfMemory, Path, Text};
+use ext_text::OutOfMemory;
 use ext_tree::{Held1, Stamp};
 use std::alloc::Global;
 use std::marker::Model;
@@ -30,7 +32,7 @@ impl Model for Held {
 
 impl Held {
     /// A file whose bytes are here.
-    pub fn here(text: Text) -> Held
+    pub fn here(text: HereText) -> Held
         ensures body { result.body ≡ bodies.Here text }
         ensures stamp { IsStampOf text result.stamp }
     {
@@ -52,7 +54,7 @@ impl Held {
     }
 
     /// A file of this stamp whose bytes the depot has at the path.
-    pub fn depot(stamp: Stamp, path: Path) -> Held
+    pub fn depot(stamp: Stamp, path: DepotPath) -> Held
         ensures { result ≡ record { stamp = stamp; body = bodies.Depot path } }
     {
         Held {

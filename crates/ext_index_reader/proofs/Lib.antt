@@ -6,6 +6,8 @@ pub mod LoopLemmas
 pub mod OneStepLemmas
 pub mod LawLemmas
 pub mod StampLemmas
+pub mod HomeListLemmas
+pub mod InOrderLemmas
 pub mod SectionLemmas
 pub mod FollowLemmas
 pub mod MergedLemmas

@@ -14,7 +14,7 @@ use Rattle.ext_index_lines.specs.declared.homed.Homed.{Homed}
 use Rattle.ext_index_reader.specs.Homes.{FileAgrees, IsOrNone, Stamps, home_cmp, key_of, noted_file, stamp_at}
 
 -- keys that tie are equal, and a key ties itself
-key_exact : (a b : ℕ × ℕ) → home_cmp a b ≡ Equal → a ≡ b
+pub key_exact : (a b : ℕ × ℕ) → home_cmp a b ≡ Equal → a ≡ b
 key_exact a b tied =
     elim (nat_cmp a.0 b.0) as (λ o. nat_cmp a.0 b.0 ≡ o → ordering_then o (nat_cmp a.1 b.1) ≡ Equal → a ≡ b) [
       | Less ↦ λ _ h. absurd (false≢true (ap is_eq h))

@@ -1,7 +1,8 @@
 -- The homes of the files that an index lists, in the order of their generations and numbers, each with its stamp. Two lines
 -- of one home have one stamp.
-use Rattle.std.specs.Prelude.{◌≡◌, ℕ, List, MatchOption, Option}
+use Rattle.std.specs.Prelude.{◌≡◌, ℕ, List, ◌++◌, MatchOption, Option}
 use Rattle.std.specs.BTreeMap.{insert_entry, is_at}
+use Rattle.std.specs.FinMap.{entries, from_entries}
 use Rattle.std.specs.Map.{lookup}
 use Rattle.std.specs.Ordering.{nat_cmp, ordering_then}
 use Rattle.std.specs.declared.cmp.Ordering.{Ordering}
@@ -18,6 +19,10 @@ Stamps = List ((ℕ × ℕ) × Stamp)
 -- generations first, then the numbers of files
 abbrev pub home_cmp : ℕ × ℕ → ℕ × ℕ → Ordering
 home_cmp a b = ordering_then (nat_cmp a.0 b.0) (nat_cmp a.1 b.1)
+
+-- the stamps of two lists in order; where both have a home, that of the first
+abbrev pub in_order : Stamps → Stamps → Stamps
+in_order first second = entries (from_entries {R = home_cmp} (first ++ second))
 
 -- the key of a home in that map
 abbrev pub key_of : Home → ℕ × ℕ

@@ -2,6 +2,7 @@ pub mod Index
 pub mod Listed
 pub mod Following
 pub mod Homes
+pub mod HomeLists
 pub mod State
 pub mod Step
 pub mod Reading

@@ -10,6 +10,7 @@ mod attachment_lines;
 mod entry_lines;
 mod err;
 mod following;
+mod home_lists;
 mod homes;
 pub mod laws;
 mod machine_lines;

@@ -1,11 +1,11 @@
 -- What a list of layers says at each path: what is visible there, and what the lists of two parts say in turn.
-use Rattle.std.proofs.Common.{◌≡◌, ℕ, ◌<◌, Bool, true, false, cond, not, ◌&&◌, List, [], ◌∷◌, ◌++◌, length, map, take, drop, Option, Some, None, is_some, refl, sym, ap, ◌∙◌, subst, arith}
+use Rattle.std.proofs.Common.{◌≡◌, ℕ, ◌<◌, Bool, true, false, cond, not, ◌&&◌, List, [], ◌∷◌, ◌++◌, length, map, take, drop, get_or, suc, Option, Some, None, is_some, refl, sym, ap, ◌∙◌, subst, arith, drop-cons}
 use mathlib.Core.Logic.{inl, inr}
 use Rattle.std.proofs.lemmas.Bool.{false≢true, and_parts, and_from, not-true, false_from_ne_true, not_from_false}
 use Rattle.std.proofs.lemmas.Float.{T_from_true}
 use Rattle.std.proofs.lemmas.List.{take-append-drop}
 use Rattle.std.specs.Option.{option_map}
-use Rattle.std.specs.List.{AllByRecursion, filter}
+use Rattle.std.specs.List.{AllByRecursion, Contains, filter}
 use Rattle.std.specs.Ordering.{is_lt, eq_by_cmp}
 use Rattle.std.specs.FinMap.{find, is_sorted}
 use Rattle.std.specs.FinMap.Entries.{below_all}
@@ -15,10 +15,10 @@ use Rattle.ext_text.proofs.ForCallers.{all_append}
 use Rattle.ext_text.proofs.ForCallers.{prefix_both, prefix_self, same_path}
 use Rattle.ext_tree.specs.Tree.{Entries, IsTree, IsTreeWithin, as_shown, is_hide, lookup}
 use Rattle.ext_tree.specs.declared.entry.Entry.{Entry}
-use Rattle.ext_layer.specs.Layered.{CutsOff, IsVisible, cuts_below}
+use Rattle.ext_layer.specs.Layered.{CutsOff, IsLayered, IsVisible, cuts_below}
 use Rattle.ext_layer.specs.declared.item.Item.{Item}
 use Rattle.ext_layer.specs.Item.{all_seen}
-use Rattle.ext_layer.specs.Joining.{Joins, layers_overlay}
+use Rattle.ext_layer.specs.Joining.{Joins, SayTheSame, layers_overlay}
 use Rattle.ext_layer.specs.Overlay.{Marked, MarkedEntries, Overlay, visible, hidden, absent, first_of_two, some_prefix, cuts_at, overlay_of, overlay_at, marked, visible_in, with_mark, over}
 use Rattle.ext_layer.proofs.Prefixes.{not_found, some_prefix-none, some_prefix-at}
 use Rattle.ext_layer.proofs.OverlayLemmas.{first_assoc, none_overlay, over_overlay, sorted_over}
@@ -37,6 +37,10 @@ below_all-map g k (e ∷ es) = ap (λ b. is_lt (path_cmp k e.0) && b) (below_all
 pub is_sorted-map : {X Y : Type 0} (g : X → Y) (es : List (List (List ℕ) × X)) → is_sorted path_cmp (map (λ e. (e.0, g e.1)) es) ≡ is_sorted path_cmp es
 is_sorted-map g [] = refl
 is_sorted-map g (e ∷ es) = λ i. below_all-map g e.0 es i && is_sorted-map g es i
+
+-- a list is split at an element
+split_here : {X : Type 0} (xs : List X) (i : ℕ) (x : X) → i < length xs → get_or xs i x ≡ x → xs ≡ take i xs ++ x ∷ drop (suc i) xs
+split_here xs i x inside is = sym (take-append-drop i xs) ∙ ap (λ l. take i xs ++ l) (drop-cons xs i x inside ∙ ap (λ y. y ∷ drop (suc i) xs) is)
 
 -- a prefix of a path is the path or a proper prefix
 prefix_cases : {P : Type 0} (q p : List (List ℕ)) → is_prefix q p ≡ true → (q ≡ p → P) → (is_proper_prefix q p ≡ true → P) → P
@@ -211,6 +215,44 @@ module _ {C : Type 0} where
   layers_overlay-append [] ys p = refl
   layers_overlay-append (x ∷ xs) ys p =
       ap (first_of_two (overlay_at (marked x) p)) (layers_overlay-append xs ys p) ∙ sym (first_assoc (overlay_at (marked x) p) (layers_overlay xs p) (layers_overlay ys p))
+
+  -- under an equal layer one says nothing of its own
+  under_absent : (between : List (Entries C)) (layer : Entries C) (lowers : List (Entries C)) (p : List (List ℕ)) → overlay_at (marked layer) p ≡ absent → layers_overlay (between ++ layer ∷ lowers) p ≡ layers_overlay (between ++ lowers) p
+  under_absent [] layer lowers p none = ap (λ v. first_of_two v (layers_overlay lowers p)) none
+  under_absent (b ∷ between) layer lowers p none = ap (first_of_two (overlay_at (marked b) p)) (under_absent between layer lowers p none)
+
+  under_equal : (layer : Entries C) (between lowers : List (Entries C)) (p : List (List ℕ)) → layers_overlay (layer ∷ between ++ layer ∷ lowers) p ≡ layers_overlay (layer ∷ between ++ lowers) p
+  under_equal layer between lowers p =
+      elim (overlay_at (marked layer) p) as (λ v. overlay_at (marked layer) p ≡ v → first_of_two v (layers_overlay (between ++ layer ∷ lowers) p) ≡ first_of_two v (layers_overlay (between ++ lowers) p)) [
+        | visible e ↦ λ _. refl
+        | hidden ↦ λ _. refl
+        | absent ↦ λ none. under_absent between layer lowers p none
+      ] refl
+
+  pub lower_equal : (uppers between lowers : List (Entries C)) (layer : Entries C) → SayTheSame (uppers ++ layer ∷ between ++ layer ∷ lowers) (uppers ++ layer ∷ between ++ lowers)
+  lower_equal [] between lowers layer p = under_equal layer between lowers p
+  lower_equal (u ∷ uppers) between lowers layer p = ap (first_of_two (overlay_at (marked u) p)) (lower_equal uppers between lowers layer p)
+
+  -- a layer of which an equal one stands above
+  pub lower_among : (uppers lowers : List (Entries C)) (layer : Entries C) → Contains uppers layer → SayTheSame (uppers ++ layer ∷ lowers) (uppers ++ lowers)
+  lower_among uppers lowers layer among =
+      let above = take among.0 uppers in
+      let between = drop (suc among.0) uppers in
+      subst (λ us. SayTheSame (us ++ layer ∷ lowers) (us ++ lowers)) (sym (split_here uppers among.0 layer among.1 among.2))
+      (lower_equal above between lowers layer)
+
+  -- what says the same over other layers
+  pub same_over : (xs ys lowers : List (Entries C)) → SayTheSame xs ys → SayTheSame (xs ++ lowers) (ys ++ lowers)
+  same_over xs ys lowers same p =
+      layers_overlay-append xs lowers p ∙ ap (λ v. first_of_two v (layers_overlay lowers p)) (same p) ∙ sym (layers_overlay-append ys lowers p)
+
+  -- layers that say the same have one layered tree
+  pub layered_same : (xs ys : List (Entries C)) (es : Entries C) → SayTheSame xs ys → IsLayered xs es → IsLayered ys es
+  layered_same xs ys es same layered = record {
+    tree = layered.tree;
+    visible = λ p e there. visible_from_overlay ys p e (sym (same p) ∙ overlay_from_visible xs p e (layered.visible p e there));
+    whole = λ p e seen. layered.whole p e (visible_from_overlay xs p e (same p ∙ overlay_from_visible ys p e seen));
+  }
 
   -- the marked list of no layer, of one, and of two lists of layers
   joins_none : Joins {C = C} [] []

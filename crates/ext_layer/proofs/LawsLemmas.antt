@@ -17,7 +17,8 @@ use Rattle.ext_tree.specs.TreeText.{HasText, stamp_form}
 use Rattle.ext_tree.specs.declared.entry.Entry.{Entry}
 use Rattle.ext_tree.specs.declared.entry.Entry.TheVariants.{Dir, Opaque, File, Link, Hide}
 use Rattle.ext_tree.specs.declared.stamp.Stamp.{Stamp}
-use Rattle.ext_layer.specs.Laws.{EntriesAreOfLayers, FilesAreOfLayers, IsOfLayer, LayeredHasText, NothingHides, OneLayeredTree}
+use Rattle.ext_layer.specs.Laws.{EntriesAreOfLayers, FilesAreOfLayers, IsOfLayer, LayeredHasText, LowerEqualShowsNothing, NothingHides, OneLayeredTree}
+use Rattle.ext_layer.proofs.JoiningLemmas.{layered_same, lower_equal}
 use Rattle.ext_layer.proofs.Prefixes.{not_found}
 
 same_options : {X : Type 0} (o w : Option X) → ((x : X) → o ≡ Some x → w ≡ Some x) → ((x : X) → w ≡ Some x → o ≡ Some x) → o ≡ w
@@ -112,3 +113,11 @@ layered_has_text layers es all layered count = record {
       let text : HasText v.layer = (all_back HasText v.above (v.layer ∷ v.below) (subst (AllByRecursion HasText) v.split all)).0 in
       subst (IsWritable stamp_form) (sym v.shown) (shown_writable v.stored (all_at (IsWritable stamp_form) v.layer p v.stored text.each v.stands)));
 }
+
+-- without the lower of two equal layers
+pub lower_equal_shows_nothing : {C : Type 0} → LowerEqualShowsNothing C
+lower_equal_shows_nothing uppers between lowers layer es =
+    let both = uppers ++ layer ∷ between ++ layer ∷ lowers in
+    let one = uppers ++ layer ∷ between ++ lowers in
+    let same = lower_equal uppers between lowers layer in
+    (layered_same both one es same, layered_same one both es (λ p. sym (same p)))

@@ -1,5 +1,5 @@
 -- What is visible of trees is a tree.
-use Rattle.std.proofs.Common.{◌≡◌, ℕ, ◌<◌, ◌≤◌, Bool, true, false, cond, not, List, [], ◌∷◌, ◌++◌, length, map, take, get_or, ◌+◌, Option, Some, None, is_some, refl, sym, ap, ◌∙◌, subst, arith}
+use Rattle.std.proofs.Common.{◌≡◌, ℕ, ◌<◌, ◌≤◌, Bool, true, false, cond, not, List, [], ◌∷◌, ◌++◌, length, map, take, drop, get_or, ◌+◌, Option, Some, None, is_some, refl, sym, ap, ◌∙◌, subst, arith, append_assoc}
 use mathlib.Core.Logic.{inl, inr}
 use Rattle.std.proofs.lemmas.Bool.{false≢true, and_parts, and_from, not-true, false_from_ne_true, not_from_false}
 use Rattle.std.proofs.lemmas.List.{length-map, map-append, take_more}
@@ -16,8 +16,11 @@ use Rattle.ext_tree.specs.declared.entry.Entry.TheVariants.{Dir, Opaque, File, L
 use Rattle.ext_layer.specs.Layered.{CutsOff, IsLayered, IsVisible, cuts_below}
 use Rattle.ext_layer.specs.declared.item.Item.{Item}
 use Rattle.ext_layer.specs.Item.{seen, all_seen}
-use Rattle.ext_layer.specs.Joining.{Joins, layers_overlay}
-use Rattle.ext_layer.specs.Overlay.{Marked, MarkedEntries, Overlay, visible, hidden, absent, first_of_two, some_prefix, cuts_at, overlay_of, overlay_at, marked, visible_in, with_mark}
+use Rattle.ext_tree.specs.InsertionPoint.{insertion_point}
+use Rattle.ext_layer.specs.Joining.{Joins, Shows, layers_overlay}
+use Rattle.ext_layer.specs.Overlay.{Marked, MarkedEntries, Overlay, visible, hidden, absent, first_of_two, some_prefix, cuts_at, overlay_of, overlay_at, marked, visible_in, with_mark, over, count_hidden}
+use Rattle.ext_layer.proofs.OverlayAdvance.{advance_calls}
+use Rattle.ext_layer.proofs.OverlaySteps.{laid_first}
 use Rattle.ext_layer.proofs.JoiningLemmas.{is_sorted-map, is_sorted-filter, no_hide, shown, seen_of, find_marked, lookup_visible, open_above, open_absent, visible_found, found_visible, overlay_from_visible, visible_from_overlay}
 
 parent_above : (p : List (List ℕ)) → (p ≡ [] → ⊥) → is_proper_prefix (parent p) p ≡ true
@@ -125,19 +128,19 @@ module _ {C : Type 0} where
         whole = λ p e v. visible_found ms p e joins.sorted (joins.says p ∙ overlay_from_visible layers p e v);
       }
 
-  -- the visible entries of the joined items as the tree of what is visible
-  visible_at : (host : Entries C) (items : List (Item C)) {layers lists : List (Entries C)} {pairs : Entries C} → Joins (lists ++ host ∷ []) (all_seen items) → lists ≡ layers → pairs ≡ visible_in (all_seen items) → IsLayered (layers ++ host ∷ []) pairs
-  visible_at host items {lists = lists} {pairs = pairs} joins same is =
-      subst (λ l. IsLayered (l ++ host ∷ []) pairs) same (subst (IsLayered (lists ++ host ∷ [])) (sym is) (layered_from_joins (lists ++ host ∷ []) (all_seen items) joins))
+  -- the entries that are visible are the tree of what is visible
+  visible_at : (host : Entries C) {layers lists : List (Entries C)} {pairs : Entries C} → Shows (lists ++ host ∷ []) pairs → lists ≡ layers → IsLayered (layers ++ host ∷ []) pairs
+  visible_at host {lists = lists} {pairs = pairs} shows same =
+      subst (λ l. IsLayered (l ++ host ∷ []) pairs) same (subst (IsLayered (lists ++ host ∷ [])) (sym shows.seen) (layered_from_joins (lists ++ host ∷ []) shows.marks shows.joins))
 
-  pub too_many_at : (host : Entries C) (items slice : List (Item C)) (pairs counted : List (Bor (List (List ℕ) × Entry C))) {layers lists : List (Entries C)} → Joins (lists ++ host ∷ []) (all_seen items) → lists ≡ layers → slice ≡ items → all_shown pairs ≡ visible_in (all_seen slice) → counted ≡ pairs → most_entries < length counted → (es : Entries C) × IsLayered (layers ++ host ∷ []) es × (most_entries < length es)
-  too_many_at host items slice pairs counted joins same slice-is is counted-is over =
-      (all_shown pairs, visible_at host items joins same (is ∙ ap (λ l. visible_in (all_seen l)) slice-is), subst (λ n. most_entries < n) (ap length counted-is ∙ sym (length-map pairs (λ r. (r.now.0, as_shown r.now.1)))) over)
+  pub too_many_at : (host : Entries C) (pairs counted : List (Bor (List (List ℕ) × Entry C))) {layers lists : List (Entries C)} → Shows (lists ++ host ∷ []) (all_shown pairs) → lists ≡ layers → counted ≡ pairs → most_entries < length counted → (es : Entries C) × IsLayered (layers ++ host ∷ []) es × (most_entries < length es)
+  too_many_at host pairs counted shows same counted-is over_limit =
+      (all_shown pairs, visible_at host shows same, subst (λ n. most_entries < n) (ap length counted-is ∙ sym (length-map pairs (λ r. (r.now.0, as_shown r.now.1)))) over_limit)
 
-  pub within_at : (host : Entries C) (items slice : List (Item C)) (pairs counted : List (Bor (List (List ℕ) × Entry C))) {layers lists : List (Entries C)} → Joins (lists ++ host ∷ []) (all_seen items) → lists ≡ layers → slice ≡ items → all_shown pairs ≡ visible_in (all_seen slice) → counted ≡ pairs → ¬ (most_entries < length counted) → IsLayered (layers ++ host ∷ []) (all_shown pairs) × (length (all_shown pairs) ≤ most_entries)
-  within_at host items slice pairs counted joins same slice-is is counted-is within =
+  pub within_at : (host : Entries C) (pairs counted : List (Bor (List (List ℕ) × Entry C))) {layers lists : List (Entries C)} → Shows (lists ++ host ∷ []) (all_shown pairs) → lists ≡ layers → counted ≡ pairs → ¬ (most_entries < length counted) → IsLayered (layers ++ host ∷ []) (all_shown pairs) × (length (all_shown pairs) ≤ most_entries)
+  within_at host pairs counted shows same counted-is within =
       let at_most : length counted ≤ most_entries = omega arith in
-      (visible_at host items joins same (is ∙ ap (λ l. visible_in (all_seen l)) slice-is), subst (λ n. n ≤ most_entries) (ap length counted-is ∙ sym (length-map pairs (λ r. (r.now.0, as_shown r.now.1)))) at_most)
+      (visible_at host shows same, subst (λ n. n ≤ most_entries) (ap length counted-is ∙ sym (length-map pairs (λ r. (r.now.0, as_shown r.now.1)))) at_most)
 
   -- one item more
   visible_append : (ms ns : MarkedEntries C) → visible_in (ms ++ ns) ≡ visible_in ms ++ visible_in ns
@@ -149,7 +152,30 @@ module _ {C : Type 0} where
         | false ↦ ap (λ l. (m.0, as_shown m.1.entry) ∷ l) rest
       ]
 
-  pub pushed : (items : List (Item C)) (i : ℕ) (item : Item C) (pairs more : Entries C) → i < length items → item ≡ get_or items i item → pairs ≡ visible_in (all_seen (take i items)) → more ≡ pairs ++ visible_in (seen item ∷ []) → more ≡ visible_in (all_seen (take (i + 1) items))
-  pushed items i item pairs more lt item-is is more-is =
+  pub pushed : (olds : Entries C) (items : List (Item C)) (i : ℕ) (item : Item C) (pairs more : Entries C) → i < length items → item ≡ get_or items i item → pairs ≡ olds ++ visible_in (all_seen (take i items)) → more ≡ pairs ++ visible_in (seen item ∷ []) → more ≡ olds ++ visible_in (all_seen (take (i + 1) items))
+  pushed olds items i item pairs more lt item-is is more-is =
       let longer : take (i + 1) items ≡ take i items ++ item ∷ [] = take_more items i item lt ∙ ap (λ x. take i items ++ x ∷ []) (sym item-is) in
-      more-is ∙ ap (λ l. l ++ visible_in (seen item ∷ [])) is ∙ sym (visible_append (all_seen (take i items)) (seen item ∷ [])) ∙ ap visible_in (sym (map-append seen (take i items) (item ∷ []))) ∙ ap (λ l. visible_in (all_seen l)) (sym longer)
+      more-is ∙ ap (λ l. l ++ visible_in (seen item ∷ [])) is ∙ append_assoc olds (visible_in (all_seen (take i items))) (visible_in (seen item ∷ []))
+      ∙ ap (λ l. olds ++ l) (sym (visible_append (all_seen (take i items)) (seen item ∷ [])) ∙ ap visible_in (sym (map-append seen (take i items) (item ∷ []))) ∙ ap (λ l. visible_in (all_seen l)) (sym longer))
+
+  -- what is visible so far and of what is left still make the whole after a step
+  pub shown_calls : (upper lower : List (Item C)) (pairs : Entries C) (from : ℕ) (laid : Item C) {rest before after : List (Item C)} {grown longer : Entries C} {i n m : ℕ} {item : Item C} {whole : Entries C}
+      → is_sorted path_cmp (all_seen upper) ≡ true → is_sorted path_cmp (all_seen lower) ≡ true
+      → i < length upper → item ≡ get_or upper i item
+      → rest ≡ drop from lower → before ≡ take n rest → after ≡ drop n rest
+      → grown ≡ pairs ++ visible_in (all_seen before) → longer ≡ grown ++ visible_in (seen laid ∷ [])
+      → n ≡ insertion_point path_cmp (seen item).0 (all_seen rest)
+      → seen laid ≡ laid_first (seen item) (all_seen after)
+      → m ≡ count_hidden (seen item) (all_seen after)
+      → pairs ++ visible_in (over (all_seen (drop i upper)) (all_seen (drop from lower))) ≡ whole
+      → longer ++ visible_in (over (all_seen (drop (i + 1) upper)) (all_seen (drop (from + (n + m)) lower))) ≡ whole
+  shown_calls upper lower pairs from laid {before = before} {i = i} {n = n} {m = m} sorted-upper sorted-lower lt item-is rest-is before-is after-is grown-is longer-is n-is laid-is m-is invariant =
+      let left = over (all_seen (drop (i + 1) upper)) (all_seen (drop (from + (n + m)) lower)) in
+      let stepped : all_seen (before ++ laid ∷ []) ++ left ≡ over (all_seen (drop i upper)) (all_seen (drop from lower)) =
+      advance_calls upper lower [] from laid {grown = before} {longer = before ++ laid ∷ []} sorted-upper sorted-lower lt item-is rest-is before-is after-is refl refl n-is laid-is m-is refl in
+      let parts : visible_in (all_seen (before ++ laid ∷ []) ++ left) ≡ (visible_in (all_seen before) ++ visible_in (seen laid ∷ [])) ++ visible_in left =
+      visible_append (all_seen (before ++ laid ∷ [])) left ∙ ap (λ l. visible_in l ++ visible_in left) (map-append seen before (laid ∷ [])) ∙ ap (λ l. l ++ visible_in left) (visible_append (all_seen before) (seen laid ∷ [])) in
+      ap (λ l. l ++ visible_in left) (longer-is ∙ ap (λ l. l ++ visible_in (seen laid ∷ [])) grown-is ∙ append_assoc pairs (visible_in (all_seen before)) (visible_in (seen laid ∷ [])))
+      ∙ append_assoc pairs (visible_in (all_seen before) ++ visible_in (seen laid ∷ [])) (visible_in left)
+      ∙ ap (λ l. pairs ++ l) (sym parts ∙ ap visible_in stepped)
+      ∙ invariant

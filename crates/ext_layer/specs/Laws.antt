@@ -1,5 +1,5 @@
 -- Laws of layered trees.
-use Rattle.std.specs.Prelude.{◌≡◌, ℕ, ◌≤◌, not, List, length, IsTrue, Some}
+use Rattle.std.specs.Prelude.{◌≡◌, ℕ, ◌≤◌, ◌↔◌, not, List, ◌∷◌, ◌++◌, length, IsTrue, Some}
 use Rattle.std.specs.List.{AllByRecursion, Contains}
 use Rattle.ext_tree.specs.Tree.{Entries, as_shown, is_file, is_hide, is_opaque, lookup, most_entries}
 use Rattle.ext_tree.specs.TreeText.{HasText}
@@ -32,3 +32,9 @@ NothingHides C = (layers : List (Entries C)) (es : Entries C) (p : List (List �
 -- the layered tree of trees that have texts has one, where it is within the limit
 abbrev pub LayeredHasText : Type 0
 LayeredHasText = (layers : List (Entries Stamp)) (es : Entries Stamp) → AllByRecursion HasText layers → IsLayered layers es → length es ≤ most_entries → HasText es
+
+-- of two layers with equal entries the lower one shows nothing and hides nothing more: without it the layered tree is the same
+abbrev pub LowerEqualShowsNothing : Type 0 → Type 0
+LowerEqualShowsNothing C =
+    (uppers between lowers : List (Entries C)) (layer es : Entries C)
+    → IsLayered (uppers ++ layer ∷ between ++ layer ∷ lowers) es ↔ IsLayered (uppers ++ layer ∷ between ++ lowers) es

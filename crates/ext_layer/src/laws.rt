@@ -1,6 +1,6 @@
 //! Laws of layered trees, each the contract of a function that does nothing: what holds of every layered tree, whoever
 //! made it.
-ghost use Rattle.ext_layer.specs.Laws.{EntriesAreOfLayers, FilesAreOfLayers, LayeredHasText, NothingHides, OneLayeredTree};
+ghost use Rattle.ext_layer.specs.Laws.{EntriesAreOfLayers, FilesAreOfLayers, LayeredHasText, LowerEqualShowsNothing, NothingHides, OneLayeredTree};
 
 /// Layers have one layered tree.
 pub fn one_layered_tree<C>()
@@ -24,4 +24,10 @@ pub fn nothing_hides<C>()
 /// from what it is written as.
 pub fn layered_has_text()
     ensures { LayeredHasText }
+{}
+
+/// Of two layers with equal entries the lower one shows nothing, and hides nothing that the upper one does not: without it
+/// the layered tree is the same. So many links to one image cost one layer.
+pub fn a_lower_equal_layer_shows_nothing<C>()
+    ensures { LowerEqualShowsNothing C }
 {}

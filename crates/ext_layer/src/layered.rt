@@ -1,16 +1,18 @@
 // The layers over the host as one tree, borrowed or copied.
 ghost use Rattle.std.specs.Prelude.{◌≡◌, ◌++◌, ◌∷◌, [], ◌↔◌, ◌<◌, length, IfOk, IsTrue, OnOk};
+ghost use Rattle.std.specs.FinMap.{is_sorted};
+ghost use Rattle.ext_text.specs.Path.{path_cmp};
 ghost use Rattle.ext_tree.specs.Tree.{all_shown, as_shown, most_entries};
 ghost use Rattle.ext_layer.specs.Layered.{GivesLayered};
-ghost use Rattle.ext_layer.specs.Overlay.{visible_in};
-ghost use Rattle.ext_layer.specs.Joining.{Joins};
+ghost use Rattle.ext_layer.specs.Overlay.{over, visible_in};
+ghost use Rattle.ext_layer.specs.Joining.{Shows};
 ghost use Rattle.ext_layer.specs.Item.{all_seen, entries_seen, seen};
 
 use crate::Layers;
 use crate::errors::LayerErr;
 use crate::item::Item;
 use crate::joining::{items_of_tree, joined};
-use crate::overlay::merged;
+use crate::overlay::{count_hidden, insertion_point, laid_over};
 use ext_text::{OutOfMemory, Path};
 use ext_tree::{Entry, Held1, MOST_ENTRIES, Tree};
 use std::alloc::Global;
@@ -27,8 +29,7 @@ pub fn visible_entries<'a, C>(
 ) -> Result<Vec<&'a (Path, Entry<C>)>, LayerErr>
     ensures { GivesLayered (layers.now ++ host.now ∷ []) (entries_seen result) }
 {
-    let items = joined_items(alloc, layers.as_slice(), host)?;
-    let pairs = visible_pairs(alloc, items.as_slice())?;
+    let pairs = visible_of(alloc, layers.as_slice(), host)?;
     if are_too_many(pairs.as_slice()) {
         return Err(LayerErr::Limit);
     }
@@ -52,20 +53,17 @@ pub fn layer<C: Held1 + Drop>(
     Ok(Tree::from_pairs(copies))
 }
 
-// The marked list of the layers over the host.
-fn joined_items<'a, C>(
+// The entries that are visible of the layers over the host.
+fn visible_of<'a, C>(
     alloc: Global,
     layers: &'a [Tree<C>],
     host: &'a Tree<C>,
-) -> Result<Vec<Item<'a, C>>, OutOfMemory>
-    ensures { IfOk result (λ items. Joins (layers.now ++ host.now ∷ []) (all_seen items.items)) }
+) -> Result<Vec<&'a (Path, Entry<C>)>, OutOfMemory>
+    ensures { IfOk result (λ pairs. Shows (layers.now ++ host.now ∷ []) (all_shown pairs.items)) }
 {
-    if layers.is_empty() {
-        return items_of_tree(alloc, host);
-    }
     let upper = joined(alloc, layers)?;
     let lower = items_of_tree(alloc, host)?;
-    merged(alloc, upper.as_slice(), lower.as_slice())
+    visible_merged(alloc, upper.as_slice(), lower.as_slice())
 }
 
 fn are_too_many<C>(pairs: &[&(Path, Entry<C>)]) -> bool
@@ -74,18 +72,44 @@ fn are_too_many<C>(pairs: &[&(Path, Entry<C>)]) -> bool
     pairs.len() > MOST_ENTRIES
 }
 
-// The entries that are visible, with their paths. Whiteouts have hidden what they hide, and go.
-fn visible_pairs<'a, C>(
+// The entries that are visible of the upper list laid over the lower one: the last join makes no list of its own. Whiteouts
+// have hidden what they hide, and go.
+fn visible_merged<'a, C>(
     alloc: Global,
-    items: &[Item<'a, C>],
+    upper: &[Item<'a, C>],
+    lower: &[Item<'a, C>],
 ) -> Result<Vec<&'a (Path, Entry<C>)>, OutOfMemory>
-    ensures { IfOk result (λ pairs. all_shown pairs.items ≡ visible_in (all_seen items.now)) }
+    requires upper { IsTrue (is_sorted path_cmp (all_seen upper.now)) }
+    requires lower { IsTrue (is_sorted path_cmp (all_seen lower.now)) }
+    ensures { IfOk result (λ pairs. all_shown pairs.items ≡ visible_in (over (all_seen upper.now) (all_seen lower.now))) }
 {
-    let mut pairs = Vec::with_capacity(alloc, items.len())?;
-    for item in items {
-        push_visible(&mut pairs, item)?;
+    let mut pairs = Vec::with_capacity(alloc, upper.len().saturating_add(lower.len()))?;
+    let mut from = 0;
+    'uppers: for item in upper {
+        let (_passed, rest) = lower.split_at(from);
+        let index = insertion_point(rest, item);
+        let (before, after) = rest.split_at(index);
+        append_visible(&mut pairs, before)?;
+        let laid = laid_over(item, after);
+        push_visible(&mut pairs, &laid)?;
+        from += index + count_hidden(after, item);
     }
+    let (_passed, rest) = lower.split_at(from);
+    append_visible(&mut pairs, rest)?;
     Ok(pairs)
+}
+
+// Adds the entries of items at the end, but for whiteouts.
+fn append_visible<'a, C>(
+    pairs: &mut Vec<&'a (Path, Entry<C>)>,
+    items: &[Item<'a, C>],
+) -> Result<(), OutOfMemory>
+    ensures { OnOk result (all_shown pairs.new.items ≡ all_shown pairs.old.items ++ visible_in (all_seen items.now)) }
+{
+    for item in items {
+        push_visible(pairs, item)?;
+    }
+    Ok(())
 }
 
 // Adds an item's entry at the end, where it is no whiteout.

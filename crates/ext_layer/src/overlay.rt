@@ -46,9 +46,9 @@ fn append<'a, C>(items: &mut Vec<Item<'a, C>>, more: &[Item<'a, C>]) -> Result<(
     Ok(())
 }
 
-// How many of the lower items stand before the upper one. Whole strides are passed by one comparison each, so that a
-// few upper items in a large lower list cost little.
-fn insertion_point<C>(lower: &[Item<C>], upper: &Item<C>) -> usize
+/// How many of the lower items stand before the upper one. Whole strides are passed by one comparison each, so that a
+/// few upper items in a large lower list cost little.
+pub(crate) fn insertion_point<C>(lower: &[Item<C>], upper: &Item<C>) -> usize
     requires { IsTrue (is_sorted path_cmp (all_seen lower.now)) }
     ensures count { result ≡ insertion_point path_cmp (seen upper.now).0 (all_seen lower.now) }
     ensures within { result ≤ length lower.now }
@@ -97,8 +97,8 @@ fn is_past<C>(upper: &Item<C>, item: &Item<C>) -> bool
     upper.pair.0.cmp(&item.pair.0).is_gt()
 }
 
-// How many lower items the upper one hides, of those that do not stand before it.
-fn count_hidden<C>(lower: &[Item<C>], upper: &Item<C>) -> usize
+/// How many lower items the upper one hides, of those that do not stand before it.
+pub(crate) fn count_hidden<C>(lower: &[Item<C>], upper: &Item<C>) -> usize
     ensures count { result ≡ count_hidden (seen upper.now) (all_seen lower.now) }
     ensures within { result ≤ length lower.now }
 {
@@ -121,8 +121,8 @@ fn hides<C>(upper: &Item<C>, path: &Path) -> bool
     }
 }
 
-// The upper item as it lies over the lower ones that do not stand before it.
-fn laid_over<'a, C>(upper: &Item<'a, C>, lower: &[Item<'a, C>]) -> Item<'a, C>
+/// The upper item as it lies over the lower ones that do not stand before it.
+pub(crate) fn laid_over<'a, C>(upper: &Item<'a, C>, lower: &[Item<'a, C>]) -> Item<'a, C>
     ensures path { (seen result).0 ≡ (seen upper.now).0 }
     ensures mark { (seen result).1 ≡ over_entry (seen upper.now).1 (first_at (seen upper.now).0 (all_seen lower.now)) }
 {

@@ -46,3 +46,10 @@ unfolding digits
 octal_step n h small =
     spell_next 63 n [] h ∙ spell_enough 62 63 (n / 8) (last_glyph n ∷ []) (omega arith) (omega arith) ∙ spell-append 64 (n / 8) (last_glyph n ∷ [])
     ∙ (λ i. spell 64 (n / 8) [] ++ glyph n i ∷ [])
+
+-- the digits of a number that has three
+pub three_octal : (n : ℕ) → 64 ≤ n → n < 512 → digits 8 false n ≡ (48 + n / 64) ∷ (48 + n / 8 % 8) ∷ (48 + n % 8) ∷ []
+three_octal n low high =
+    let first : n / 8 / 8 ≡ n / 64 = omega arith in
+    octal_step n (omega arith) (omega arith)
+    ∙ ap (λ ds. ds ++ (48 + n % 8) ∷ []) (octal_step (n / 8) (omega arith) (omega arith) ∙ ap (λ ds. ds ++ (48 + n / 8 % 8) ∷ []) (octal_digit (n / 8 / 8) (omega arith) ∙ ap (λ d. (48 + d) ∷ []) first))

@@ -54,6 +54,9 @@ pub fn append_octal(text: &mut Vec<u8>, number: u64) -> Result<(), OutOfMemory>
     ensures ok { OnOk result (text.new.items ≡ text.old.items ++ octal number) }
     ensures err { OnErr result (text.new.items ≡ text.old.items) }
 {
+    if number >= 64 && number < 512 {
+        return append_three_digits(text, number);
+    }
     let before = text.len();
     match append_octal_digits(text, number) {
         Ok(()) => Ok(()),
@@ -62,6 +65,29 @@ pub fn append_octal(text: &mut Vec<u8>, number: u64) -> Result<(), OutOfMemory>
             Err(failed)
         }
     }
+}
+
+// Adds the octal digits of a number that has three, as the permissions of most files.
+fn append_three_digits(text: &mut Vec<u8>, number: u64) -> Result<(), OutOfMemory>
+    requires low { 64 ≤ number }
+    requires high { number < 512 }
+    ensures ok { OnOk result (text.new.items ≡ text.old.items ++ octal number) }
+    ensures err { OnErr result (text.new.items ≡ text.old.items) }
+{
+    allocated(text.extend_from_slice(&three_digits(number)))
+}
+
+// The octal digits of a number that has three.
+fn three_digits(number: u64) -> [u8; 3]
+    requires low { 64 ≤ number }
+    requires high { number < 512 }
+    ensures { result ≡ octal number }
+{
+    [
+        b'0' + (number / 64) as u8,
+        b'0' + (number / 8 % 8) as u8,
+        b'0' + (number % 8) as u8,
+    ]
 }
 
 // Adds the octal digits of a number. Where memory runs out, some of them have been added.
@@ -96,12 +122,10 @@ fn value_of(digits: &[u8], base: u32, most: u64) -> Option<u64>
 fn one_digit_more(value: u64, base: u32, digit: u32, most: u64) -> Option<u64>
     ensures { SomeIff result (value * base + digit ≤ most) (value * base + digit) }
 {
-    let next = u128::from(value) * u128::from(base) + u128::from(digit);
-    if next <= u128::from(most) {
-        Some(next as u64)
-    } else {
-        None
-    }
+    let next = value
+        .checked_mul(u64::from(base))?
+        .checked_add(u64::from(digit))?;
+    if next <= most { Some(next) } else { None }
 }
 
 // Whether a numeral has no leading zero: it is `0`, or begins with another digit.

@@ -378,7 +378,7 @@ pub clears_no_names : (T : Type 0) (t : T) (dir : List (List ℕ)) (b : ℕ) (s 
 clears_no_names T t dir b s rests =
     clears_rests (is_below_any dir []) (done T t) b s s rests (omega arith) (always s.told _ (λ d q is. absurd (false≢true is)))
 
-any_append : (f : List ℕ → Bool) (xs ys : List (List ℕ)) → list_any f (xs ++ ys) ≡ (list_any f xs || list_any f ys)
+pub any_append : {X : Type 0} (f : X → Bool) (xs ys : List X) → list_any f (xs ++ ys) ≡ (list_any f xs || list_any f ys)
 any_append f [] ys = refl
 any_append f (x ∷ xs) ys = ap (λ b. f x || b) (any_append f xs ys) ∙ sym (or_assoc (f x) (list_any f xs) (list_any f ys))
   where

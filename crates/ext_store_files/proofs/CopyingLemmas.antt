@@ -19,7 +19,7 @@ use Rattle.ext_store_files.specs.declared.errors.CopyErr.{CopyErr}
 use Rattle.ext_store_files.specs.declared.errors.CopyErr.TheVariants.{OutOfMemory, DiskFault, DepotFault, NotInDepot, Mismatch}
 use Rattle.ext_io.specs.Pieces.{IsPieceAt}
 use Rattle.ext_store_files.specs.Writing.{is_at, nowhere, Works, IsFileWith, Holds, Appends}
-use Rattle.ext_store_files.specs.Copying.{bytes_told, contents_told, depot_told, IsReadUpTo, IsCopied, IsFed, CopyKeeps, CopyCause, FeedCause, IsPieceTold, IsThere, ReadDepotCause}
+use Rattle.ext_store_files.specs.Copying.{bytes_told, contents_told, depot_told, IsReadUpTo, IsCopied, IsFed, CopyKeeps, CopyCause, FeedCause, IsPieceTold, IsThere, ReadDepotCause, BeginsTold}
 use Rattle.ext_store_files.proofs.ReadingLemmas.{begins_more, whole_read}
 use Rattle.ext_store_files.proofs.HashingLemmas.{piece_read}
 use Rattle.ext_store_files.proofs.WritingLemmas.{HasAppended, appended_no_folder, appended_within, appended_then, works_itself, works_then, works_wider, holds_map, synced_written, still_no_folder, and_synced}
@@ -54,21 +54,15 @@ pub read_piece : (contents : Option Files) (path : List (List ℕ)) (at : ℕ) (
 read_piece None path at buf count there long read = tt
 read_piece (Some files) path at buf count there long read = piece_of (files path) at buf count there long read
 
--- the file begins with these bytes, where it is told
-abbrev pub Begins : shelf.Told → List ℕ → Type 0
-Begins untold bytes = Unit {0}
-Begins missing bytes = ⊥
-Begins (stored all) bytes = all ≡ bytes ++ drop (length bytes) all
-
-begins_bytes : (told : Option (List ℕ)) → IsSome told → Begins (bytes_told told) []
+begins_bytes : (told : Option (List ℕ)) → IsSome told → BeginsTold (bytes_told told) []
 begins_bytes None there = absurd (false≢true there)
 begins_bytes (Some bytes) there = refl
 
-pub begins_nothing : (contents : Option Files) (path : List (List ℕ)) → IfSome contents (λ files. IsSome (files path)) → Begins (contents_told contents path) []
+pub begins_nothing : (contents : Option Files) (path : List (List ℕ)) → IfSome contents (λ files. IsSome (files path)) → BeginsTold (contents_told contents path) []
 begins_nothing None path there = tt
 begins_nothing (Some files) path there = begins_bytes (files path) there
 
-pub begins_then : (told : shelf.Told) (bytes piece : List ℕ) (at : ℕ) → length bytes ≡ at → Begins told bytes → IsPieceTold told at piece → Begins told (bytes ++ piece)
+pub begins_then : (told : shelf.Told) (bytes piece : List ℕ) (at : ℕ) → length bytes ≡ at → BeginsTold told bytes → IsPieceTold told at piece → BeginsTold told (bytes ++ piece)
 begins_then untold bytes piece at long begins next = tt
 begins_then missing bytes piece at long begins next = begins
 begins_then (stored all) bytes piece at long begins next = begins_more all bytes piece begins (subst (λ n. IsPieceAt all n piece) (sym long) next)
@@ -79,7 +73,7 @@ no_piece (b ∷ piece) none = absurd (omega (arith, none))
 
 -- what was read is all that there is, or one byte more than so many
 pub read_up_to : (told : shelf.Told) (size at n : ℕ) (bytes piece : List ℕ) → length bytes ≡ at → length piece ≡ n → at ≤ size → at + n ≤ size + 1 → (n ≡ 0) ⊎ (size < at + n)
-    → Begins told bytes → IsPieceTold told at piece → IsReadUpTo told size (bytes ++ piece)
+    → BeginsTold told bytes → IsPieceTold told at piece → IsReadUpTo told size (bytes ++ piece)
 read_up_to untold size at n bytes piece long longer within most end begins next = tt
 read_up_to missing size at n bytes piece long longer within most end begins next = begins
 read_up_to (stored all) size at n bytes piece long longer within most (inl none) begins next =
@@ -97,7 +91,7 @@ pub record Feeding (told : shelf.Told) (path : List (List ℕ)) (old new : DiskS
   pub long : length bytes ≡ at
   pub within : at ≤ size
   pub fed : holds bytes
-  pub begins : Begins told bytes
+  pub begins : BeginsTold told bytes
   pub appended : HasAppended path old new bytes
   pub kept : IsKept before after
 

@@ -1,7 +1,7 @@
 -- The lemmas on this crate's definitions that other crates cite.
 
--- a generation's name is read as its number, and what is read is the number of the generation that has the name
-pub use Rattle.ext_store_files.proofs.NamesLemmas.{named_generation, read_generation, one_generation}
+-- the digits of a generation's name are its number, it is read as that, and what is read is the number of the generation that has the name
+pub use Rattle.ext_store_files.proofs.NamesLemmas.{name_value, named_generation, read_generation, one_generation}
 -- which names are left-overs, both ways
 pub use Rattle.ext_store_files.proofs.NamesLemmas.{left_is, is_left}
 -- paths that differ, each of them in a list, are no more than the list has
@@ -12,6 +12,10 @@ pub use Rattle.ext_store_files.proofs.ToldLemmas.{told_map, told_then, told_itse
 pub use Rattle.ext_store_files.proofs.WritingLemmas.{works_itself, works_then, works_wider, rests_works}
 -- what holds of a disk where it is told: a weaker fact, two facts, and a fact of the disk that follows
 pub use Rattle.ext_store_files.proofs.WritingLemmas.{holds_map, holds_both, holds_then}
+-- what is synced stays synced where a folder is synced
+pub use Rattle.ext_store_files.proofs.WritingLemmas.{still_synced}
+-- one of two lists has what is sought where both together do
+pub use Rattle.ext_store_files.proofs.ClearingLemmas.{any_append}
 -- where something stands, something stands at each prefix; a path below another as the other and the rest
 pub use Rattle.ext_store_files.proofs.ClearingLemmas.{stands_above, rest_of, prefix_append, proper_append, proper_rest}
 -- a depot keeps what it has through each call

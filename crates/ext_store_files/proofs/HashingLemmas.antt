@@ -34,7 +34,7 @@ pub record HasHashed (old new : DiskState) (path : List (List ℕ)) (size : ℕ)
   pub fed : holds bytes
   pub begins : BeginsWith old path bytes
 
-pub hashed_nothing : (s : DiskState) (path : List (List ℕ)) (size : ℕ) (holds : List ℕ → Type 0) → Rests s s → holds [] → HasHashed s s path size holds 0
+unfoldable pub hashed_nothing : (s : DiskState) (path : List (List ℕ)) (size : ℕ) (holds : List ℕ → Type 0) → Rests s s → holds [] → HasHashed s s path size holds 0
 hashed_nothing s path size holds rests fed = record {
   rests = rests;
   within = omega arith;
@@ -48,7 +48,7 @@ hashed_nothing s path size holds rests fed = record {
     nothing None = tt
     nothing (Some d) = λ all is. refl
 
-pub hashed_more : (old mid new : DiskState) (path : List (List ℕ)) (size : ℕ) (before after : List ℕ → Type 0) (at : ℕ) (piece : List ℕ) (n : ℕ) → HasHashed old mid path size before at → Rests mid new
+unfoldable pub hashed_more : (old mid new : DiskState) (path : List (List ℕ)) (size : ℕ) (before after : List ℕ → Type 0) (at : ℕ) (piece : List ℕ) (n : ℕ) → HasHashed old mid path size before at → Rests mid new
     → length piece ≡ n → n + at ≤ size → ((m : List ℕ) → before m → after (m ++ piece)) → IsPieceOf mid path at piece → HasHashed old new path size after (at + n)
 hashed_more old mid new path size before after at piece n has rests long fits feeds next = record {
   rests = rests_then old mid new has.rests rests;

@@ -7,5 +7,6 @@ pub mod LeftOversLemmas
 pub mod WritingLemmas
 pub mod HashingLemmas
 pub mod CopyingLemmas
+pub mod BesideLemmas
 pub mod ComparingLemmas
 pub mod ForCallers

@@ -1,5 +1,5 @@
 -- The names of generations and what is read of them.
-use Rattle.std.proofs.Common.{◌≡◌, ◌≢◌, ◌⊎◌, ℕ, ◌^◌, Bool, true, false, ◌&&◌, List, drop, Option, Some, None, refl, sym, ap, ◌∙◌, subst, inl, inr, arith}
+use Rattle.std.proofs.Common.{◌≡◌, ◌≢◌, ◌⊎◌, ℕ, ◌<◌, ◌^◌, Bool, true, false, ◌&&◌, List, drop, Option, Some, None, refl, sym, ap, ◌∙◌, subst, inl, inr, arith}
 use Rattle.std.specs.Prelude.{MatchOption, nat_lt}
 use Rattle.std.specs.Ordering.{eq_by_cmp}
 use Rattle.std.specs.Str.Parse.{digits_value}
@@ -17,13 +17,13 @@ tested_generation : (n : ℕ) → is_generation n ≡ true → IsGeneration n
 tested_generation n is = let parts = and_parts (nat_lt 0 n) (nat_lt n (2 ^ 32)) is in (ltb-true 0 n parts.0, ltb-true n (2 ^ 32) parts.1)
 
 -- what the digits of a generation's name write
-name_value : (n : ℕ) → IsGeneration n → digits_value 10 (drop 2 (generation_name n)) ≡ n
-name_value n is = (decimal_is_IsNumeral n (omega (arith, is.1))).1
+pub name_value : (n : ℕ) → n < 2 ^ 32 → digits_value 10 (drop 2 (generation_name n)) ≡ n
+name_value n small = (decimal_is_IsNumeral n (omega arith)).1
 
 -- a generation's name is read as its number
 pub named_generation : (n : ℕ) → IsGeneration n → generation_of (generation_name n) ≡ Some n
 named_generation n is =
-    ap (λ k. generation_named k (generation_name n)) (name_value n is)
+    ap (λ k. generation_named k (generation_name n)) (name_value n is.1)
     ∙ cond-true _ _ _ (and_from _ _ (generation_tested n is) (tied_name (generation_name n) (generation_name n) refl))
 
 named_either : (name : List ℕ) (n : ℕ) → (m : ℕ) → generation_named n name ≡ Some m → IsGeneration m × (name ≡ generation_name m)

@@ -251,7 +251,7 @@ child_is : (p : List (List ℕ)) (n : List ℕ) → child_name p (p ++ n ∷ [])
 child_is [] n = refl
 child_is (m ∷ p) n = cond-true (eq_by_cmp Rattle.ext_text.specs.Name.bytes_cmp m m) (child_name p (p ++ n ∷ [])) None (Rattle.ext_text.proofs.ForCallers.tied_name m m refl) ∙ child_is p n
 
-still_synced : (b : Bool) (x : Place) → is_synced x ≡ true → is_synced (cond b (synced x) x) ≡ true
+pub still_synced : (b : Bool) (x : Place) → is_synced x ≡ true → is_synced (cond b (synced x) x) ≡ true
 still_synced true x is = refl
 still_synced false x is = is
 
@@ -354,10 +354,6 @@ and_synced p most r s t one two =
 
 pub only_made : (p : List (List ℕ)) (most : ℕ) (r s : DiskState) → Works (is_prefix p) (is_at p) 0 r s → Works (is_prefix p) (is_at p) most r s
 only_made p most r s works = works_wider (is_prefix p) (is_prefix p) (is_at p) (is_at p) 0 most r s (omega arith) (λ q out. out) (λ q out. out) works
-
-pub on_ok : {T E : Type 0} (r : Result T E) (P Q : Type 0) → (P → Q) → OnOk r P → OnOk r Q
-on_ok (Ok t) P Q gives is = gives is
-on_ok (Err e) P Q gives is = tt
 
 -- however the making of a file ends, no folder stands there
 file_ends : (p : List (List ℕ)) (done : Bool) (d e : Told) → IsFree d.places p → EndsTold (make_file p) done d e → is_no_folder (e.places p).node ≡ true

@@ -1,15 +1,17 @@
 -- A file of the depot compared with one that the store keeps.
-use Rattle.std.specs.Prelude.{◌≡◌, ◌≢◌, ℕ, ◌<◌, Bool, List, length, take, drop, Option, Some, None, MatchBool}
+use Rattle.std.specs.Prelude.{◌≡◌, ◌≢◌, ℕ, Bool, List, length, MatchBool, IsSome}
 use Rattle.ext_text.specs.Causes.{Rose}
 use Rattle.ext_tree.specs.declared.stamp.Stamp.{Stamp}
 use Rattle.ext_disk.specs.Disk.{DiskState}
 use Rattle.ext_depot.specs.Depot.{DepotState}
-use Rattle.ext_host.specs.Held.{IsStampOf}
 use Rattle.ext_host.specs.Shelf as shelf
-use Rattle.ext_host.specs.Shelf.{untold, missing, stored, IsFound}
+use Rattle.ext_host.specs.Shelf.{untold, missing, stored, IsFound, IsTold}
 use Rattle.ext_host.specs.declared.home.Home.{Home}
-use Rattle.ext_store_files.specs.HeldFiles.{IsListed}
-use Rattle.ext_store_files.specs.Copying.{IsReadUpTo, IsReadStamp, IsMissing}
+use Rattle.ext_store_files.specs.HeldFiles.{IsListed, IsDigestAt}
+use Rattle.ext_store_files.specs.Copying.{IsReadStamp, IsMissing}
+use Rattle.ext_store_files.specs.Beside.{IsFollowed}
+use Rattle.ext_store_files.specs.declared.comparing.Pass.{Pass}
+use Rattle.ext_store_files.specs.declared.comparing.TextPass.{TextPass}
 use Rattle.ext_store_files.specs.declared.errors.CopyErr.{CopyErr}
 use Rattle.ext_store_files.specs.declared.errors.CopyErr.TheVariants as copy_errors
 use Rattle.ext_store_files.specs.declared.errors.CompareErr.{CompareErr}
@@ -45,40 +47,10 @@ compare_err_of_copy copy_errors.DepotFault = Fault DepotFault
 compare_err_of_copy copy_errors.NotInDepot = NotInDepot
 compare_err_of_copy (copy_errors.Mismatch listed found) = Mismatch listed found
 
--- the stamp of what was read of a file, up to one byte more than so many
-abbrev pub IsStampUpTo : shelf.Told → ℕ → Stamp → Type 0
-IsStampUpTo told size found = (bytes : List ℕ) × IsStampOf bytes found × IsReadUpTo told size bytes
+-- what a pass over both gave, where it came to the end of ours: whether the other is as listed so far, and the same
+abbrev pub IsPass : DepotState → DepotState → shelf.Told → shelf.Told → Stamp → Pass → Type 0
+IsPass before after ours theirs listed pass = IsSome pass.digest → (xs : List ℕ) × IsTold ours xs × (length xs ≡ listed.size) × IsFollowed before after theirs listed xs pass.brought
 
--- why a file of the depot is not the listed one
-abbrev pub DepotCause : DepotState → DepotState → shelf.Told → Stamp → CopyErr → Type 0
-DepotCause before after told listed copy_errors.OutOfMemory = ⊥
-DepotCause before after told listed copy_errors.DiskFault = ⊥
-DepotCause before after told listed copy_errors.DepotFault = Rose before.faults after.faults
-DepotCause before after told listed copy_errors.NotInDepot = IsMissing told
-DepotCause before after told listed (copy_errors.Mismatch stamp found) = (stamp ≡ listed) × IsReadStamp told listed found
-
--- so many bytes from the byte `at` on are the same in both; or, where both go on there, the files differ
-abbrev pub SamePiece : shelf.Told → shelf.Told → ℕ → Option ℕ → Type 0
-SamePiece (stored xs) (stored ys) at None = at < length xs → at < length ys → xs ≢ ys
-SamePiece (stored xs) (stored ys) at (Some n) = take n (drop at xs) ≡ take n (drop at ys)
-SamePiece (stored xs) missing at n = Unit {0}
-SamePiece (stored xs) untold at n = Unit {0}
-SamePiece missing theirs at n = Unit {0}
-SamePiece untold theirs at n = Unit {0}
-
--- whether two files of this size have the same bytes
-abbrev pub SameWhole : shelf.Told → shelf.Told → ℕ → Bool → Type 0
-SameWhole (stored xs) (stored ys) size same = length xs ≡ size → length ys ≡ size → MatchBool same (xs ≡ ys) (xs ≢ ys)
-SameWhole (stored xs) missing size same = Unit {0}
-SameWhole (stored xs) untold size same = Unit {0}
-SameWhole missing theirs size same = Unit {0}
-SameWhole untold theirs size same = Unit {0}
-
--- why a piece of either was not read
-abbrev pub PairCause : DiskState → DiskState → DepotState → DepotState → CompareErr → Type 0
-PairCause old new before after (Fault OutOfMemory) = ⊥
-PairCause old new before after (Fault DiskFault) = Rose old.faults new.faults
-PairCause old new before after (Fault DepotFault) = Rose before.faults after.faults
-PairCause old new before after (Fault (Damaged damage)) = ⊥
-PairCause old new before after NotInDepot = ⊥
-PairCause old new before after (Mismatch stamp found) = ⊥
+-- what a pass beside a text gave: the digest of what is told, where it has the size of the text, and then whether it is the text
+abbrev pub IsTextPass : shelf.Told → List ℕ → TextPass → Type 0
+IsTextPass told text pass = IsDigestAt told (length text) pass.digest × (IsSome pass.digest → IsSame told (stored text) pass.same)

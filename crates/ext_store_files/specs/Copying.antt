@@ -1,5 +1,5 @@
 -- A file of the depot that is copied into the store: what was read of it, and why it was not copied.
-use Rattle.std.specs.Prelude.{◌≡◌, ◌≢◌, ℕ, ◌+◌, ◌≤◌, true, List, take, Option, Some, None, IfSome, IsSome}
+use Rattle.std.specs.Prelude.{◌≡◌, ◌≢◌, ℕ, ◌+◌, ◌≤◌, true, List, ◌++◌, length, take, drop, Option, Some, None, IfSome, IsSome}
 use Rattle.ext_text.specs.Causes.{Rose}
 use Rattle.ext_text.specs.Path.{is_prefix}
 use Rattle.ext_tree.specs.declared.stamp.Stamp.{Stamp}
@@ -79,6 +79,12 @@ abbrev pub IsPieceTold : shelf.Told → ℕ → List ℕ → Type 0
 IsPieceTold untold at piece = Unit {0}
 IsPieceTold missing at piece = ⊥
 IsPieceTold (stored all) at piece = IsPieceAt all at piece
+
+-- the file begins with these bytes, where it is told
+abbrev pub BeginsTold : shelf.Told → List ℕ → Type 0
+BeginsTold untold bytes = Unit {0}
+BeginsTold missing bytes = ⊥
+BeginsTold (stored all) bytes = all ≡ bytes ++ drop (length bytes) all
 
 -- a file stands there, where that is told
 abbrev pub IsThere : DepotState → List (List ℕ) → Type 0

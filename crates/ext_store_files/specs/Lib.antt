@@ -8,4 +8,5 @@ pub mod HeldFiles
 pub mod GenShelf
 pub mod Writing
 pub mod Copying
+pub mod Beside
 pub mod Comparing

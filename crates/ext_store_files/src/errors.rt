@@ -183,6 +183,19 @@ impl From<ShelfErr> for CompareErr {
     }
 }
 
+impl From<ReadErr> for CompareErr {
+    ghost use Rattle.std.specs.Prelude.{◌≡◌};
+    ghost use Rattle.ext_store_files.specs.Reading.{shelf_err};
+    ghost use Rattle.ext_store_files.specs.Fault.{fault_of_shelf};
+    ghost use Rattle.ext_store_files.specs.declared.errors.CompareErr.TheVariants as compare_errors;
+
+    ghost from_gives = { λ e f. f ≡ compare_errors.Fault (fault_of_shelf (shelf_err e)) };
+
+    fn from(refused: ReadErr) -> CompareErr {
+        CompareErr::from(ShelfErr::from(refused))
+    }
+}
+
 impl From<CopyErr> for CompareErr {
     ghost use Rattle.std.specs.Prelude.{◌≡◌};
     ghost use Rattle.ext_store_files.specs.Comparing.{compare_err_of_copy};

@@ -1,5 +1,5 @@
 // The digest of a file of the store, read in pieces.
-ghost use Rattle.std.specs.Prelude.{◌≡◌, ℕ, ◌<◌, ◌≤◌, true, List, ◌++◌, length, IfOk, IfErr};
+ghost use Rattle.std.specs.Prelude.{◌≡◌, ℕ, ◌<◌, ◌≤◌, true, List, ◌++◌, length, take, IfOk, IfErr};
 ghost use Rattle.sha2.specs.Hashers.{Holds256};
 ghost use Rattle.ext_text.specs.Causes.{HasCause};
 ghost use Rattle.ext_disk.specs.Since.{Rests};
@@ -60,8 +60,11 @@ fn hash_whole<D: Disk>(
     Ok(Some(Digest(<Sha256 as sha2::Digest>::finalize(hasher))))
 }
 
-// Reads once from the byte `at` on, hashes what was read, and gives how much that was.
-fn hash_piece<D: Disk>(
+/// Reads once from the byte `at` on, hashes what was read, and gives how much that was.
+///
+/// # Errors
+/// The disk had a fault.
+pub(crate) fn hash_piece<D: Disk>(
     disk: &mut D,
     path: &Path,
     at: u64,
@@ -70,9 +73,9 @@ fn hash_piece<D: Disk>(
 ) -> Result<usize, Failed>
     requires room { 0 < length buffer.old }
     requires file { IsFileAt (D.state disk.old) path.now }
-    ensures ok { IfOk result (λ n. (piece : List ℕ) × (length piece ≡ n) × (n ≤ length buffer.old)
-        × ((m : List ℕ) → Holds256 hasher.old m → Holds256 hasher.new (m ++ piece))
-        × IsPieceOf (D.state disk.old) path.now at piece) }
+    ensures ok { IfOk result (λ n. (n ≤ length buffer.old) × (length (take n buffer.new) ≡ n)
+        × ((m : List ℕ) → Holds256 hasher.old m → Holds256 hasher.new (m ++ take n buffer.new))
+        × IsPieceOf (D.state disk.old) path.now at (take n buffer.new)) }
     ensures rests { Rests (D.state disk.old) (D.state disk.new) }
     ensures cause { HasCause result (D.state disk.old).faults (D.state disk.new).faults }
 {

@@ -7,6 +7,7 @@
 //! on this one.
 #![tactic(auto)]
 
+mod beside;
 mod comparing;
 mod copying;
 mod errors;
@@ -18,21 +19,23 @@ pub mod laws;
 mod left_overs;
 mod names;
 mod paths;
+mod pieces;
 mod reading;
 mod removal;
 mod writing;
 
-pub use comparing::is_same_as_kept;
+pub use comparing::{is_same_as_kept, is_same_as_text};
 pub use copying::copy_from_depot;
 pub use errors::{CleanErr, CompareErr, CopyErr, ReadErr};
 pub use fault::StoreFault;
 pub use gen_shelf::GenShelf;
-pub use held_files::{file, piece, verify};
+pub use held_files::{file, verify};
 pub use left_overs::{MOST_LEFT_OVERS, is_left_over, remove_left_overs};
 pub use names::{generation_of, read_current};
 pub use paths::{
     FILES_OF_A_FOLDER, current_path, generation_path, home_folder, home_path, index_path,
     next_path, store_folder,
 };
+pub use pieces::{next_piece, piece};
 pub use reading::{Found, read_file};
 pub use writing::{make_folder, sync_folder, write_file};

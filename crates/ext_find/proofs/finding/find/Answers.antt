@@ -13,9 +13,9 @@ directories-init g c = keeps_none g.C.Measured.size c.args.base.now c.args.class
 pub returns : goal.returns
 returns g c =
     let reached : c.directories.index ≡ c.count_of_directories-index-end.result = omega (arith, c.directories-test.false) in
-    if_ok (λ items. items ≡ map (λ e. item_with e.0 e.1) c.sort_keys.new.self.entries) (AreFound g.C.Measured.size c.args.base.now c.args.class c.args.arch c.args.hierarchies.now) c.items_of.result
+    if_ok (λ items. items ≡ map (λ e. item_with e.0 e.1) c.directories.kept.entries) (AreFound g.C.Measured.size c.args.base.now c.args.class c.args.arch c.args.hierarchies.now) c.items_of.result
     (λ items same. subst (AreFound g.C.Measured.size c.args.base.now c.args.class c.args.arch c.args.hierarchies.now) (sym same)
-    (found_of g.C.Measured.size c.args.base.now c.args.class c.args.arch c.args.hierarchies.now c.directories.kept c.sort_keys.new.self
+    (found_of g.C.Measured.size c.args.base.now c.args.class c.args.arch c.args.hierarchies.now c.directories.kept
     (subst (λ i. Keeps g.C.Measured.size c.args.base.now c.args.class c.args.arch c.args.hierarchies.now (before i) c.directories.kept) (reached ∙ c.count_of_directories-index-end.ensures) c.directories.invariant)
-    c.in_ok-sort_keys.ensures.reordered c.in_ok-sort_keys.ensures.sorted c.in_ok-sort_keys.ensures.unique))
-    c.items_of.ensures
+    c.items_of.ensures.ordered))
+    c.items_of.ensures.items

@@ -2,7 +2,11 @@ use Rattle.std.specs.List.{flat_map}
 use Rattle.std.proofs.lemmas.Result.{err_from_is_err_and}
 use Rattle.ext_gen.specs.Checking.{files_of_both, files_of_past}
 use Rattle.ext_gen.proofs.CheckingLemmas.{checked_more, few_pasts, host_bytes, host_files, may_check_pasts, may_check_present, stops_later}
+use Rattle.ext_gen.proofs.VerifiedLemmas.{none_verified}
 use Rattle.ext_gen.proofs.checking.check.Goals as goal
+
+pub check_both-requires-clause-known : goal.check_both-requires-clause-known
+check_both-requires-clause-known g c = none_verified (g.D.Disk.state c.args.disk.now) c.new-verified.result c.new-verified.ensures.empty
 
 pub check_pasts-requires-clause-each : goal.check_pasts-requires-clause-each
 check_pasts-requires-clause-each g c = may_check_pasts c.args.host.now c.as_slice.result.now c.as_slice.ensures c.requires.valid c.requires.served

@@ -4,8 +4,8 @@ use Rattle.ext_gen.specs.Checking.{files_in, files_of}
 use Rattle.ext_gen.proofs.CheckingLemmas.{bytes_fit, files_split, number_fits, served_here, stops_early, stops_later}
 use Rattle.ext_gen.proofs.checking.check_entries.Goals as goal
 
-pub check_entry-requires : goal.check_entry-requires
-check_entry-requires g c = served_here c.args.entries.now c.entries.entry-index c.entry-item.result c.entries-test.true c.entry-item.is c.requires.served
+pub check_entry-requires-clause-served : goal.check_entry-requires-clause-served
+check_entry-requires-clause-served g c = served_here c.args.entries.now c.entries.entry-index c.entry-item.result c.entries-test.true c.entry-item.is c.requires.served
 
 pub returns-in_err-more-clause-cause : goal.returns-in_err-more-clause-cause
 returns-in_err-more-clause-cause g c =

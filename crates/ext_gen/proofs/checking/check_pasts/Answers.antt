@@ -37,4 +37,5 @@ pasts-preserved g c = (
   rw (files_next files_of_past c.args.pasts.now c.pasts.past-index c.past-item.result c.pasts-test.true c.past-item.is)
       (checked_more (g.D.Disk.state c.args.disk.now) (g.D.Disk.state c.pasts.disk) (flat_map files_of_past (take c.pasts.past-index c.args.pasts.now)) (files_of_past c.past-item.result) _ _ c.sum-counts.result
       c.pasts.invariant.0 c.pasts.invariant.1 c.in_ok-more.ensures.checked c.sum-counts.ensures.files c.sum-counts.ensures.bytes),
+  c.in_ok-more.ensures.known,
 )

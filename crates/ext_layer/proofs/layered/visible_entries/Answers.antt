@@ -5,8 +5,8 @@ use Rattle.ext_layer.proofs.layered.visible_entries.Goals as goal
 
 pub returns-then-are_too_many : goal.returns-then-are_too_many
 returns-then-are_too_many g c =
-    too_many_at c.args.host.now c.in_ok-items.items.items c.as_slice-2.result.now c.in_ok-pairs.pairs.items c.as_slice-3.result.now c.in_ok-items.ensures c.as_slice.ensures c.as_slice-2.ensures.value c.in_ok-pairs.ensures c.as_slice-3.ensures.value (c.if-are_too_many.ensures.0 refl)
+    too_many_at c.args.host.now c.in_ok-pairs.pairs.items c.as_slice-2.result.now c.in_ok-pairs.ensures c.as_slice.ensures c.as_slice-2.ensures.value (c.if-are_too_many.ensures.0 refl)
 
 pub returns : goal.returns
 returns g c =
-    within_at c.args.host.now c.in_ok-items.items.items c.as_slice-2.result.now c.in_ok-pairs.pairs.items c.as_slice-3.result.now c.in_ok-items.ensures c.as_slice.ensures c.as_slice-2.ensures.value c.in_ok-pairs.ensures c.as_slice-3.ensures.value (λ over. false≢true (c.if-are_too_many.ensures.1 over))
+    within_at c.args.host.now c.in_ok-pairs.pairs.items c.as_slice-2.result.now c.in_ok-pairs.ensures c.as_slice.ensures c.as_slice-2.ensures.value (λ more. false≢true (c.if-are_too_many.ensures.1 more))

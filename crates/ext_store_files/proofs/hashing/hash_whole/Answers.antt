@@ -1,4 +1,4 @@
-use Rattle.std.proofs.Common.{◌+◌, ◌≤◌, arith, length-take}
+use Rattle.std.proofs.Common.{◌+◌, ◌≤◌, take, arith, length-take}
 use Rattle.std.proofs.lemmas.Grind.{common_steps}
 use Rattle.sha2.specs.Hashers.{Holds256}
 use Rattle.ext_store_files.proofs.HashingLemmas.{hashed_more, hashed_whole}
@@ -8,9 +8,9 @@ pub pieces-preserved : goal.pieces-preserved
 pieces-preserved g c =
     let read = c.in_ok-count.ensures.ok in
     let fits : c.in_ok-count.count + c.pieces.at ≤ c.args.size =
-    omega (arith, read.2, length-take c.min-room.result c.deref_mut.result.now, c.min-room.ensures, c.pieces.invariant.0.within) in (
+    omega (arith, read.0, length-take c.min-room.result c.deref_mut.result.now, c.min-room.ensures, c.pieces.invariant.0.within) in (
       hashed_more (g.D.Disk.state c.args.disk.now) (g.D.Disk.state c.pieces.disk) (g.D.Disk.state c.hash_piece.new.disk) c.args.path.now c.args.size
-          (Holds256 c.pieces.hasher) (Holds256 c.hash_piece.new.hasher) c.pieces.at read.0 c.in_ok-count.count c.pieces.invariant.0 c.in_ok-count.ensures.rests read.1 fits read.3 read.4,
+          (Holds256 c.pieces.hasher) (Holds256 c.hash_piece.new.hasher) c.pieces.at (take c.in_ok-count.count c.hash_piece.new.buffer) c.in_ok-count.count c.pieces.invariant.0 c.in_ok-count.ensures.rests read.1 fits read.2 read.3,
       grind (arith, common_steps),
     )
 

@@ -1,5 +1,6 @@
 use Rattle.std.proofs.Common.{length}
-use Rattle.ext_store_files.proofs.WritingLemmas.{synced_written, still_no_folder, made_and_appended, and_synced, only_made, on_ok}
+use Rattle.std.proofs.lemmas.Result.{on_ok_weaker}
+use Rattle.ext_store_files.proofs.WritingLemmas.{synced_written, still_no_folder, made_and_appended, and_synced, only_made}
 use Rattle.ext_store_files.proofs.writing.write_file.Goals as goal
 
 pub returns-in_err-make_empty-clause-works : goal.returns-in_err-make_empty-clause-works
@@ -20,6 +21,6 @@ returns-clause-file g c = still_no_folder c.args.path.now (g.D.Disk.state c.appe
 
 pub returns-clause-written : goal.returns-clause-written
 returns-clause-written g c =
-    on_ok c.sync_file.result _ _
+    on_ok_weaker c.sync_file.result
     (λ hard. synced_written c.args.path.now c.args.bytes.now (g.D.Disk.state c.append_all.new.disk) (g.D.Disk.state c.sync_file.new.disk) c.in_ok-append_all.ensures.all c.sync_file.ensures.works hard)
     c.sync_file.ensures.synced

@@ -1,11 +1,10 @@
 use Rattle.std.proofs.Common.{Err, ap, ◌∙◌, arith}
-use Rattle.std.proofs.lemmas.Result.{err_from_is_err_and}
+use Rattle.std.proofs.lemmas.Result.{err_from_is_err_and, on_ok_weaker}
 use Rattle.ext_text.specs.Path.{is_prefix}
 use Rattle.ext_store_files.specs.LeftOvers.{is_left_path, has_generation, most_left_overs}
 use Rattle.ext_store_files.specs.Names.{generation_path}
 use Rattle.ext_store_files.specs.Writing.{is_at}
 use Rattle.ext_gen.proofs.PreparingLeftLemmas.{cause_finished, cleans_failed, cleans_made, write_finished}
-use Rattle.ext_gen.proofs.PreparingMovesLemmas.{on_ok}
 use Rattle.ext_gen.proofs.PreparingPathsLemmas.{at_generation, below_is_coming, changes_then, removal_changes, works_make}
 use Rattle.ext_gen.proofs.PreparingStagesLemmas.{absent_after, opened_after}
 use Rattle.ext_gen.proofs.preparing.clearing.open_generation.Goals as goal
@@ -34,7 +33,7 @@ returns-clause-changes g c =
 
 pub returns-clause-open : goal.returns-clause-open
 returns-clause-open g c =
-    on_ok c.make_generation.result _ _
+    on_ok_weaker c.make_generation.result
     (λ made. opened_after most_left_overs (has_generation c.args.needed.now) c.args.generation c.remove_left_overs.result _ c.in_ok-remove_left_overs.was (g.D.Disk.state c.args.disk.now) (g.D.Disk.state c.remove_left_overs.new.disk) _
     c.remove_left_overs.ensures.removes c.make_generation.ensures.works made)
     c.make_generation.ensures.made
