@@ -1,5 +1,5 @@
 -- Words have one first fault, for any grammar.
-use Rattle.std.proofs.Common.{◌≡◌, ℕ, ◌+◌, ◌<◌, ◌≤◌, List, [], ◌∷◌, ◌++◌, length, sym, ap, ◌∙◌, subst, arith, append_assoc, append-nil, length-append}
+use Rattle.std.proofs.Common.{◌≡◌, ℕ, ◌+◌, ◌<◌, ◌≤◌, List, [], ◌∷◌, ◌++◌, length, refl, sym, ap, ◌∙◌, subst, arith, append_assoc, append-nil, length-append}
 use Rattle.ext_cmd.specs.Fault.{BeginsWords, IsStuck, IsFault}
 
 -- a grammar of lists of words
@@ -43,6 +43,31 @@ not_stuck Is prefix (word ∷ rest) is stuck = stuck (record { more = rest; whol
 -- words of a grammar have no fault
 pub no_fault : (Is : Grammar) (words : List (List ℕ)) (first place : ℕ) → Is words → IsFault Is words first place → ⊥
 no_fault Is words first place is fault = not_stuck Is fault.prefix fault.rest (subst Is fault.split is) fault.stuck
+
+-- where words of the grammar begin with a prefix of words that are none of them, these have a fault there or later
+fault_after : (Is : Grammar) (words prefix rest : List (List ℕ)) (first : ℕ) → words ≡ prefix ++ rest → (Is words → ⊥) → ((place : ℕ) → IsFault Is words first place → ⊥) → BeginsWords Is prefix → ⊥
+fault_after Is words prefix [] first split not none begins =
+    none (length prefix + first) (record {
+      prefix = prefix;
+      rest = [];
+      split = split;
+      after = refl;
+      begins = begins;
+      stuck = λ is. not (subst Is (sym (split ∙ append-nil prefix)) is);
+    })
+fault_after Is words prefix (word ∷ rest) first split not none begins =
+    none (length prefix + first) (record {
+      prefix = prefix;
+      rest = word ∷ rest;
+      split = split;
+      after = refl;
+      begins = begins;
+      stuck = λ longer. fault_after Is words (prefix ++ word ∷ []) rest first (split ∙ sym (append_assoc prefix (word ∷ []) rest)) not none longer;
+    })
+
+-- words that are none of a grammar have a fault, where some words are
+pub some_fault : (Is : Grammar) (words : List (List ℕ)) (first : ℕ) → BeginsWords Is [] → (Is words → ⊥) → ((place : ℕ) → IsFault Is words first place → ⊥) → ⊥
+some_fault Is words first begins not none = fault_after Is words [] words first refl not none begins
 
 pub fault_within : (Is : Grammar) (words : List (List ℕ)) (first place : ℕ) → IsFault Is words first place → (first ≤ place) × (place ≤ length words + first)
 fault_within Is words first place fault = (omega (arith, fault.after), omega (arith, fault.after, ap length fault.split, length-append fault.prefix fault.rest))

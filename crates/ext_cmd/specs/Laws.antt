@@ -24,6 +24,10 @@ OneUsage = (words : List (List ℕ)) (a b : ℕ) → IsUsage words a → IsUsage
 abbrev pub NoUsage : Type 0
 NoUsage = (words : List (List ℕ)) (place : ℕ) → IsCommand words → ¬ IsUsage words place
 
+-- words that are no command have one: it can't be that no place is one
+abbrev pub SomeUsage : Type 0
+SomeUsage = (words : List (List ℕ)) → ¬ IsCommand words → ¬ ((place : ℕ) → ¬ IsUsage words place)
+
 -- its place is that of a word, or the one after the last
 abbrev pub UsageWithin : Type 0
 UsageWithin = (words : List (List ℕ)) (place : ℕ) → IsUsage words place → (1 ≤ place) × (place ≤ length words + 1)

@@ -1,11 +1,11 @@
 -- What a command wants rests on what is told of the host's files, and on nothing else that is told.
-use Rattle.std.proofs.Common.{ℕ, Bool, false, List, [], ◌∷◌, inl, inr, subst}
+use Rattle.std.proofs.Common.{ℕ, Bool, false, Option, List, [], ◌∷◌, inl, inr, subst}
 use Rattle.std.specs.FinMap.{FinMap}
 use Rattle.ext_lines.specs.ByteOrder.{bytes_cmp}
 use Rattle.ext_text.specs.declared.extension.Extension.{Extension}
 use Rattle.ext_text.specs.declared.extension.Extension.TheVariants as extensions
 use Rattle.ext_text.specs.declared.which.Which.{Which}
-use Rattle.ext_depot.specs.Depot.{DepotState}
+use Rattle.ext_depot.specs.Depot.{Files}
 use Rattle.ext_tree.specs.Tree.{Entries}
 use Rattle.ext_host.specs.Held.{HeldFile}
 use Rattle.ext_host.specs.Shelf.{Told}
@@ -92,6 +92,7 @@ module _ (host : Host) (told other : HeldFile → Told) (alike : TellAlike host 
   large_alike base class force which is of = record {
     items = of.items;
     surveyed = survey_alike base class force of.items is of.surveyed;
+    non_empty = of.non_empty;
     images = of.images;
     are_images = of.are_images;
     root = of.root;
@@ -153,15 +154,15 @@ module _ (host : Host) (told other : HeldFile → Told) (alike : TellAlike host 
   view_alike class (views.Refresh force) intent wants = refresh_alike class force intent wants
 
   -- the same is wanted of the host where the same is told of its files
-  pub wants_alike : (newest : Bool) (depot : DepotState) (command : Command) (intent : Intent) → WantsOf (record { host = host; newest = newest; told = told }) depot command intent → WantsOf (record { host = host; newest = newest; told = other }) depot command intent
-  wants_alike newest depot (Init arch scope hierarchies) intent wants = wants
-  wants_alike newest depot (ImportFs resource path) intent wants = wants
-  wants_alike newest depot (Remove path) intent wants = wants
-  wants_alike newest depot (Sysext view) intent wants = view_alike extensions.Sysext view intent wants
-  wants_alike newest depot (Confext view) intent wants = view_alike extensions.Confext view intent wants
-  wants_alike newest depot (Tree path) intent wants = wants
-  wants_alike newest depot (Cat path) intent wants = wants
-  wants_alike newest depot (Compare a b) intent wants = wants
-  wants_alike newest depot Check intent wants = wants
-  wants_alike newest depot Layer intent wants = wants
-  wants_alike newest depot Migrate intent wants = wants
+  pub wants_alike : (newest : Bool) (files : Option Files) (command : Command) (intent : Intent) → WantsOf (record { host = host; newest = newest; told = told }) files command intent → WantsOf (record { host = host; newest = newest; told = other }) files command intent
+  wants_alike newest files (Init arch scope hierarchies) intent wants = wants
+  wants_alike newest files (ImportFs resource path) intent wants = wants
+  wants_alike newest files (Remove path) intent wants = wants
+  wants_alike newest files (Sysext view) intent wants = view_alike extensions.Sysext view intent wants
+  wants_alike newest files (Confext view) intent wants = view_alike extensions.Confext view intent wants
+  wants_alike newest files (Tree path) intent wants = wants
+  wants_alike newest files (Cat path) intent wants = wants
+  wants_alike newest files (Compare a b) intent wants = wants
+  wants_alike newest files Check intent wants = wants
+  wants_alike newest files Layer intent wants = wants
+  wants_alike newest files Migrate intent wants = wants

@@ -33,7 +33,7 @@ use Rattle.ext_host.specs.declared.manifest.Manifest.{Manifest}
 use Rattle.ext_host.specs.declared.past.Past.{Past}
 use Rattle.ext_host.proofs.ForCallers.{cut_is_drawn, drawn_from_itself, drawn_one_by_one, graft_is_drawn, touched_is_valid, trees_are_drawn, trees_drawn_through}
 use Rattle.ext_intents.specs.Change.{changed_at}
-use Rattle.ext_intents.specs.Intents.{IsPlanned}
+use Rattle.ext_intents.specs.Intents.{IsPlanned, stays}
 use Rattle.ext_intents.proofs.EntriesLemmas.{all_of_found, all_where, found_of_all}
 
 either_true : (x y a b : Bool) → x ≡ true → y ≡ true → (a || b) ≡ true → ((x && a) || (y && b)) ≡ true
@@ -155,17 +155,17 @@ changed_is_drawn host path root drawn =
     let rest : AllByRecursion (Contains (trees_of host)) (host.lower ∷ past) = all_among (host.lower ∷ past) (trees_of host) (λ y has. contains_rest host.root (host.lower ∷ past) y has) in
     drawn_one_by_one (trees_of host) (root ∷ host.lower ∷ past) (drawn, rest_drawn (trees_of host) (host.lower ∷ past) rest)
 
-pub changed_is_planned : (host : Host) (path : List (List ℕ)) (root : Entries HeldFile) → IsValidHost host → SameApart path host.root root → IsSized host root
-    → AreDrawnFrom (trees_of host) (root ∷ []) → IsPlanned (Some host) (changed_at host path root)
-changed_is_planned host path root valid same sized drawn = record {
+pub changed_is_planned : (coming : ℕ) (host : Host) (path : List (List ℕ)) (root : Entries HeldFile) → IsValidHost host → SameApart path host.root root → IsSized host root
+    → AreDrawnFrom (trees_of host) (root ∷ []) → IsPlanned coming (Some host) (changed_at host path root)
+changed_is_planned coming host path root valid same sized drawn = record {
   valid = changed_is_valid host path root valid same sized;
   drawn = changed_is_drawn host path root drawn;
-  past = refl;
+  past = λ p has. stays has;
 }
 
 -- the same host
-pub same_is_planned : (host : Host) → IsValidHost host → IsPlanned (Some host) host
-same_is_planned host valid = record { valid = valid; drawn = drawn_from_itself host; past = refl }
+pub same_is_planned : (coming : ℕ) (host : Host) → IsValidHost host → IsPlanned coming (Some host) host
+same_is_planned coming host valid = record { valid = valid; drawn = drawn_from_itself host; past = λ p has. stays has }
 
 -- the tree that is seen is drawn from its host
 root_among : (host : Host) → Contains (trees_of host) host.root
@@ -196,15 +196,15 @@ length_where test (x ∷ es) =
 cut_apart : (es rest : Entries HeldFile) (path q : List (List ℕ)) → IsCut es path rest → is_prefix path q ≡ false → lookup rest q ≡ lookup es q
 cut_apart es rest path q is apart = is q ∙ ap (λ b. if b then None else lookup es q) apart
 
-pub cut_is_planned : (host : Host) (path : List (List ℕ)) → IsValidHost host → IsPlanned (Some host) (changed_at host path (cut path host.root))
-cut_is_planned host path valid =
+pub cut_is_planned : (coming : ℕ) (host : Host) (path : List (List ℕ)) → IsValidHost host → IsPlanned coming (Some host) (changed_at host path (cut path host.root))
+cut_is_planned coming host path valid =
     let test = λ (q : List (List ℕ)). not (is_prefix path q) in
     let is = is_cut path host.root in
     let fewer = length_where test host.root in
     let less = bytes_where test host.root in
     let entries = valid.present.limits.entries in
     let bytes = valid.present.limits.bytes in
-    changed_is_planned host path (cut path host.root) valid (λ q apart out. cut_apart host.root (cut path host.root) path q is apart)
+    changed_is_planned coming host path (cut path host.root) valid (λ q apart out. cut_apart host.root (cut path host.root) path q is apart)
     (record {
       range = all_where (IsWritable held_form) test host.root valid.present.limits.root;
       entries = omega arith;
@@ -286,14 +286,14 @@ graft_in_range es part new path is range part_range =
     graft_entry (IsWritable held_form) es part new path q e is (omega arith)
     (λ r f. found_of_all (IsWritable held_form) es r f range) (λ r f. found_of_all (IsWritable held_form) part r f part_range) found)
 
-pub graft_is_planned : (host : Host) (path res : List (List ℕ)) (es : Entries Stamp) (root : Entries HeldFile) → IsValidHost host → AreWritable es
+pub graft_is_planned : (coming : ℕ) (host : Host) (path res : List (List ℕ)) (es : Entries Stamp) (root : Entries HeldFile) → IsValidHost host → AreWritable es
     → IsGraft host.root path (from_depot res es) root → length root + length host.lower ≤ most_entries → all_bytes root + all_bytes host.lower ≤ most_bytes
-    → IsPlanned (Some host) (changed_at host path root)
-graft_is_planned host path res es root valid writable is entries bytes =
+    → IsPlanned coming (Some host) (changed_at host path root)
+graft_is_planned coming host path res es root valid writable is entries bytes =
     let old = trees_of host in
     let part = from_depot res es in
     let both : AreDrawnFrom old (host.root ∷ part ∷ []) = drawn_one_by_one old (host.root ∷ part ∷ []) (root_is_drawn host, (depot_is_drawn old res es, tt)) in
-    changed_is_planned host path root valid (λ q apart out. graft_apart host.root part root path q is apart out)
+    changed_is_planned coming host path root valid (λ q apart out. graft_apart host.root part root path q is apart out)
     (record {
       range = graft_in_range host.root part root path is valid.present.limits.root (depot_in_range res es writable);
       entries = entries;

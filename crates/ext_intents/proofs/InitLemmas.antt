@@ -77,7 +77,7 @@ ascending (a ∷ names) far apart = (
   ascending names (λ i j d below inside. far (suc i) (suc j) d (omega arith) (omega arith)) (IsDistinct-tail eq a names apart),
 )
 
-far_apart : (names : List (List ℕ)) → IsSorted bytes_cmp names → AllPairs (λ a b. is_lt (bytes_cmp b a) ≡ false) names
+pub far_apart : (names : List (List ℕ)) → IsSorted bytes_cmp names → AllPairs (λ a b. is_lt (bytes_cmp b a) ≡ false) names
 far_apart names order = λ i j d below inside. sorted_far _ (ranks_by bytes_total (λ name. name)) names order i j d (omega arith) inside
 
 hierarchies_in_order : (names ordered : List (List ℕ)) → 0 < length names → length names ≤ 16 → IsDistinct eq names → IsInOrder names ordered → valid.AreHierarchies ordered
@@ -196,8 +196,8 @@ no_file held file =
 trees_of_parts : (root lower : Entries HeldFile) (past : List Past) → root ≡ [] → lower ≡ [] → past ≡ [] → root ∷ lower ∷ flat_map (λ (p : Past). p.root ∷ p.lower ∷ []) past ≡ [] ∷ [] ∷ []
 trees_of_parts root lower past r l p = ap (λ es. es ∷ lower ∷ flat_map (λ (p : Past). p.root ∷ p.lower ∷ []) past) r ∙ (ap (λ es. [] ∷ es ∷ flat_map (λ (p : Past). p.root ∷ p.lower ∷ []) past) l ∙ ap (λ ps. [] ∷ [] ∷ flat_map (λ (p : Past). p.root ∷ p.lower ∷ []) ps) p)
 
-pub new_is_planned : (arch : Arch) (scope : Scope) (hierarchies : Chosen) (host : Host) → scope ≢ Portable → AreChosen hierarchies → IsNewHost arch scope hierarchies host → IsPlanned None host
-new_is_planned arch scope hierarchies host kind are is = record {
+pub new_is_planned : (coming : ℕ) (arch : Arch) (scope : Scope) (hierarchies : Chosen) (host : Host) → scope ≢ Portable → AreChosen hierarchies → IsNewHost arch scope hierarchies host → IsPlanned coming None host
+new_is_planned coming arch scope hierarchies host kind are is = record {
   valid = new_is_valid arch scope hierarchies host kind are is;
   drawn = λ held home kept file. absurd (no_file held (subst (λ trees. IsFileOf trees held) (trees_of_parts host.root host.lower host.past is.root is.lower is.past) file));
   past = is.past;

@@ -6,4 +6,8 @@ pub mod ViewFilesLemmas
 pub mod AlikeLemmas
 pub mod ViewsLemmas
 pub mod WantsLemmas
+pub mod OneInitLemmas
+pub mod OneImportLemmas
+pub mod OneViewLemmas
+pub mod OneIntentLemmas
 pub mod ForCallers

@@ -1,6 +1,6 @@
 -- What the commands `sysext` and `confext` want: by what surveying and merging answer, and that it is fit.
 use Rattle.std.proofs.Common.{◌≡◌, ℕ, Bool, false, List, [], ◌∷◌, Option, Some, None, Result, Ok, Err, inl, inr, refl, sym, ap, ◌∙◌, subst}
-use Rattle.std.specs.Prelude.{IfErr, IfOk}
+use Rattle.std.specs.Prelude.{Contains, IfErr, IfOk}
 use Rattle.ext_text.specs.declared.extension.Extension.{Extension}
 use Rattle.ext_text.specs.declared.extension.Extension.TheVariants.{Sysext, Confext}
 use Rattle.ext_tree.specs.Tree.{Entries}
@@ -20,8 +20,8 @@ use Rattle.ext_cmd.specs.declared.answer.Answer.{Answer}
 use Rattle.ext_cmd.specs.declared.command.ViewCommand.{ViewCommand}
 use Rattle.ext_cmd.specs.declared.command.ViewCommand.TheVariants as views
 use Rattle.ext_cmd.specs.declared.refusal.Refusal.TheVariants as refusals
-use Rattle.ext_intents.specs.Causes.{ViewCause, refused}
-use Rattle.ext_intents.specs.Intents.{IsFit}
+use Rattle.ext_intents.specs.Causes.{IsSurveyFile, ViewCause, refused}
+use Rattle.ext_intents.specs.Intents.{IsFit, stays}
 use Rattle.ext_intents.specs.Views.{ListWants, MergeWants, RefreshWants, RefreshWantsOf, ViewWants, planned}
 use Rattle.ext_intents.specs.declared.intent.Intent.{Intent}
 use Rattle.ext_intents.proofs.ViewFilesLemmas.{read_file}
@@ -34,12 +34,12 @@ list_refused told old new host class (errors.BadHostRelease line) (base, is, fau
 list_refused told old new host class (errors.Shelf e) fails = tt
 list_refused told old new host class (errors.Limit which) (base, is, fails) = absurd fails
 
-pub list_cause : (told : HeldFile → Told) (old new : ℕ) (host : Host) (class : Extension) (force : Bool) (e : ViewErr) → Surveys told old new host class force (Err e) → IfErr (refused e) (ViewCause host told old new)
+pub list_cause : (told : HeldFile → Told) (old new : ℕ) (host : Host) (class : Extension) (force : Bool) (e : ViewErr) → Surveys told old new host class force (Err e) → IfErr (refused e) (ViewCause (IsSurveyFile host class) host told old new)
 list_cause told old new host class force errors.OutOfMemory fails = tt
 list_cause told old new host class force errors.Merged fails = tt
 list_cause told old new host class force errors.NoHostRelease fails = tt
 list_cause told old new host class force (errors.BadHostRelease line) fails = tt
-list_cause told old new host class force (errors.Shelf e) (base, is, (held, read, fault)) = record { held = held; file = read_file host base class held is read; cause = fault }
+list_cause told old new host class force (errors.Shelf e) (base, is, (held, read, fault)) = record { held = held; is_read = (base, is, read); file = read_file host base class held is read; cause = fault }
 list_cause told old new host class force (errors.Limit which) fails = tt
 
 pub refresh_refused : (told : HeldFile → Told) (old new : ℕ) (host : Host) (class : Extension) (force : Bool) (e : ViewErr) → Refreshes told old new host class force (Err e) → IfOk (refused e) (RefreshWants host told class force)
@@ -50,12 +50,12 @@ refresh_refused told old new host class force (errors.BadHostRelease line) (base
 refresh_refused told old new host class force (errors.Shelf e) fails = tt
 refresh_refused told old new host class force (errors.Limit which) (base, is, large) = (base, is, inr (refusals.Limit which, large, refl))
 
-pub refresh_cause : (told : HeldFile → Told) (old new : ℕ) (host : Host) (class : Extension) (force : Bool) (e : ViewErr) → Refreshes told old new host class force (Err e) → IfErr (refused e) (ViewCause host told old new)
+pub refresh_cause : (told : HeldFile → Told) (old new : ℕ) (host : Host) (class : Extension) (force : Bool) (e : ViewErr) → Refreshes told old new host class force (Err e) → IfErr (refused e) (ViewCause (IsSurveyFile host class) host told old new)
 refresh_cause told old new host class force errors.OutOfMemory fails = tt
 refresh_cause told old new host class force errors.Merged fails = tt
 refresh_cause told old new host class force errors.NoHostRelease fails = tt
 refresh_cause told old new host class force (errors.BadHostRelease line) fails = tt
-refresh_cause told old new host class force (errors.Shelf e) (base, is, (held, read, fault)) = record { held = held; file = read_file host base class held is read; cause = fault }
+refresh_cause told old new host class force (errors.Shelf e) (base, is, (held, read, fault)) = record { held = held; is_read = (base, is, read); file = read_file host base class held is read; cause = fault }
 refresh_cause told old new host class force (errors.Limit which) fails = tt
 
 if_ok_weaker : {T E : Type 0} (P Q : T → Type 0) (r : Result T E) → ((x : T) → P x → Q x) → IfOk r P → IfOk r Q
@@ -73,12 +73,14 @@ merge_refused told old new host class force (errors.BadHostRelease line) (free, 
 merge_refused told old new host class force (errors.Shelf e) fails = tt
 merge_refused told old new host class force (errors.Limit which) (free, fails) = other_refused told old new host class force (errors.Limit which) free fails
 
-pub merge_cause : (told : HeldFile → Told) (old new : ℕ) (host : Host) (class : Extension) (force : Bool) (e : ViewErr) → Merges told old new host class force (Err e) → IfErr (refused e) (ViewCause host told old new)
+pub merge_cause : (told : HeldFile → Told) (old new : ℕ) (host : Host) (class : Extension) (force : Bool) (e : ViewErr) → Merges told old new host class force (Err e) → IfErr (refused e) (ViewCause (λ held. (is_merged class host ≡ false) × IsSurveyFile host class held) host told old new)
 merge_cause told old new host class force errors.OutOfMemory fails = tt
 merge_cause told old new host class force errors.Merged fails = tt
 merge_cause told old new host class force errors.NoHostRelease fails = tt
 merge_cause told old new host class force (errors.BadHostRelease line) fails = tt
-merge_cause told old new host class force (errors.Shelf e) (free, fails) = refresh_cause told old new host class force (errors.Shelf e) fails
+merge_cause told old new host class force (errors.Shelf e) (free, fails) =
+    let of = refresh_cause told old new host class force (errors.Shelf e) fails in
+    record { held = of.held; is_read = (free, of.is_read); file = of.file; cause = of.cause }
 merge_cause told old new host class force (errors.Limit which) fails = tt
 
 same_past : (class : Extension) (names : Option (List (List ℕ))) (root lower : Entries HeldFile) (host : Host) → (with_view class names root lower host).past ≡ host.past
@@ -102,22 +104,22 @@ unmerged_past : (host : Host) (class : Extension) (plan : Option Plan) → Unmer
 unmerged_past host class None is = tt
 unmerged_past host class (Some plan) (merged, is) = view_past host class None plan.next is.same
 
-planned_fits : (host : Host) (plan : Option Plan) (answer : Answer) → PlansNext host plan → SamePast host plan → IsFit (Some host) (planned plan answer)
-planned_fits host None answer next past = tt
-planned_fits host (Some plan) answer next past = record { valid = next.valid; drawn = next.drawn; past = past }
+planned_fits : (coming : ℕ) (host : Host) (plan : Option Plan) (answer : Answer) → PlansNext host plan → SamePast host plan → IsFit coming (Some host) (planned plan answer)
+planned_fits coming host None answer next past = tt
+planned_fits coming host (Some plan) answer next past = record { valid = next.valid; drawn = next.drawn; past = λ p has. stays (subst (λ pasts. Contains pasts p) past has) }
 
-fit_of : (host : Host) (a b : Intent) → b ≡ a → IsFit (Some host) a → IsFit (Some host) b
-fit_of host a b is fit = subst (IsFit (Some host)) (sym is) fit
+fit_of : (coming : ℕ) (host : Host) (a b : Intent) → b ≡ a → IsFit coming (Some host) a → IsFit coming (Some host) b
+fit_of coming host a b is fit = subst (IsFit coming (Some host)) (sym is) fit
 
-refresh_fits : (host : Host) (told : HeldFile → Told) (class : Extension) (force : Bool) (intent : Intent) (base : Entries HeldFile) → RefreshWantsOf host told base class force intent → IsFit (Some host) intent
-refresh_fits host told class force intent base (inl (merge, of, next, is)) = fit_of host _ intent is (planned_fits host merge.plan _ next (merged_past host class base (chosen of.items) merge.plan of.plan))
-refresh_fits host told class force intent base (inr (refusal, not, is)) = fit_of host _ intent is tt
+refresh_fits : (coming : ℕ) (host : Host) (told : HeldFile → Told) (class : Extension) (force : Bool) (intent : Intent) (base : Entries HeldFile) → RefreshWantsOf host told base class force intent → IsFit coming (Some host) intent
+refresh_fits coming host told class force intent base (inl (merge, of, next, is)) = fit_of coming host _ intent is (planned_fits coming host merge.plan _ next (merged_past host class base (chosen of.items) merge.plan of.plan))
+refresh_fits coming host told class force intent base (inr (refusal, not, is)) = fit_of coming host _ intent is tt
 
-pub view_fits : (host : Host) (told : HeldFile → Told) (class : Extension) (command : ViewCommand) (intent : Intent) → ViewWants host told class command intent → IsFit (Some host) intent
-view_fits host told class views.List intent (base, is_base, inl (items, of, is)) = fit_of host _ intent is tt
-view_fits host told class views.List intent (base, is_base, inr (refusal, not, is)) = fit_of host _ intent is tt
-view_fits host told class views.Status intent is = fit_of host _ intent is tt
-view_fits host told class (views.Merge force) intent (inl (merged, is)) = fit_of host _ intent is tt
-view_fits host told class (views.Merge force) intent (inr (free, (base, is_base, wants))) = refresh_fits host told class force intent base wants
-view_fits host told class views.Unmerge intent (plan, of, next, is) = fit_of host _ intent is (planned_fits host plan _ next (unmerged_past host class plan of))
-view_fits host told class (views.Refresh force) intent (base, is_base, wants) = refresh_fits host told class force intent base wants
+pub view_fits : (coming : ℕ) (host : Host) (told : HeldFile → Told) (class : Extension) (command : ViewCommand) (intent : Intent) → ViewWants host told class command intent → IsFit coming (Some host) intent
+view_fits coming host told class views.List intent (base, is_base, inl (items, of, is)) = fit_of coming host _ intent is tt
+view_fits coming host told class views.List intent (base, is_base, inr (refusal, not, is)) = fit_of coming host _ intent is tt
+view_fits coming host told class views.Status intent is = fit_of coming host _ intent is tt
+view_fits coming host told class (views.Merge force) intent (inl (merged, is)) = fit_of coming host _ intent is tt
+view_fits coming host told class (views.Merge force) intent (inr (free, (base, is_base, wants))) = refresh_fits coming host told class force intent base wants
+view_fits coming host told class views.Unmerge intent (plan, of, next, is) = fit_of coming host _ intent is (planned_fits coming host plan _ next (unmerged_past host class plan of))
+view_fits coming host told class (views.Refresh force) intent (base, is_base, wants) = refresh_fits coming host told class force intent base wants

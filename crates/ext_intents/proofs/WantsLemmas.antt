@@ -4,7 +4,7 @@ use Rattle.std.specs.Prelude.{nat_lt}
 use Rattle.std.proofs.lemmas.Bool.Decides.{nat_tests}
 use Rattle.ext_text.specs.declared.extension.Extension.TheVariants as extensions
 use Rattle.ext_text.specs.declared.which.Which.TheVariants as limits
-use Rattle.ext_depot.specs.Depot.{DepotState}
+use Rattle.ext_depot.specs.Depot.{Files}
 use Rattle.ext_depot.specs.declared.depot_text.DepotText.{DepotText}
 use Rattle.ext_depot.specs.declared.depot_text.DepotText.TheVariants.{Absent, TooLong, Whole}
 use Rattle.ext_tree.specs.Cut.{cut}
@@ -38,98 +38,98 @@ use Rattle.ext_intents.proofs.InitLemmas.{new_is_planned}
 use Rattle.ext_intents.proofs.ViewsLemmas.{view_fits}
 
 -- it is fit where it is one that is
-fit_of : (seen : Option Host) (a b : Intent) → b ≡ a → IsFit seen a → IsFit seen b
-fit_of seen a b is fit = subst (IsFit seen) (sym is) fit
+fit_of : (coming : ℕ) (seen : Option Host) (a b : Intent) → b ≡ a → IsFit coming seen a → IsFit coming seen b
+fit_of coming seen a b is fit = subst (IsFit coming seen) (sym is) fit
 
 not_more : (a b : ℕ) → nat_lt a b ≡ false → b ≤ a
 not_more a b is = grind (arith, nat_tests, is)
 
-sized_fits : (host next : Host) → (length next.root + length next.lower ≤ most_entries → all_bytes next.root + all_bytes next.lower ≤ most_bytes → IsPlanned (Some host) next) → IsFit (Some host) (sized next)
-sized_fits host next planned =
+sized_fits : (coming : ℕ) (host next : Host) → (length next.root + length next.lower ≤ most_entries → all_bytes next.root + all_bytes next.lower ≤ most_bytes → IsPlanned coming (Some host) next) → IsFit coming (Some host) (sized next)
+sized_fits coming host next planned =
     let many = nat_lt most_entries (length next.root + length next.lower) in
     let large = nat_lt most_bytes (all_bytes next.root + all_bytes next.lower) in
-    elim many as (λ b. many ≡ b → IsFit (Some host) (within next (if b then Some limits.Entries else if large then Some limits.Bytes else None))) [
+    elim many as (λ b. many ≡ b → IsFit coming (Some host) (within next (if b then Some limits.Entries else if large then Some limits.Bytes else None))) [
       | true ↦ λ _. tt
       | false ↦ λ few.
-          elim large as (λ b. large ≡ b → IsFit (Some host) (within next (if b then Some limits.Bytes else None))) [
+          elim large as (λ b. large ≡ b → IsFit coming (Some host) (within next (if b then Some limits.Bytes else None))) [
             | true ↦ λ _. tt
             | false ↦ λ small. planned (not_more _ _ few) (not_more _ _ small)
           ] refl
     ] refl
 
-fitting_fits : (host : Host) (resource path : List (List ℕ)) (es : Entries Stamp) (text : List ℕ) (intent : Intent) → IsValidHost host → IsTreeText text es → FittingWants host resource path es intent → IsFit (Some host) intent
-fitting_fits host resource path es text intent valid tree (inl (fit, coming)) =
-    let next = changed_at host path coming.0 in
-    fit_of (Some host) (sized next) intent coming.2 (sized_fits host next (graft_is_planned host path resource es coming.0 valid tree.tree.each coming.1))
-fitting_fits host resource path es text intent valid tree (inr (none, is)) = fit_of (Some host) _ intent is tt
+fitting_fits : (coming : ℕ) (host : Host) (resource path : List (List ℕ)) (es : Entries Stamp) (text : List ℕ) (intent : Intent) → IsValidHost host → IsTreeText text es → FittingWants host resource path es intent → IsFit coming (Some host) intent
+fitting_fits coming host resource path es text intent valid tree (inl (fit, grafted)) =
+    let next = changed_at host path grafted.0 in
+    fit_of coming (Some host) (sized next) intent grafted.2 (sized_fits coming host next (graft_is_planned coming host path resource es grafted.0 valid tree.tree.each grafted.1))
+fitting_fits coming host resource path es text intent valid tree (inr (none, is)) = fit_of coming (Some host) _ intent is tt
 
-open_fits : (host : Host) (resource path : List (List ℕ)) (es : Entries Stamp) (text : List ℕ) (intent : Intent) → IsValidHost host → IsTreeText text es → OpenWants host resource path es intent → IsFit (Some host) intent
-open_fits host resource path es text intent valid tree (inl (free, wants)) = fitting_fits host resource path es text intent valid tree wants
-open_fits host resource path es text intent valid tree (inr (at, under, is)) = fit_of (Some host) _ intent is tt
+open_fits : (coming : ℕ) (host : Host) (resource path : List (List ℕ)) (es : Entries Stamp) (text : List ℕ) (intent : Intent) → IsValidHost host → IsTreeText text es → OpenWants host resource path es intent → IsFit coming (Some host) intent
+open_fits coming host resource path es text intent valid tree (inl (free, wants)) = fitting_fits coming host resource path es text intent valid tree wants
+open_fits coming host resource path es text intent valid tree (inr (at, under, is)) = fit_of coming (Some host) _ intent is tt
 
-tree_fits : (host : Host) (resource path : List (List ℕ)) (es : Entries Stamp) (text : List ℕ) (intent : Intent) → IsValidHost host → IsTreeText text es → TreeWants host resource path es intent → IsFit (Some host) intent
-tree_fits host resource path es text intent valid tree (inl (free, wants)) = open_fits host resource path es text intent valid tree wants
-tree_fits host resource path es text intent valid tree (inr (locked, at)) = fit_of (Some host) _ intent at.2 tt
+tree_fits : (coming : ℕ) (host : Host) (resource path : List (List ℕ)) (es : Entries Stamp) (text : List ℕ) (intent : Intent) → IsValidHost host → IsTreeText text es → TreeWants host resource path es intent → IsFit coming (Some host) intent
+tree_fits coming host resource path es text intent valid tree (inl (free, wants)) = open_fits coming host resource path es text intent valid tree wants
+tree_fits coming host resource path es text intent valid tree (inr (locked, at)) = fit_of coming (Some host) _ intent at.2 tt
 
-text_fits : (host : Host) (resource path : List (List ℕ)) (found : DepotText) (intent : Intent) → IsValidHost host → TextWants host resource path found intent → IsFit (Some host) intent
-text_fits host resource path Absent intent valid is = fit_of (Some host) _ intent is tt
-text_fits host resource path TooLong intent valid is = fit_of (Some host) _ intent is tt
-text_fits host resource path (Whole text) intent valid (inl (es, tree, wants)) = tree_fits host resource path es text intent valid tree wants
-text_fits host resource path (Whole text) intent valid (inr (line, first, is)) = fit_of (Some host) _ intent is tt
+text_fits : (coming : ℕ) (host : Host) (resource path : List (List ℕ)) (found : DepotText) (intent : Intent) → IsValidHost host → TextWants host resource path found intent → IsFit coming (Some host) intent
+text_fits coming host resource path Absent intent valid is = fit_of coming (Some host) _ intent is tt
+text_fits coming host resource path TooLong intent valid is = fit_of coming (Some host) _ intent is tt
+text_fits coming host resource path (Whole text) intent valid (inl (es, tree, wants)) = tree_fits coming host resource path es text intent valid tree wants
+text_fits coming host resource path (Whole text) intent valid (inr (line, first, is)) = fit_of coming (Some host) _ intent is tt
 
-remove_fits : (host : Host) (path : List (List ℕ)) → IsValidHost host → IsFit (Some host) (remove_intent host path)
-remove_fits host path valid =
-    elim (not (is_some (lookup host.root path))) as (λ b. IsFit (Some host) (if b then Refuses (NoEntry path) else if is_read_only host path then Refuses (ReadOnly path) else Changes (changed_at host path (cut path host.root)) Done)) [
+remove_fits : (coming : ℕ) (host : Host) (path : List (List ℕ)) → IsValidHost host → IsFit coming (Some host) (remove_intent host path)
+remove_fits coming host path valid =
+    elim (not (is_some (lookup host.root path))) as (λ b. IsFit coming (Some host) (if b then Refuses (NoEntry path) else if is_read_only host path then Refuses (ReadOnly path) else Changes (changed_at host path (cut path host.root)) Done)) [
       | true ↦ tt
-      | false ↦ elim (is_read_only host path) as (λ b. IsFit (Some host) (if b then Refuses (ReadOnly path) else Changes (changed_at host path (cut path host.root)) Done)) [
+      | false ↦ elim (is_read_only host path) as (λ b. IsFit coming (Some host) (if b then Refuses (ReadOnly path) else Changes (changed_at host path (cut path host.root)) Done)) [
         | true ↦ tt
-        | false ↦ cut_is_planned host path valid
+        | false ↦ cut_is_planned coming host path valid
       ]
     ]
 
-entry_fits : (host : Host) (path : List (List ℕ)) (entry : Option (Entry HeldFile)) → IsFit (Some host) (tree_at host path entry)
-entry_fits host path None = tt
-entry_fits host path (Some entry) = elim (is_directory entry) as (λ b. IsFit (Some host) (if b then Answers (answers.Tree (text_below host path)) else Refuses (NotDirectory path))) [ true ↦ tt | false ↦ tt ]
+entry_fits : (coming : ℕ) (host : Host) (path : List (List ℕ)) (entry : Option (Entry HeldFile)) → IsFit coming (Some host) (tree_at host path entry)
+entry_fits coming host path None = tt
+entry_fits coming host path (Some entry) = elim (is_directory entry) as (λ b. IsFit coming (Some host) (if b then Answers (answers.Tree (text_below host path)) else Refuses (NotDirectory path))) [ true ↦ tt | false ↦ tt ]
 
-text_of_tree_fits : (host : Host) (path : List (List ℕ)) → IsFit (Some host) (tree_intent host path)
-text_of_tree_fits host [] = tt
-text_of_tree_fits host (name ∷ path) = entry_fits host (name ∷ path) (lookup host.root (name ∷ path))
+text_of_tree_fits : (coming : ℕ) (host : Host) (path : List (List ℕ)) → IsFit coming (Some host) (tree_intent host path)
+text_of_tree_fits coming host [] = tt
+text_of_tree_fits coming host (name ∷ path) = entry_fits coming host (name ∷ path) (lookup host.root (name ∷ path))
 
-shown_fits : (host : Host) (path : List (List ℕ)) (entry : Option (Entry HeldFile)) → lookup host.root path ≡ entry → IsFit (Some host) (cat_at path entry)
-shown_fits host path None is = tt
-shown_fits host path (Some (Dir mode)) is = tt
-shown_fits host path (Some (Opaque mode)) is = tt
-shown_fits host path (Some (File mode held)) is = record { tree = host.root; among = (zero, omega arith, refl); file = record { path = path; mode = mode; stands = is } }
-shown_fits host path (Some (Link target)) is = tt
-shown_fits host path (Some Hide) is = tt
+shown_fits : (coming : ℕ) (host : Host) (path : List (List ℕ)) (entry : Option (Entry HeldFile)) → lookup host.root path ≡ entry → IsFit coming (Some host) (cat_at path entry)
+shown_fits coming host path None is = tt
+shown_fits coming host path (Some (Dir mode)) is = tt
+shown_fits coming host path (Some (Opaque mode)) is = tt
+shown_fits coming host path (Some (File mode held)) is = record { tree = host.root; among = (zero, omega arith, refl); file = record { path = path; mode = mode; stands = is } }
+shown_fits coming host path (Some (Link target)) is = tt
+shown_fits coming host path (Some Hide) is = tt
 
-migrate_fits : (host : Host) (newest : Bool) → IsValidHost host → IsFit (Some host) (migrate_intent host newest)
-migrate_fits host newest valid = elim newest as (λ b. IsFit (Some host) (if b then Answers Unchanged else Changes host Done)) [ true ↦ tt | false ↦ same_is_planned host valid ]
+migrate_fits : (coming : ℕ) (host : Host) (newest : Bool) → IsValidHost host → IsFit coming (Some host) (migrate_intent host newest)
+migrate_fits coming host newest valid = elim newest as (λ b. IsFit coming (Some host) (if b then Answers Unchanged else Changes host Done)) [ true ↦ tt | false ↦ same_is_planned coming host valid ]
 
 -- where there is a store, whose host is valid
-pub wants_fit : (seen : Seen) (depot : DepotState) (command : Command) (intent : Intent) → IsValidHost seen.host → WantsOf seen depot command intent → IsFit (Some seen.host) intent
-wants_fit seen depot (Init arch scope hierarchies) intent valid is = fit_of (Some seen.host) _ intent is tt
-wants_fit seen depot (ImportFs resource path) intent valid (found, text, wants) = text_fits seen.host resource path found intent valid wants
-wants_fit seen depot (Remove path) intent valid is = fit_of (Some seen.host) _ intent is (remove_fits seen.host path valid)
-wants_fit seen depot (Sysext view) intent valid is = view_fits seen.host seen.told extensions.Sysext view intent is
-wants_fit seen depot (Confext view) intent valid is = view_fits seen.host seen.told extensions.Confext view intent is
-wants_fit seen depot (Tree path) intent valid is = fit_of (Some seen.host) _ intent is (text_of_tree_fits seen.host (meant_path path))
-wants_fit seen depot (Cat path) intent valid is = fit_of (Some seen.host) _ intent is (shown_fits seen.host path (lookup seen.host.root path) refl)
-wants_fit seen depot (Compare a b) intent valid is = absurd is
-wants_fit seen depot Check intent valid is = fit_of (Some seen.host) _ intent is refl
-wants_fit seen depot Layer intent valid is = absurd is
-wants_fit seen depot Migrate intent valid is = fit_of (Some seen.host) _ intent is (migrate_fits seen.host seen.newest valid)
+pub wants_fit : (coming : ℕ) (seen : Seen) (files : Option Files) (command : Command) (intent : Intent) → IsValidHost seen.host → WantsOf seen files command intent → IsFit coming (Some seen.host) intent
+wants_fit coming seen files (Init arch scope hierarchies) intent valid is = fit_of coming (Some seen.host) _ intent is tt
+wants_fit coming seen files (ImportFs resource path) intent valid (found, text, wants) = text_fits coming seen.host resource path found intent valid wants
+wants_fit coming seen files (Remove path) intent valid is = fit_of coming (Some seen.host) _ intent is (remove_fits coming seen.host path valid)
+wants_fit coming seen files (Sysext view) intent valid is = view_fits coming seen.host seen.told extensions.Sysext view intent is
+wants_fit coming seen files (Confext view) intent valid is = view_fits coming seen.host seen.told extensions.Confext view intent is
+wants_fit coming seen files (Tree path) intent valid is = fit_of coming (Some seen.host) _ intent is (text_of_tree_fits coming seen.host (meant_path path))
+wants_fit coming seen files (Cat path) intent valid is = fit_of coming (Some seen.host) _ intent is (shown_fits coming seen.host path (lookup seen.host.root path) refl)
+wants_fit coming seen files (Compare a b) intent valid is = fit_of coming (Some seen.host) _ intent is tt
+wants_fit coming seen files Check intent valid is = fit_of coming (Some seen.host) _ intent is refl
+wants_fit coming seen files Layer intent valid is = absurd is
+wants_fit coming seen files Migrate intent valid is = fit_of coming (Some seen.host) _ intent is (migrate_fits coming seen.host seen.newest valid)
 
 -- where there is none
-pub first_wants_fit : (command : Command) (intent : Intent) → IsWellFormed command → WantsFirst command intent → IsFit None intent
-first_wants_fit (Init arch scope hierarchies) intent formed (host, new, is) = fit_of None _ intent is (new_is_planned arch scope hierarchies host formed.0 formed.1 new)
-first_wants_fit (ImportFs resource path) intent formed is = fit_of None _ intent is tt
-first_wants_fit (Remove path) intent formed is = fit_of None _ intent is tt
-first_wants_fit (Sysext view) intent formed is = fit_of None _ intent is tt
-first_wants_fit (Confext view) intent formed is = fit_of None _ intent is tt
-first_wants_fit (Tree path) intent formed is = fit_of None _ intent is tt
-first_wants_fit (Cat path) intent formed is = fit_of None _ intent is tt
-first_wants_fit (Compare a b) intent formed is = fit_of None _ intent is tt
-first_wants_fit Check intent formed is = fit_of None _ intent is tt
-first_wants_fit Layer intent formed is = fit_of None _ intent is tt
-first_wants_fit Migrate intent formed is = fit_of None _ intent is tt
+pub first_wants_fit : (coming : ℕ) (command : Command) (intent : Intent) → IsWellFormed command → WantsFirst command intent → IsFit coming None intent
+first_wants_fit coming (Init arch scope hierarchies) intent formed (host, new, is) = fit_of coming None _ intent is (new_is_planned coming arch scope hierarchies host formed.0 formed.1 new)
+first_wants_fit coming (ImportFs resource path) intent formed is = fit_of coming None _ intent is tt
+first_wants_fit coming (Remove path) intent formed is = fit_of coming None _ intent is tt
+first_wants_fit coming (Sysext view) intent formed is = fit_of coming None _ intent is tt
+first_wants_fit coming (Confext view) intent formed is = fit_of coming None _ intent is tt
+first_wants_fit coming (Tree path) intent formed is = fit_of coming None _ intent is tt
+first_wants_fit coming (Cat path) intent formed is = fit_of coming None _ intent is tt
+first_wants_fit coming (Compare a b) intent formed is = fit_of coming None _ intent is tt
+first_wants_fit coming Check intent formed is = fit_of coming None _ intent is tt
+first_wants_fit coming Layer intent formed is = absurd is
+first_wants_fit coming Migrate intent formed is = fit_of coming None _ intent is tt

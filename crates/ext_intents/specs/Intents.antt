@@ -1,5 +1,5 @@
 -- What a command sees of a store, and what it may want of it.
-use Rattle.std.specs.Prelude.{◌≡◌, Bool, List, [], Option, Some, None, IsSome}
+use Rattle.std.specs.Prelude.{◌≡◌, ℕ, ◌+◌, Bool, List, [], Contains, Option, Some, None, IsSome}
 use Rattle.ext_tree.specs.Tree.{Entries}
 use Rattle.ext_host.specs.Drawn.{AreDrawnFrom, IsFileOf, trees_of}
 use Rattle.ext_host.specs.Held.{HeldFile}
@@ -21,22 +21,28 @@ abbrev pub trees_seen : Option Host → List (Entries HeldFile)
 trees_seen None = []
 trees_seen (Some host) = trees_of host
 
--- the past trees of the host, if there is one
-abbrev pub past_seen : Option Host → List Past
-past_seen None = []
-past_seen (Some host) = host.past
+-- what may be a past tree of the host that comes: one that the host has, or its own trees, under the number before the coming one
+pub data MayBePast (coming : ℕ) (host : Host) (past : Past) : Type 0 where
+  stays : Contains host.past past → MayBePast coming host past
+  marks : past.generation + 1 ≡ coming → past.root ≡ host.root → past.lower ≡ host.lower → MayBePast coming host past
 
--- a host in place of the one that is seen: it is valid, each file that it keeps is one of that host, and the past is the same
-pub record IsPlanned (seen : Option Host) (next : Host) : Type 0 where
+-- the past trees of the host that comes are some of these; where no host is seen, there are none
+abbrev pub ArePasts : ℕ → Option Host → List Past → Type 0
+ArePasts coming None pasts = pasts ≡ []
+ArePasts coming (Some host) pasts = (past : Past) → Contains pasts past → MayBePast coming host past
+
+-- a host in place of the one that is seen, in the generation with that number: it is valid, each file that it keeps is one of that
+-- host, and its past trees are such
+pub record IsPlanned (coming : ℕ) (seen : Option Host) (next : Host) : Type 0 where
   pub valid : IsValidHost next
   pub drawn : AreDrawnFrom (trees_seen seen) (trees_of next)
-  pub past : next.past ≡ past_seen seen
+  pub past : ArePasts coming seen next.past
 
 -- What may be wanted: such a host, an answer, a refusal; and of a host that is seen that its files are checked, or that one of
 -- them is shown.
-abbrev pub IsFit : Option Host → Intent → Type 0
-IsFit seen (Changes next answer) = IsPlanned seen next
-IsFit seen (Answers answer) = Unit {0}
-IsFit seen Checks = IsSome seen
-IsFit seen (Shows held) = IsFileOf (trees_seen seen) held
-IsFit seen (Refuses refusal) = Unit {0}
+abbrev pub IsFit : ℕ → Option Host → Intent → Type 0
+IsFit coming seen (Changes next answer) = IsPlanned coming seen next
+IsFit coming seen (Answers answer) = Unit {0}
+IsFit coming seen Checks = IsSome seen
+IsFit coming seen (Shows held) = IsFileOf (trees_seen seen) held
+IsFit coming seen (Refuses refusal) = Unit {0}

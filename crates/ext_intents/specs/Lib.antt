@@ -13,3 +13,4 @@ pub mod Layer
 pub mod Views
 pub mod Causes
 pub mod Step
+pub mod Laws

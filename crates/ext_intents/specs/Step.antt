@@ -1,7 +1,8 @@
--- What each command wants of a store, by what it sees of it and what the depot has: one line a command.
+-- What each command wants of a store, by what it sees of it and the files that the depot has, where these are told: one line a
+-- command.
 use Rattle.std.specs.Prelude.{◌≡◌, Bool, true, false, Option, Some, None}
 use Rattle.ext_text.specs.declared.extension.Extension.TheVariants as extensions
-use Rattle.ext_depot.specs.Depot.{DepotState}
+use Rattle.ext_depot.specs.Depot.{Files}
 use Rattle.ext_host.specs.Drawn.{IsFileOf, trees_of}
 use Rattle.ext_host.specs.Held.{HeldFile}
 use Rattle.ext_host.specs.Shelf.{Told}
@@ -10,6 +11,7 @@ use Rattle.ext_cmd.specs.declared.command.Command.{Command}
 use Rattle.ext_cmd.specs.declared.command.Command.TheVariants.{Init, ImportFs, Remove, Sysext, Confext, Tree, Cat, Compare, Check, Layer, Migrate}
 use Rattle.ext_cmd.specs.declared.refusal.Refusal.TheVariants.{NoStore, StoreExists}
 use Rattle.ext_intents.specs.Cat.{cat_intent}
+use Rattle.ext_intents.specs.Compare.{compare_intent}
 use Rattle.ext_intents.specs.Import.{ImportWants}
 use Rattle.ext_intents.specs.Init.{InitWants}
 use Rattle.ext_intents.specs.Intents.{Seen}
@@ -21,18 +23,18 @@ use Rattle.ext_intents.specs.declared.intent.Intent.{Intent}
 use Rattle.ext_intents.specs.declared.intent.Intent.TheVariants.{Checks, Refuses}
 
 -- where there is a store
-abbrev pub WantsOf : Seen → DepotState → Command → Intent → Type 0
-WantsOf seen depot (Init arch scope hierarchies) intent = intent ≡ Refuses StoreExists
-WantsOf seen depot (ImportFs resource path) intent = ImportWants seen.host depot resource path intent
-WantsOf seen depot (Remove path) intent = intent ≡ remove_intent seen.host path
-WantsOf seen depot (Sysext view) intent = ViewWants seen.host seen.told extensions.Sysext view intent
-WantsOf seen depot (Confext view) intent = ViewWants seen.host seen.told extensions.Confext view intent
-WantsOf seen depot (Tree path) intent = intent ≡ tree_intent seen.host (meant_path path)
-WantsOf seen depot (Cat path) intent = intent ≡ cat_intent seen.host path
-WantsOf seen depot (Compare a b) intent = ⊥
-WantsOf seen depot Check intent = intent ≡ Checks
-WantsOf seen depot Layer intent = ⊥
-WantsOf seen depot Migrate intent = intent ≡ migrate_intent seen.host seen.newest
+abbrev pub WantsOf : Seen → Option Files → Command → Intent → Type 0
+WantsOf seen files (Init arch scope hierarchies) intent = intent ≡ Refuses StoreExists
+WantsOf seen files (ImportFs resource path) intent = ImportWants seen.host files resource path intent
+WantsOf seen files (Remove path) intent = intent ≡ remove_intent seen.host path
+WantsOf seen files (Sysext view) intent = ViewWants seen.host seen.told extensions.Sysext view intent
+WantsOf seen files (Confext view) intent = ViewWants seen.host seen.told extensions.Confext view intent
+WantsOf seen files (Tree path) intent = intent ≡ tree_intent seen.host (meant_path path)
+WantsOf seen files (Cat path) intent = intent ≡ cat_intent seen.host path
+WantsOf seen files (Compare a b) intent = intent ≡ compare_intent a b
+WantsOf seen files Check intent = intent ≡ Checks
+WantsOf seen files Layer intent = ⊥
+WantsOf seen files Migrate intent = intent ≡ migrate_intent seen.host seen.newest
 
 -- of each file of the host both tell one thing
 abbrev pub TellAlike : Host → (HeldFile → Told) → (HeldFile → Told) → Type 0
@@ -41,12 +43,19 @@ TellAlike host told other = (held : HeldFile) → IsFileOf (trees_of host) held 
 -- where there is none
 abbrev pub WantsFirst : Command → Intent → Type 0
 WantsFirst (Init arch scope hierarchies) intent = InitWants arch scope hierarchies intent
+WantsFirst (Compare a b) intent = intent ≡ compare_intent a b
+WantsFirst Layer intent = ⊥
 WantsFirst _ intent = intent ≡ Refuses NoStore
 
 -- what a command wants
-abbrev pub Wants : Option Seen → DepotState → Command → Intent → Type 0
-Wants None depot command intent = WantsFirst command intent
-Wants (Some seen) depot command intent = WantsOf seen depot command intent
+abbrev pub Wants : Option Seen → Option Files → Command → Intent → Type 0
+Wants None files command intent = WantsFirst command intent
+Wants (Some seen) files command intent = WantsOf seen files command intent
+
+-- a command that may be carried out over a store, or where there is none: each but `layer`, which reads a source
+abbrev pub is_line : Command → Bool
+is_line Layer = false
+is_line _ = true
 
 -- a command of a store: `compare` and `layer` look at none
 abbrev pub is_of_store : Command → Bool

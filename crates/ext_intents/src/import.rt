@@ -31,7 +31,7 @@ pub(crate) fn import_step<P: Depot>(
     depot: &mut P,
 ) -> Result<Intent, PlanErr>
     requires { IsValidHost host.now }
-    ensures wants { IfOk result (ImportWants host.now (P.state depot.old) resource.now path.now) }
+    ensures wants { IfOk result (ImportWants host.now (P.state depot.old).contents resource.now path.now) }
     ensures kept { IsKept (P.state depot.old) (P.state depot.new) }
     ensures cause { IfErr result (PlanCause (P.state depot.old).faults (P.state depot.new).faults) }
 {

@@ -11,6 +11,7 @@ mod compare;
 mod import;
 mod init;
 mod intent;
+pub mod laws;
 mod layer;
 mod migrate;
 mod plan_err;

@@ -1,12 +1,13 @@
-// The steps of all commands of a store.
+// The steps of all commands that may be carried out over a store.
 ghost use Rattle.std.specs.Prelude.{◌≤◌, IsTrue, IfOk, IfErr};
 ghost use Rattle.ext_depot.specs.Depot.{IsKept};
 ghost use Rattle.ext_host.specs.Valid.{IsValidHost};
 ghost use Rattle.ext_host.specs.Planning.{ServesHost};
-ghost use Rattle.ext_intents.specs.Causes.{StepCause};
-ghost use Rattle.ext_intents.specs.Step.{WantsFirst, WantsOf, is_of_store};
+ghost use Rattle.ext_intents.specs.Causes.{IsStepFile, StepCause};
+ghost use Rattle.ext_intents.specs.Step.{WantsFirst, WantsOf, is_line};
 
 use crate::cat::cat_step;
+use crate::compare::compare_step;
 use crate::import::import_step;
 use crate::init::init_step;
 use crate::intent::Intent;
@@ -26,7 +27,7 @@ use std::alloc::Global;
 /// # Errors
 /// Out of memory alone.
 pub fn first_step(alloc: Global, command: &Command) -> Result<Intent, OutOfMemory>
-    requires { IsTrue (is_of_store command.now) }
+    requires { IsTrue (is_line command.now) }
     ensures { IfOk result (WantsFirst command.now) }
 {
     match command {
@@ -35,6 +36,8 @@ pub fn first_step(alloc: Global, command: &Command) -> Result<Intent, OutOfMemor
             scope,
             hierarchies,
         } => init_step(alloc, *arch, *scope, hierarchies),
+        Command::Compare(a, b) => Ok(compare_step(a.bytes(), b.bytes())),
+        Command::Layer => unreachable!(),
         _ => Ok(Intent::Refuses(Refusal::NoStore)),
     }
 }
@@ -43,7 +46,7 @@ pub fn first_step(alloc: Global, command: &Command) -> Result<Intent, OutOfMemor
 ///
 /// # Errors
 /// - A fault of the depot, only where it counted one.
-/// - A file of the host that the shelf does not give, for the cause that it has.
+/// - A file of the host that the command reads and the shelf does not give, for the cause that it has.
 /// - Out of memory.
 ///
 /// Whatever the answer, the depot and the shelf tell the same afterwards.
@@ -55,16 +58,16 @@ pub fn step<P: Depot, H: Shelf>(
     depot: &mut P,
     shelf: &mut H,
 ) -> Result<Intent, PlanErr>
-    requires store { IsTrue (is_of_store command.now) }
+    requires line { IsTrue (is_line command.now) }
     requires valid { IsValidHost host.now }
     requires serves { ServesHost (H.serves shelf.old) host.now }
     ensures wants { IfOk result (WantsOf (record { host = host.now; newest = newest; told = H.told shelf.old })
-        (P.state depot.old) command.now) }
+        (P.state depot.old).contents command.now) }
     ensures kept { IsKept (P.state depot.old) (P.state depot.new) }
     ensures stays { H.stays shelf.old shelf.new }
     ensures count { H.faults shelf.old ≤ H.faults shelf.new }
-    ensures cause { IfErr result (StepCause host.now (H.told shelf.old) (H.faults shelf.old) (H.faults shelf.new)
-        (P.state depot.old).faults (P.state depot.new).faults) }
+    ensures cause { IfErr result (StepCause (IsStepFile host.now command.now) host.now (H.told shelf.old) (H.faults shelf.old)
+        (H.faults shelf.new) (P.state depot.old).faults (P.state depot.new).faults) }
 {
     match command {
         Command::Init { .. } => Ok(Intent::Refuses(Refusal::StoreExists)),
@@ -76,6 +79,7 @@ pub fn step<P: Depot, H: Shelf>(
         Command::Cat { path } => Ok(cat_step(host, path)?),
         Command::Check => Ok(Intent::Checks),
         Command::Migrate => Ok(migrate_step(host, newest)?),
-        Command::Compare(_, _) | Command::Layer => unreachable!(),
+        Command::Compare(first, second) => Ok(compare_step(first.bytes(), second.bytes())),
+        Command::Layer => unreachable!(),
     }
 }

@@ -4,7 +4,8 @@ ghost use Rattle.std.specs.Option.{option_copied};
 ghost use Rattle.ext_host.specs.Host.{merged_names, present};
 ghost use Rattle.ext_host.specs.Valid.{IsValidHost};
 ghost use Rattle.ext_host.specs.Planning.{ServesHost};
-ghost use Rattle.ext_intents.specs.Causes.{ViewCause, refused};
+ghost use Rattle.ext_cmd.specs.declared.command.ViewCommand.TheVariants as commands;
+ghost use Rattle.ext_intents.specs.Causes.{IsViewFile, ViewCause, refused};
 ghost use Rattle.ext_intents.specs.Views.{ListWants, MergeWants, RefreshWants, UnmergeWants, ViewWants, planned, status_intent};
 
 use crate::intent::Intent;
@@ -32,7 +33,8 @@ pub(crate) fn view_step<H: Shelf>(
     ensures wants { IfOk result (ViewWants host.now (H.told shelf.old) class command) }
     ensures stays { H.stays shelf.old shelf.new }
     ensures count { H.faults shelf.old ≤ H.faults shelf.new }
-    ensures cause { IfErr result (ViewCause host.now (H.told shelf.old) (H.faults shelf.old) (H.faults shelf.new)) }
+    ensures cause { IfErr result (ViewCause (IsViewFile host.now class command) host.now (H.told shelf.old) (H.faults shelf.old)
+        (H.faults shelf.new)) }
 {
     match command {
         ViewCommand::List => list_step(alloc, host, class, shelf),
@@ -55,7 +57,8 @@ fn list_step<H: Shelf>(
     ensures wants { IfOk result (ListWants host.now (H.told shelf.old) class) }
     ensures stays { H.stays shelf.old shelf.new }
     ensures count { H.faults shelf.old ≤ H.faults shelf.new }
-    ensures cause { IfErr result (ViewCause host.now (H.told shelf.old) (H.faults shelf.old) (H.faults shelf.new)) }
+    ensures cause { IfErr result (ViewCause (IsViewFile host.now class commands.List) host.now (H.told shelf.old) (H.faults shelf.old)
+        (H.faults shelf.new)) }
 {
     match survey(alloc, host, class, false, shelf) {
         Ok(found) => {
@@ -79,7 +82,8 @@ fn merge_step<H: Shelf>(
     ensures wants { IfOk result (MergeWants host.now (H.told shelf.old) class force) }
     ensures stays { H.stays shelf.old shelf.new }
     ensures count { H.faults shelf.old ≤ H.faults shelf.new }
-    ensures cause { IfErr result (ViewCause host.now (H.told shelf.old) (H.faults shelf.old) (H.faults shelf.new)) }
+    ensures cause { IfErr result (ViewCause (IsViewFile host.now class (commands.Merge force)) host.now (H.told shelf.old)
+        (H.faults shelf.old) (H.faults shelf.new)) }
 {
     match merge(alloc, host, class, force, shelf) {
         Ok(Merge { plan, names }) => Ok(planned(plan, Answer::Merged(names))),
@@ -100,7 +104,8 @@ fn refresh_step<H: Shelf>(
     ensures wants { IfOk result (RefreshWants host.now (H.told shelf.old) class force) }
     ensures stays { H.stays shelf.old shelf.new }
     ensures count { H.faults shelf.old ≤ H.faults shelf.new }
-    ensures cause { IfErr result (ViewCause host.now (H.told shelf.old) (H.faults shelf.old) (H.faults shelf.new)) }
+    ensures cause { IfErr result (ViewCause (IsViewFile host.now class (commands.Refresh force)) host.now (H.told shelf.old)
+        (H.faults shelf.old) (H.faults shelf.new)) }
 {
     match refresh(alloc, host, class, force, shelf) {
         Ok(Merge { plan, names }) => Ok(planned(plan, Answer::Merged(names))),

@@ -1,31 +1,20 @@
 -- What carrying out a command leaves: where nothing was done to the disk, and where outcomes are those of another definition.
-use Rattle.std.proofs.Common.{◌≡◌, ◌≤◌, ℕ, List, ◌++◌, inl, inr, Option, Some, None, IfSome, Result, Ok, Err, refl, sym, subst, arith}
+use Rattle.std.proofs.Common.{◌≡◌, ◌≤◌, inl, inr, Option, Some, None, IfSome, Result, Ok, Err, refl, sym, subst, arith}
 use Rattle.ext_depot.specs.Depot.{DepotState}
 use Rattle.ext_disk.specs.Disk.{Places, Told, DiskState, BothTold, IsDisk}
-use Rattle.ext_tree.specs.declared.stamp.Stamp.{Stamp}
-use Rattle.ext_host.specs.Held.{HeldFile}
-use Rattle.ext_host.specs.declared.host.Host.{Host}
-use Rattle.ext_store_files.specs.Copying.{IsMissing, IsReadStamp}
 use Rattle.ext_store_files.specs.declared.fault.StoreFault.TheVariants.{OutOfMemory, DiskFault, DepotFault, Damaged}
 use Rattle.ext_homes.specs.Giving.{trees_before}
 use Rattle.ext_gen.specs.Opened.{Generation}
-use Rattle.ext_gen.specs.Preparing.{coming_number, host_before}
+use Rattle.ext_gen.specs.Preparing.{host_before}
 use Rattle.ext_gen.specs.Store.{State, generation_in}
 use Rattle.ext_gen.specs.Sound.{IsDurably}
 use Rattle.ext_gen.proofs.ForCallers.{durably_since, stands_since_wider}
-use Rattle.ext_cmd.specs.Replies.{answer_text}
-use Rattle.ext_cmd.specs.declared.refusal.Refusal.{Refusal}
-use Rattle.ext_cmd.specs.declared.refusal.Refusal.TheVariants as refusals
 use Rattle.ext_intents.specs.Intents.{trees_seen}
-use Rattle.ext_intents.specs.declared.intent.Intent.{Intent}
-use Rattle.ext_intents.specs.declared.intent.Intent.TheVariants.{Changes, Answers, Checks, Shows, Refuses}
 use Rattle.ext_top.specs.Applying.{Applies, AppliesEnds, AppliesTold, ApplyCause, IsPassed}
-use Rattle.ext_top.specs.Machine.{Comes, IsMismatch, IsNextState, IsNotThere, Outcome, Replaces, RefusesNext, StopsFor, stored_of}
+use Rattle.ext_top.specs.Machine.{Outcome}
 use Rattle.ext_top.specs.declared.applied.Applied.{Applied}
 use Rattle.ext_top.specs.declared.apply_err.ApplyErr.{ApplyErr}
 use Rattle.ext_top.specs.declared.apply_err.ApplyErr.TheVariants.{Fault, Unfinished}
-use Rattle.ext_top.proofs.PlacedLemmas.{host_alike, stops_alike}
-use Rattle.ext_top.proofs.StoredLemmas.{alike_depot, depot_alike}
 
 pub rested : (P : Outcome → Type 0) (s : State) (result : Result Applied ApplyErr) (d : Told) → IsDisk d → IsDurably s d.places → AppliesEnds P s result d.places → Applies P s result d d
 rested P s result d disk durably ends =
@@ -69,54 +58,6 @@ told_wider P Q opened result None None wider applies = tt
 told_wider P Q opened result None (Some e) wider applies = absurd applies
 told_wider P Q opened result (Some d) None wider applies = absurd applies
 told_wider P Q opened result (Some d) (Some e) wider applies = applies_wider P Q opened result d e wider applies
-
--- what a step makes of a state with one depot, it makes with another of the same files
-pub next_alike : (s : State) (d e : DepotState) (host : Host) (u : State) → e.contents ≡ d.contents → IsNextState s e host u → IsNextState s d host u
-next_alike s d e host u same next = record {
-  coming = next.coming;
-  number = next.number;
-  text = next.text;
-  written = next.written;
-  homes = host_alike (stored_of s) (stored_of s) e d (alike_depot s d e same) next.coming.number host next.coming.host next.written next.homes;
-  is = next.is;
-}
-
-stops_for_alike : (s : State) (d e : DepotState) (host : Host) (P Q : HeldFile → Type 0) → e.contents ≡ d.contents → ((held : HeldFile) → P held → Q held) → StopsFor s e host P → StopsFor s d host Q
-stops_for_alike s d e host P Q same why (few, stops) =
-    (few, stops_alike (stored_of s) (stored_of s) e d (alike_depot s d e same) (coming_number (generation_in s)) (host.root ++ host.lower) P Q why stops)
-
-mismatch_alike : (d e : DepotState) (path : List (List ℕ)) (listed found : Stamp) (held : HeldFile) → e.contents ≡ d.contents → IsMismatch e path listed found held → IsMismatch d path listed found held
-mismatch_alike d e path listed found held same is = record { body = is.body; stamp = is.stamp; read = subst (λ t. IsReadStamp t listed found) (depot_alike d e same held.body) is.read }
-
-missing_alike : (d e : DepotState) (path : List (List ℕ)) (held : HeldFile) → e.contents ≡ d.contents → IsNotThere e path held → IsNotThere d path held
-missing_alike d e path held same is = record { body = is.body; missing = subst IsMissing (depot_alike d e same held.body) is.missing }
-
-refusal_alike : (s : State) (d e : DepotState) (host : Host) (refusal : Refusal) → e.contents ≡ d.contents → RefusesNext s e host refusal → RefusesNext s d host refusal
-refusal_alike s d e host refusals.NoStore same is = absurd is
-refusal_alike s d e host refusals.StoreExists same is = absurd is
-refusal_alike s d e host refusals.Merged same is = absurd is
-refusal_alike s d e host (refusals.ReadOnly path) same is = absurd is
-refusal_alike s d e host refusals.NoHostRelease same is = absurd is
-refusal_alike s d e host (refusals.BadHostRelease line) same is = absurd is
-refusal_alike s d e host (refusals.Limit which) same is = is
-refusal_alike s d e host (refusals.NoEntry path) same is = absurd is
-refusal_alike s d e host (refusals.NotDirectory path) same is = absurd is
-refusal_alike s d e host (refusals.NotFile path) same is = absurd is
-refusal_alike s d e host (refusals.BadTree line path) same is = absurd is
-refusal_alike s d e host (refusals.NotInDepot path) same is = stops_for_alike s d e host (IsNotThere e path) (IsNotThere d path) same (λ held. missing_alike d e path held same) is
-refusal_alike s d e host (refusals.Mismatch path listed found) same is =
-    stops_for_alike s d e host (IsMismatch e path listed found) (IsMismatch d path listed found) same (λ held. mismatch_alike d e path listed found held same) is
-
-replaces_alike : (s : State) (d e : DepotState) (host : Host) (reply : List ℕ) (outcome : Outcome) → e.contents ≡ d.contents → Replaces s e host reply outcome → Replaces s d host reply outcome
-replaces_alike s d e host reply outcome same (inl (u, few, next, is)) = inl (u, few, next_alike s d e host u same next, is)
-replaces_alike s d e host reply outcome same (inr (refusal, why, is)) = inr (refusal, refusal_alike s d e host refusal same why, is)
-
-pub comes_alike : (s : State) (d e : DepotState) (intent : Intent) (outcome : Outcome) → e.contents ≡ d.contents → Comes s e intent outcome → Comes s d intent outcome
-comes_alike s d e (Changes host answer) outcome same is = replaces_alike s d e host (answer_text answer) outcome same is
-comes_alike s d e (Answers answer) outcome same is = is
-comes_alike s d e Checks outcome same is = is
-comes_alike s d e (Shows held) outcome same is = is
-comes_alike s d e (Refuses refusal) outcome same is = is
 
 -- a fault since a later moment is one since an earlier one
 pub cause_since : (opened : Option Generation) (old new : DiskState) (before mid after : DepotState) (error : ApplyErr) → before.faults ≤ mid.faults → ApplyCause opened old new mid after error → ApplyCause opened old new before after error

@@ -3,7 +3,7 @@ use Rattle.std.proofs.Common.{◌≡◌, ℕ, Bool, true, false, List, [], ◌�
 use Rattle.ext_text.specs.declared.extension.Extension.{Extension}
 use Rattle.ext_text.specs.declared.extension.Extension.TheVariants as extensions
 use Rattle.ext_disk.specs.Disk.{BothTold, DiskState, Told}
-use Rattle.ext_depot.specs.Depot.{DepotState}
+use Rattle.ext_depot.specs.Depot.{DepotState, Files}
 use Rattle.ext_tree.specs.Tree.{is_directory, lookup}
 use Rattle.ext_tree.specs.declared.entry.Entry.{Entry}
 use Rattle.ext_tree.specs.declared.entry.Entry.TheVariants.{Dir, Opaque, File, Link, Hide}
@@ -64,18 +64,18 @@ no_next_of_view host told class (views.Merge force) intent reads wants = cc
 no_next_of_view host told class views.Unmerge intent reads wants = cc
 no_next_of_view host told class (views.Refresh force) intent reads wants = cc
 
-no_next_seen : (seen : Seen) (depot : DepotState) (command : Command) (intent : Intent) → may_change command ≡ false → WantsOf seen depot command intent → next_of intent ≡ None
-no_next_seen seen depot (Init arch scope hierarchies) intent reads wants = cc
-no_next_seen seen depot (ImportFs resource path) intent reads wants = cc
-no_next_seen seen depot (Remove path) intent reads wants = cc
-no_next_seen seen depot (Sysext view) intent reads wants = no_next_of_view seen.host seen.told extensions.Sysext view intent reads wants
-no_next_seen seen depot (Confext view) intent reads wants = no_next_of_view seen.host seen.told extensions.Confext view intent reads wants
-no_next_seen seen depot (Tree path) intent reads wants = ap next_of wants ∙ no_next_of_tree seen.host (meant_path path)
-no_next_seen seen depot (Cat path) intent reads wants = ap next_of wants ∙ no_next_of_cat path (lookup seen.host.root path)
-no_next_seen seen depot (Compare a b) intent reads wants = absurd wants
-no_next_seen seen depot Check intent reads wants = ap next_of wants
-no_next_seen seen depot Layer intent reads wants = absurd wants
-no_next_seen seen depot Migrate intent reads wants = cc
+no_next_seen : (seen : Seen) (files : Option Files) (command : Command) (intent : Intent) → may_change command ≡ false → WantsOf seen files command intent → next_of intent ≡ None
+no_next_seen seen files (Init arch scope hierarchies) intent reads wants = cc
+no_next_seen seen files (ImportFs resource path) intent reads wants = cc
+no_next_seen seen files (Remove path) intent reads wants = cc
+no_next_seen seen files (Sysext view) intent reads wants = no_next_of_view seen.host seen.told extensions.Sysext view intent reads wants
+no_next_seen seen files (Confext view) intent reads wants = no_next_of_view seen.host seen.told extensions.Confext view intent reads wants
+no_next_seen seen files (Tree path) intent reads wants = ap next_of wants ∙ no_next_of_tree seen.host (meant_path path)
+no_next_seen seen files (Cat path) intent reads wants = ap next_of wants ∙ no_next_of_cat path (lookup seen.host.root path)
+no_next_seen seen files (Compare a b) intent reads wants = ap next_of wants
+no_next_seen seen files Check intent reads wants = ap next_of wants
+no_next_seen seen files Layer intent reads wants = absurd wants
+no_next_seen seen files Migrate intent reads wants = cc
 
 no_next_first : (command : Command) (intent : Intent) → may_change command ≡ false → WantsFirst command intent → next_of intent ≡ None
 no_next_first (Init arch scope hierarchies) intent reads wants = cc
@@ -87,12 +87,12 @@ no_next_first (Tree path) intent reads wants = ap next_of wants
 no_next_first (Cat path) intent reads wants = ap next_of wants
 no_next_first (Compare a b) intent reads wants = ap next_of wants
 no_next_first Check intent reads wants = ap next_of wants
-no_next_first Layer intent reads wants = ap next_of wants
+no_next_first Layer intent reads wants = absurd wants
 no_next_first Migrate intent reads wants = cc
 
-no_next : (seen : Option Seen) (depot : DepotState) (command : Command) (intent : Intent) → may_change command ≡ false → Wants seen depot command intent → next_of intent ≡ None
-no_next None depot command intent reads wants = no_next_first command intent reads wants
-no_next (Some seen) depot command intent reads wants = no_next_seen seen depot command intent reads wants
+no_next : (seen : Option Seen) (files : Option Files) (command : Command) (intent : Intent) → may_change command ≡ false → Wants seen files command intent → next_of intent ≡ None
+no_next None files command intent reads wants = no_next_first command intent reads wants
+no_next (Some seen) files command intent reads wants = no_next_seen seen files command intent reads wants
 
 works_stay : (W : Intent → Type 0) (from : Option Generation) (d e : Told) → ((intent : Intent) → W intent → next_of intent ≡ None) → WorksFor W from d e → StaysTold d e
 works_stay W from d e none (inl still) = still
@@ -101,7 +101,7 @@ works_stay W from d e none (inr (intent, wants, works)) = subst (λ next. WorksA
 run_stays : (command : Command) (disk : DiskState) (depot : DepotState) (d e : Told) → may_change command ≡ false → RunWorks command disk depot d e → StaysTold d e
 run_stays command disk depot d e reads (inl still) = still
 run_stays command disk depot d e reads (inr (opened, points, works)) =
-    works_stay (WantsOn opened disk depot command) opened d e (λ intent wants. no_next (seen_on opened disk) depot command intent reads wants) works
+    works_stay (WantsOn opened disk depot.contents command) opened d e (λ intent wants. no_next (seen_on opened disk) depot.contents command intent reads wants) works
 
 stays_itself : (x : Option Told) → BothTold StaysTold x x
 stays_itself None = tt

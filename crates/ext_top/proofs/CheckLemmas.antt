@@ -28,7 +28,7 @@ use Rattle.ext_gen.specs.Preparing.{trees_of_pasts}
 use Rattle.ext_intents.specs.Check.{files_in, host_bytes, host_files}
 
 -- what holds at each index holds of each
-by_index : {X : Type 0} (P : X → Type 0) (xs : List X) → ((i : ℕ) (x : X) → slice_get xs i ≡ Some x → P x) → AllByRecursion P xs
+pub by_index : {X : Type 0} (P : X → Type 0) (xs : List X) → ((i : ℕ) (x : X) → slice_get xs i ≡ Some x → P x) → AllByRecursion P xs
 by_index P [] holds = tt
 by_index P (x ∷ xs) holds = (holds zero x refl, by_index P xs (λ i y at. holds (suc i) y at))
 

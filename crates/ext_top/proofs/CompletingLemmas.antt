@@ -4,8 +4,10 @@ use Rattle.std.proofs.lemmas.List.{length-append}
 use Rattle.ext_text.specs.Causes.{Rose}
 use Rattle.ext_io.specs.SourceState.{SourceState}
 use Rattle.ext_io.specs.SinkState.{SinkState}
-use Rattle.ext_depot.specs.Depot.{DepotState}
+use Rattle.ext_depot.specs.Depot.{Files}
 use Rattle.ext_disk.specs.Disk.{BothTold, Told}
+use Rattle.ext_host.specs.declared.damage.Damage.{Damage}
+use Rattle.ext_gen.specs.Opened.{Generation}
 use Rattle.ext_gen.specs.Sound.{IsSound}
 use Rattle.ext_gen.specs.Store.{State}
 use Rattle.ext_cmd.specs.Words.{IsCommand}
@@ -17,7 +19,7 @@ use Rattle.ext_top.specs.Alone.{reads_source}
 use Rattle.ext_top.specs.Completing.{Completes, IsAnswered, NoneRose, TellsSound, TellsWithin}
 use Rattle.ext_top.specs.Exits.{EndsLines, Line, Standing, StopsWith, does}
 use Rattle.ext_top.specs.Machine.{refusal_of}
-use Rattle.ext_top.specs.Running.{Devices, EndsAlone, HasTooManyLeftOversNow, Runs, RunsClosed, RunsCommand, RunsKind, RunsOpened, RunsSound, RunsStore, StoreSide, TakesSome, most_source, status_of, store_side, streams}
+use Rattle.ext_top.specs.Running.{Devices, EndsAlone, HasTooManyLeftOversNow, OpenedDamage, OpenedMet, OpenedWithin, Runs, RunsClosed, RunsCommand, RunsKind, RunsOpened, RunsSound, RunsStore, StatusMet, StoreSide, TakesSome, most_source, status_of, store_side, streams}
 use Rattle.ext_top.specs.declared.bad_store.BadStore as reasons
 use Rattle.ext_top.specs.declared.status.Status.{Status}
 use Rattle.ext_top.specs.declared.status.Status.TheVariants.{Done, Refused, Usage, ReadFault, WriteFault, DiskFault, DepotFault, OutOfMemory, BadStore, Unfinished, TooLong}
@@ -43,53 +45,53 @@ alone_answered command old new Unfinished ends tells none = absurd ends
 alone_answered command old new TooLong ends tells none = absurd (not_too_long (reads_source command) old.source new.source ends.0 tells ends.1.source)
 
 -- the status of a bad store is that of no line that the table of exits has
-no_bad_stop : (stop : Stop) (why : reasons.BadStore) (s : State) (depot : DepotState) (line : Line) (standing : Standing) (part : List ℕ) → BadStore why ≡ status_of false (Err stop) → ¬ StopsWith stop s depot line standing part
-no_bad_stop stops.WriteFault why s depot line standing part is stops = cc
-no_bad_stop stops.DiskFault why s depot line standing part is stops = cc
-no_bad_stop stops.DepotFault why s depot line standing part is stops = cc
-no_bad_stop stops.OutOfMemory why s depot line standing part is stops = cc
-no_bad_stop (stops.BadStore other) why s depot line standing part is stops = stops
-no_bad_stop stops.Unfinished why s depot line standing part is stops = cc
+no_bad_stop : (stop : Stop) (why : reasons.BadStore) (s : State) (files : Option Files) (line : Line) (standing : Standing) (part : List ℕ) → BadStore why ≡ status_of false (Err stop) → ¬ StopsWith stop s files line standing part
+no_bad_stop stops.WriteFault why s files line standing part is stops = cc
+no_bad_stop stops.DiskFault why s files line standing part is stops = cc
+no_bad_stop stops.DepotFault why s files line standing part is stops = cc
+no_bad_stop stops.OutOfMemory why s files line standing part is stops = cc
+no_bad_stop (stops.BadStore other) why s files line standing part is stops = stops
+no_bad_stop stops.Unfinished why s files line standing part is stops = cc
 
-no_bad_end : (result : Result (Option Refusal) Stop) (why : reasons.BadStore) (s : State) (depot : DepotState) (line : Line) (standing : Standing) (bytes : List ℕ) → BadStore why ≡ status_of false result
-    → ¬ EndsLines None s depot (line ∷ []) result standing bytes
-no_bad_end (Ok None) why s depot line standing bytes is ends = cc
-no_bad_end (Ok (Some refusal)) why s depot line standing bytes is ends = cc
-no_bad_end (Err stop) why s depot line standing bytes is (inl (other, same, stops)) =
+no_bad_end : (result : Result (Option Refusal) Stop) (why : reasons.BadStore) (s : State) (files : Option Files) (line : Line) (standing : Standing) (bytes : List ℕ) → BadStore why ≡ status_of false result
+    → ¬ EndsLines None s files (line ∷ []) result standing bytes
+no_bad_end (Ok None) why s files line standing bytes is ends = cc
+no_bad_end (Ok (Some refusal)) why s files line standing bytes is ends = cc
+no_bad_end (Err stop) why s files line standing bytes is (inl (other, same, stops)) =
     let one : other ≡ stop = cc in
-    no_bad_stop stop why s depot line standing bytes is (subst (λ x. StopsWith x s depot line standing bytes) one stops)
-no_bad_end (Err stop) why s depot line standing bytes is (inr (outcome, more, comes, parts, ends)) = let never : Err stop ≡ Ok (refusal_of outcome) = ends.0 in cc
+    no_bad_stop stop why s files line standing bytes is (subst (λ x. StopsWith x s files line standing bytes) one stops)
+no_bad_end (Err stop) why s files line standing bytes is (inr (outcome, more, comes, parts, ends)) = let never : Err stop ≡ Ok (refusal_of outcome) = ends.0 in cc
 
 not_closed : (why : reasons.BadStore) → ¬ ((BadStore why ≡ DiskFault) ⊎ (BadStore why ≡ OutOfMemory))
 not_closed why (inl is) = cc
 not_closed why (inr is) = cc
 
-no_bad_run : (line : Line) (depot : DepotState) (k l : SinkState) (why : reasons.BadStore) (d e : Told) → ¬ (RunsOpened false (line ∷ []) depot k l (BadStore why) d e ⊎ RunsClosed k l (BadStore why) d e)
-no_bad_run line depot k l why d e (inl runs) = no_bad_end runs.result why runs.state depot line runs.standing runs.bytes runs.status_is runs.ends
-no_bad_run line depot k l why d e (inr runs) = not_closed why runs.closed
+no_bad_run : (line : Line) (files : Option Files) (k l : SinkState) (why : reasons.BadStore) (d e : Told) → ¬ (RunsOpened false (line ∷ []) files k l (BadStore why) d e ⊎ RunsClosed k l (BadStore why) d e)
+no_bad_run line files k l why d e (inl runs) = no_bad_end runs.result why runs.state files line runs.standing runs.bytes runs.status_is runs.ends
+no_bad_run line files k l why d e (inr runs) = not_closed why runs.closed
 
-not_bad : (line : Line) (depot : DepotState) (k l : SinkState) (why : reasons.BadStore) (d : Told) (y : Option Told) → IsSound d.places → ¬ BothTold (RunsSound false (line ∷ []) depot k l (BadStore why)) (Some d) y
-not_bad line depot k l why d None sound runs = runs
-not_bad line depot k l why d (Some e) sound runs = no_bad_run line depot k l why d e (runs sound).1
+not_bad : (line : Line) (files : Option Files) (k l : SinkState) (why : reasons.BadStore) (d : Told) (y : Option Told) → IsSound d.places → ¬ BothTold (RunsSound false (line ∷ []) files k l (BadStore why)) (Some d) y
+not_bad line files k l why d None sound runs = runs
+not_bad line files k l why d (Some e) sound runs = no_bad_run line files k l why d e (runs sound).1
 
-store_answered : (line : Line) (old new : StoreSide) (status : Status) (d : Told) → old.disk.told ≡ Some d → IsSound d.places → ¬ HasTooManyLeftOversNow d → ¬ Rose old.sink.faults new.sink.faults → ¬ Rose old.disk.faults new.disk.faults
+store_answered : (M : Option Refusal → Option Generation → Type 0) (P : Type 0) (R : Damage → Type 0) (line : Line) (old new : StoreSide) (status : Status) (d : Told) → old.disk.told ≡ Some d → IsSound d.places → ¬ (HasTooManyLeftOversNow d × P) → StatusMet M P R status → ¬ Rose old.sink.faults new.sink.faults → ¬ Rose old.disk.faults new.disk.faults
     → ¬ Rose old.depot.faults new.depot.faults → RunsStore false (line ∷ []) old new status → IsAnswered status
-store_answered line old new Done d told sound few sink disk depot runs = tt
-store_answered line old new (Refused refusal) d told sound few sink disk depot runs = tt
-store_answered line old new (Usage place) d told sound few sink disk depot runs = absurd runs.cause
-store_answered line old new ReadFault d told sound few sink disk depot runs = absurd runs.cause
-store_answered line old new WriteFault d told sound few sink disk depot runs = absurd (sink runs.cause)
-store_answered line old new DiskFault d told sound few sink disk depot runs = absurd (disk runs.cause)
-store_answered line old new DepotFault d told sound few sink disk depot runs = absurd (depot runs.cause)
-store_answered line old new OutOfMemory d told sound few sink disk depot runs = tt
-store_answered line old new (BadStore why) d told sound few sink disk depot runs =
-    absurd (not_bad line old.depot old.sink new.sink why d new.disk.told sound (subst (λ x. BothTold (RunsSound false (line ∷ []) old.depot old.sink new.sink (BadStore why)) x new.disk.told) told runs.sound))
-store_answered line old new Unfinished d told sound few sink disk depot runs = absurd (few (subst (λ x. IfSome x HasTooManyLeftOversNow) told runs.cause))
-store_answered line old new TooLong d told sound few sink disk depot runs = absurd runs.cause
+store_answered M P R line old new Done d told sound few met sink disk depot runs = tt
+store_answered M P R line old new (Refused refusal) d told sound few met sink disk depot runs = tt
+store_answered M P R line old new (Usage place) d told sound few met sink disk depot runs = absurd runs.cause
+store_answered M P R line old new ReadFault d told sound few met sink disk depot runs = absurd runs.cause
+store_answered M P R line old new WriteFault d told sound few met sink disk depot runs = absurd (sink runs.cause)
+store_answered M P R line old new DiskFault d told sound few met sink disk depot runs = absurd (disk runs.cause)
+store_answered M P R line old new DepotFault d told sound few met sink disk depot runs = absurd (depot runs.cause)
+store_answered M P R line old new OutOfMemory d told sound few met sink disk depot runs = tt
+store_answered M P R line old new (BadStore why) d told sound few met sink disk depot runs =
+    absurd (not_bad line old.depot.contents old.sink new.sink why d new.disk.told sound (subst (λ x. BothTold (RunsSound false (line ∷ []) old.depot.contents old.sink new.sink (BadStore why)) x new.disk.told) told runs.sound))
+store_answered M P R line old new Unfinished d told sound few met sink disk depot runs = absurd (few (subst (λ x. IfSome x HasTooManyLeftOversNow) told runs.cause, met))
+store_answered M P R line old new TooLong d told sound few met sink disk depot runs = absurd runs.cause
 
-kind_answered : (of_store : Bool) (command : Command) (old new : Devices) (status : Status) → RunsKind of_store command old new status → TellsWithin (reads_source command) old.source → TellsSound of_store old.disk → NoneRose old new → IsAnswered status
+kind_answered : (of_store : Bool) (command : Command) (old new : Devices) (status : Status) → RunsKind of_store command old new status → TellsWithin (reads_source command) old.source → TellsSound of_store command old.disk old.depot → NoneRose old new → IsAnswered status
 kind_answered true command old new status runs within (d, told, sound, few) none =
-    store_answered (does command) (store_side old.sink old.disk old.depot) (store_side new.sink new.disk new.depot) status d told sound few none.sink none.disk none.depot runs.store
+    store_answered (OpenedMet command old.disk new.disk old.depot old.sink new.sink) (OpenedWithin command old.disk old.depot) (OpenedDamage command old.disk old.depot) (does command) (store_side old.sink old.disk old.depot) (store_side new.sink new.disk new.depot) status d told sound few runs.met none.sink none.disk none.depot runs.store
 kind_answered false command old new status runs within sound none = alone_answered command old new status runs.ends within none
 
 words_answered : (words : List (List ℕ)) (old new : Devices) (status : Status) → RunsCommand words old new status → Completes words old new status

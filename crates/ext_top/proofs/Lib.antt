@@ -3,6 +3,15 @@ pub mod StoredLemmas
 pub mod ApplyingLemmas
 pub mod ReplacingLemmas
 pub mod WorkingLemmas
+pub mod PreparedLemmas
+pub mod WrittenLemmas
+pub mod DamagedLemmas
+pub mod UnfinishedLemmas
+pub mod CurrentLemmas
+pub mod OneOutcomeLemmas
+pub mod ViewFilesLemmas
+pub mod AfterViewLemmas
+pub mod RefreshLemmas
 pub mod CheckLemmas
 pub mod ReadingLemmas
 pub mod LineLemmas

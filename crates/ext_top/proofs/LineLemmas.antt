@@ -3,7 +3,7 @@ use Rattle.std.proofs.Common.{◌≡◌, ℕ, ◌≤◌, List, [], ◌∷◌, le
 use Rattle.std.specs.Io.KnownBytes.{Appends}
 use Rattle.ext_text.specs.Causes.{Rose}
 use Rattle.ext_io.specs.SinkState.{SinkState}
-use Rattle.ext_depot.specs.Depot.{DepotState}
+use Rattle.ext_depot.specs.Depot.{DepotState, Files}
 use Rattle.ext_disk.specs.Disk.{Places, Told, DiskState, BothTold, now}
 use Rattle.ext_disk.specs.Since.{Rests}
 use Rattle.ext_host.specs.Drawn.{IsFileOf}
@@ -48,38 +48,38 @@ adds_nothing (Some xs) = sym (append-nil xs)
 same_sink : (k l : SinkState) → l ≡ k → Appends k.written l.written []
 same_sink k l same = subst (λ (m : SinkState). Appends k.written m.written []) (sym same) (adds_nothing k.written)
 
-stopped : (s : State) (depot : DepotState) (command : Command) (k : SinkState) (e : Places) (stop : Stop) (standing : Standing) → StopsWith stop s depot (does command) standing [] → StandsAs standing e
-    → LineStops (does command) s depot k k e stop
-stopped s depot command k e stop standing stops stands = record { standing = standing; part = []; stops = stops; appends = adds_nothing k.written; stands = stands }
+stopped : (s : State) (files : Option Files) (command : Command) (k : SinkState) (e : Places) (stop : Stop) (standing : Standing) → StopsWith stop s files (does command) standing [] → StandsAs standing e
+    → LineStops (does command) s files k k e stop
+stopped s files command k e stop standing stops stands = record { standing = standing; part = []; stops = stops; appends = adds_nothing k.written; stands = stands }
 
-undone_ends : (s : State) (depot : DepotState) (command : Command) (k : SinkState) (error : ApplyErr) (e : Places) → AppliesEnds (Step s depot command) s (Err error) e → LineStops (does command) s depot k k e (stop_of_apply error)
-undone_ends s depot command k (apply_errors.Fault store_faults.DiskFault) e (inl durably) = stopped s depot command k e DiskFault (durable s) (inl (refl, refl)) durably
-undone_ends s depot command k (apply_errors.Fault store_faults.DiskFault) e (inr (outcome, step, either)) =
-    stopped s depot command k e DiskFault (between s (state_after s outcome)) (inr (inl (record { outcome = outcome; comes = step; stands = refl; nothing = refl }))) either
-undone_ends s depot command k (apply_errors.Fault store_faults.DepotFault) e durably = stopped s depot command k e DepotFault (durable s) (refl, refl) durably
-undone_ends s depot command k (apply_errors.Fault (store_faults.Damaged damage)) e never = absurd never
-undone_ends s depot command k apply_errors.Unfinished e durably = stopped s depot command k e Unfinished (durable s) (refl, refl) durably
-undone_ends s depot command k (apply_errors.Fault store_faults.OutOfMemory) e durably = stopped s depot command k e OutOfMemory (durable s) (inl (refl, refl)) durably
+undone_ends : (s : State) (files : Option Files) (command : Command) (k : SinkState) (error : ApplyErr) (e : Places) → AppliesEnds (Step s files command) s (Err error) e → LineStops (does command) s files k k e (stop_of_apply error)
+undone_ends s files command k (apply_errors.Fault store_faults.DiskFault) e (inl durably) = stopped s files command k e DiskFault (durable s) (inl (refl, refl)) durably
+undone_ends s files command k (apply_errors.Fault store_faults.DiskFault) e (inr (outcome, step, either)) =
+    stopped s files command k e DiskFault (between s (state_after s outcome)) (inr (inl (record { outcome = outcome; comes = step; stands = refl; nothing = refl }))) either
+undone_ends s files command k (apply_errors.Fault store_faults.DepotFault) e durably = stopped s files command k e DepotFault (durable s) (refl, refl) durably
+undone_ends s files command k (apply_errors.Fault (store_faults.Damaged damage)) e never = absurd never
+undone_ends s files command k apply_errors.Unfinished e durably = stopped s files command k e Unfinished (durable s) (refl, refl) durably
+undone_ends s files command k (apply_errors.Fault store_faults.OutOfMemory) e durably = stopped s files command k e OutOfMemory (durable s) (inl (refl, refl)) durably
 
-on_the_way : (s x : State) (depot : DepotState) (command : Command) → IsPassed (Step s depot command) s x → IsOnTheWay s depot (does command ∷ []) x
-on_the_way s x depot command (inl is) = inl is
-on_the_way s x depot command (inr (outcome, step, is)) = inr (outcome, step, is)
+on_the_way : (s x : State) (files : Option Files) (command : Command) → IsPassed (Step s files command) s x → IsOnTheWay s files (does command ∷ []) x
+on_the_way s x files command (inl is) = inl is
+on_the_way s x files command (inr (outcome, step, is)) = inr (outcome, step, is)
 
-line_since : (s : State) (depot : DepotState) (command : Command) (e : Told) (m : ℕ) → StandsSince (IsPassed (Step s depot command) s) e m → StandsSince (IsOnTheWay s depot (does command ∷ [])) e m
-line_since s depot command e m since = stands_since_wider (IsPassed (Step s depot command) s) (IsOnTheWay s depot (does command ∷ [])) e m (λ x. on_the_way s x depot command) since
+line_since : (s : State) (files : Option Files) (command : Command) (e : Told) (m : ℕ) → StandsSince (IsPassed (Step s files command) s) e m → StandsSince (IsOnTheWay s files (does command ∷ [])) e m
+line_since s files command e m since = stands_since_wider (IsPassed (Step s files command) s) (IsOnTheWay s files (does command ∷ [])) e m (λ x. on_the_way s x files command) since
 
-undone_told : (depot : DepotState) (command : Command) (opened : Option Generation) (k : SinkState) (error : ApplyErr) (d e : Told) → AppliesTold (λ s. Step s depot command) opened (Err error) d e
-    → LineTold (does command) opened depot k k (Err (stop_of_apply error)) d e
-undone_told depot command opened k error d e applies = λ s is durably.
+undone_told : (files : Option Files) (command : Command) (opened : Option Generation) (k : SinkState) (error : ApplyErr) (d e : Told) → AppliesTold (λ s. Step s files command) opened (Err error) d e
+    → LineTold (does command) opened files k k (Err (stop_of_apply error)) d e
+undone_told files command opened k error d e applies = λ s is durably.
     let of = applies s is durably in
-    record { ends = undone_ends s depot command k error e.places of.ends; since = line_since s depot command e d.clock of.since }
+    record { ends = undone_ends s files command k error e.places of.ends; since = line_since s files command e d.clock of.since }
 
-pub undone_line : (depot : DepotState) (command : Command) (opened : Option Generation) (k : SinkState) (error : ApplyErr) (x y : Option Told) → BothTold (AppliesTold (λ s. Step s depot command) opened (Err error)) x y
-    → BothTold (LineTold (does command) opened depot k k (Err (stop_of_apply error))) x y
-undone_line depot command opened k error None None applies = tt
-undone_line depot command opened k error None (Some e) applies = absurd applies
-undone_line depot command opened k error (Some d) None applies = absurd applies
-undone_line depot command opened k error (Some d) (Some e) applies = undone_told depot command opened k error d e applies
+pub undone_line : (files : Option Files) (command : Command) (opened : Option Generation) (k : SinkState) (error : ApplyErr) (x y : Option Told) → BothTold (AppliesTold (λ s. Step s files command) opened (Err error)) x y
+    → BothTold (LineTold (does command) opened files k k (Err (stop_of_apply error))) x y
+undone_line files command opened k error None None applies = tt
+undone_line files command opened k error None (Some e) applies = absurd applies
+undone_line files command opened k error (Some d) None applies = absurd applies
+undone_line files command opened k error (Some d) (Some e) applies = undone_told files command opened k error d e applies
 
 pub undone_cause : (opened : Option Generation) (k l : SinkState) (d e : DiskState) (before after : DepotState) (error : ApplyErr) → ApplyCause opened d e before after error → LineCause opened k l d e before after (stop_of_apply error)
 undone_cause opened k l d e before after (apply_errors.Fault store_faults.DiskFault) cause = cause
@@ -108,100 +108,100 @@ abbrev pub written_of : Option Generation → Result (Option Refusal) Stop → R
 written_of opened (Ok last) = Ok (record { opened = opened; refusal = last })
 written_of opened (Err stop) = Err stop
 
-shown_ends : (s : State) (depot : DepotState) (command : Command) (k l : SinkState) (e : Places) (bytes : List ℕ) (opened : Option Generation) (result : Result (Option Refusal) Stop) → Step s depot command (shows bytes) → opened ≡ generation_in s → IsDurably s e
-    → WritesPartly bytes k l result → IfOk result (λ last. last ≡ None) → LineEnds (does command) s depot k l e (written_of opened result)
-shown_ends s depot command k l e bytes opened (Ok last) step is durably writes nothing = record { outcome = shows bytes; comes = step; opened = is; refusal = nothing; appends = writes; durably = durably }
-shown_ends s depot command k l e bytes opened (Err WriteFault) step is durably (prefix, proper, appends) nothing = record {
+shown_ends : (s : State) (files : Option Files) (command : Command) (k l : SinkState) (e : Places) (bytes : List ℕ) (opened : Option Generation) (result : Result (Option Refusal) Stop) → Step s files command (shows bytes) → opened ≡ generation_in s → IsDurably s e
+    → WritesPartly bytes k l result → IfOk result (λ last. last ≡ None) → LineEnds (does command) s files k l e (written_of opened result)
+shown_ends s files command k l e bytes opened (Ok last) step is durably writes nothing = record { outcome = shows bytes; comes = step; opened = is; refusal = nothing; appends = writes; durably = durably }
+shown_ends s files command k l e bytes opened (Err WriteFault) step is durably (prefix, proper, appends) nothing = record {
   standing = durable s;
   part = prefix;
   stops = record { outcome = shows bytes; comes = step; stands = refl; rest = proper.0; reply = proper.1; not_all = proper.2 };
   appends = appends;
   stands = durably;
 }
-shown_ends s depot command k l e bytes opened (Err DiskFault) step is durably (prefix, partly, appends) nothing = record {
+shown_ends s files command k l e bytes opened (Err DiskFault) step is durably (prefix, partly, appends) nothing = record {
   standing = durable s;
   part = prefix;
   stops = inr (inr (record { bytes = bytes; comes = step; stands = refl; rest = partly.0; reply = partly.1 }));
   appends = appends;
   stands = durably;
 }
-shown_ends s depot command k l e bytes opened (Err DepotFault) step is durably writes nothing = absurd writes
-shown_ends s depot command k l e bytes opened (Err OutOfMemory) step is durably (prefix, partly, appends) nothing = record {
+shown_ends s files command k l e bytes opened (Err DepotFault) step is durably writes nothing = absurd writes
+shown_ends s files command k l e bytes opened (Err OutOfMemory) step is durably (prefix, partly, appends) nothing = record {
   standing = durable s;
   part = prefix;
   stops = inr (record { bytes = bytes; comes = step; stands = refl; rest = partly.0; reply = partly.1 });
   appends = appends;
   stands = durably;
 }
-shown_ends s depot command k l e bytes opened (Err (BadStore why)) step is durably writes nothing = absurd writes
-shown_ends s depot command k l e bytes opened (Err Unfinished) step is durably writes nothing = absurd writes
+shown_ends s files command k l e bytes opened (Err (BadStore why)) step is durably writes nothing = absurd writes
+shown_ends s files command k l e bytes opened (Err Unfinished) step is durably writes nothing = absurd writes
 
-given_ends : (s u : State) (depot : DepotState) (command : Command) (k l : SinkState) (e : Places) (text : List ℕ) (opened : Option Generation) (result : Result (Option Refusal) Stop) → Step s depot command (gives u text) → opened ≡ generation_in u → IsDurably u e
-    → WritesText text k l result → LineEnds (does command) s depot k l e (written_of opened result)
-given_ends s u depot command k l e text opened (Ok last) step is durably (nothing, appends) = record { outcome = gives u text; comes = step; opened = is; refusal = nothing; appends = appends; durably = durably }
-given_ends s u depot command k l e text opened (Err WriteFault) step is durably (prefix, proper, appends) = record {
+given_ends : (s u : State) (files : Option Files) (command : Command) (k l : SinkState) (e : Places) (text : List ℕ) (opened : Option Generation) (result : Result (Option Refusal) Stop) → Step s files command (gives u text) → opened ≡ generation_in u → IsDurably u e
+    → WritesText text k l result → LineEnds (does command) s files k l e (written_of opened result)
+given_ends s u files command k l e text opened (Ok last) step is durably (nothing, appends) = record { outcome = gives u text; comes = step; opened = is; refusal = nothing; appends = appends; durably = durably }
+given_ends s u files command k l e text opened (Err WriteFault) step is durably (prefix, proper, appends) = record {
   standing = durable u;
   part = prefix;
   stops = record { outcome = gives u text; comes = step; stands = refl; rest = proper.0; reply = proper.1; not_all = proper.2 };
   appends = appends;
   stands = durably;
 }
-given_ends s u depot command k l e text opened (Err DiskFault) step is durably writes = absurd writes
-given_ends s u depot command k l e text opened (Err DepotFault) step is durably writes = absurd writes
-given_ends s u depot command k l e text opened (Err OutOfMemory) step is durably writes = absurd writes
-given_ends s u depot command k l e text opened (Err (BadStore why)) step is durably writes = absurd writes
-given_ends s u depot command k l e text opened (Err Unfinished) step is durably writes = absurd writes
+given_ends s u files command k l e text opened (Err DiskFault) step is durably writes = absurd writes
+given_ends s u files command k l e text opened (Err DepotFault) step is durably writes = absurd writes
+given_ends s u files command k l e text opened (Err OutOfMemory) step is durably writes = absurd writes
+given_ends s u files command k l e text opened (Err (BadStore why)) step is durably writes = absurd writes
+given_ends s u files command k l e text opened (Err Unfinished) step is durably writes = absurd writes
 
-refused_ends : (s : State) (depot : DepotState) (command : Command) (k l : SinkState) (e : Places) (refusal : Refusal) (opened : Option Generation) (result : Result (Option Refusal) Stop) → Step s depot command (refuses refusal) → opened ≡ generation_in s → IsDurably s e
-    → WritesRefusal refusal k l result → LineEnds (does command) s depot k l e (written_of opened result)
-refused_ends s depot command k l e refusal opened (Ok last) step is durably (some, appends) = record { outcome = refuses refusal; comes = step; opened = is; refusal = some; appends = appends; durably = durably }
-refused_ends s depot command k l e refusal opened (Err WriteFault) step is durably (prefix, proper, appends) = record {
+refused_ends : (s : State) (files : Option Files) (command : Command) (k l : SinkState) (e : Places) (refusal : Refusal) (opened : Option Generation) (result : Result (Option Refusal) Stop) → Step s files command (refuses refusal) → opened ≡ generation_in s → IsDurably s e
+    → WritesRefusal refusal k l result → LineEnds (does command) s files k l e (written_of opened result)
+refused_ends s files command k l e refusal opened (Ok last) step is durably (some, appends) = record { outcome = refuses refusal; comes = step; opened = is; refusal = some; appends = appends; durably = durably }
+refused_ends s files command k l e refusal opened (Err WriteFault) step is durably (prefix, proper, appends) = record {
   standing = durable s;
   part = prefix;
   stops = record { outcome = refuses refusal; comes = step; stands = refl; rest = proper.0; reply = proper.1; not_all = proper.2 };
   appends = appends;
   stands = durably;
 }
-refused_ends s depot command k l e refusal opened (Err DiskFault) step is durably writes = absurd writes
-refused_ends s depot command k l e refusal opened (Err DepotFault) step is durably writes = absurd writes
-refused_ends s depot command k l e refusal opened (Err OutOfMemory) step is durably same = record { standing = durable s; part = []; stops = inl (refl, refl); appends = same_sink k l same; stands = durably }
-refused_ends s depot command k l e refusal opened (Err (BadStore why)) step is durably writes = absurd writes
-refused_ends s depot command k l e refusal opened (Err Unfinished) step is durably writes = absurd writes
+refused_ends s files command k l e refusal opened (Err DiskFault) step is durably writes = absurd writes
+refused_ends s files command k l e refusal opened (Err DepotFault) step is durably writes = absurd writes
+refused_ends s files command k l e refusal opened (Err OutOfMemory) step is durably same = record { standing = durable s; part = []; stops = inl (refl, refl); appends = same_sink k l same; stands = durably }
+refused_ends s files command k l e refusal opened (Err (BadStore why)) step is durably writes = absurd writes
+refused_ends s files command k l e refusal opened (Err Unfinished) step is durably writes = absurd writes
 
-reply_ends : (s : State) (depot : DepotState) (command : Command) (k l : SinkState) (mid : DiskState) (e : Told) (opened : Option Generation) (reply : Reply) (outcome : Outcome) (result : Result (Option Refusal) Stop)
-    → mid.told ≡ Some e → Step s depot command outcome → opened ≡ generation_in (state_after s outcome) → IsReply s reply outcome → IsDurably (state_after s outcome) e.places → WritesReply reply mid k l result
-    → LineEnds (does command) s depot k l e.places (written_of opened result)
-reply_ends s depot command k l mid e opened (Text text) outcome result told step is of durably writes =
-    given_ends s of.0 depot command k l e.places text opened result (subst (Step s depot command) of.1 step) (is ∙ ap (λ o. generation_in (state_after s o)) of.1)
+reply_ends : (s : State) (files : Option Files) (command : Command) (k l : SinkState) (mid : DiskState) (e : Told) (opened : Option Generation) (reply : Reply) (outcome : Outcome) (result : Result (Option Refusal) Stop)
+    → mid.told ≡ Some e → Step s files command outcome → opened ≡ generation_in (state_after s outcome) → IsReply s reply outcome → IsDurably (state_after s outcome) e.places → WritesReply reply mid k l result
+    → LineEnds (does command) s files k l e.places (written_of opened result)
+reply_ends s files command k l mid e opened (Text text) outcome result told step is of durably writes =
+    given_ends s of.0 files command k l e.places text opened result (subst (Step s files command) of.1 step) (is ∙ ap (λ o. generation_in (state_after s o)) of.1)
     (subst (λ o. IsDurably (state_after s o) e.places) of.1 durably) writes
-reply_ends s depot command k l mid e opened (File held) outcome result told step is of durably writes =
+reply_ends s files command k l mid e opened (File held) outcome result told step is of durably writes =
     let still = subst (λ o. IsDurably (state_after s o) e.places) of.0 durably in
     let there = shown_told s e mid held held.body refl told still.stands of.1 in
-    shown_ends s depot command k l e.places (bytes_at s held.body) opened result (subst (Step s depot command) of.0 step) (is ∙ ap (λ o. generation_in (state_after s o)) of.0)
+    shown_ends s files command k l e.places (bytes_at s held.body) opened result (subst (Step s files command) of.0 step) (is ∙ ap (λ o. generation_in (state_after s o)) of.0)
     still (writes.0 (bytes_at s held.body) there.0 there.1) writes.1
-reply_ends s depot command k l mid e opened (Refused refusal) outcome result told step is of durably writes =
-    refused_ends s depot command k l e.places refusal opened result (subst (Step s depot command) of step) (is ∙ ap (λ o. generation_in (state_after s o)) of)
+reply_ends s files command k l mid e opened (Refused refusal) outcome result told step is of durably writes =
+    refused_ends s files command k l e.places refusal opened result (subst (Step s files command) of step) (is ∙ ap (λ o. generation_in (state_after s o)) of)
     (subst (λ o. IsDurably (state_after s o) e.places) of durably) writes
 
-written_told : (depot : DepotState) (command : Command) (from : Option Generation) (k l : SinkState) (mid : DiskState) (opened : Option Generation) (reply : Reply) (result : Result (Option Refusal) Stop) (x y z : Option Told)
-    → mid.told ≡ y → z ≡ y → WritesReply reply mid k l result → BothTold (AppliesTold (λ s. Step s depot command) from (Ok (record { opened = opened; reply = reply }))) x y
-    → BothTold (LineTold (does command) from depot k l (written_of opened result)) x z
-written_told depot command from k l mid opened reply result None None z told same writes applies = subst (λ o. BothTold (LineTold (does command) from depot k l (written_of opened result)) None o) (sym same) tt
-written_told depot command from k l mid opened reply result None (Some e) z told same writes applies = absurd applies
-written_told depot command from k l mid opened reply result (Some d) None z told same writes applies = absurd applies
-written_told depot command from k l mid opened reply result (Some d) (Some e) z told same writes applies =
-    subst (λ o. BothTold (LineTold (does command) from depot k l (written_of opened result)) (Some d) o) (sym same) (λ s is durably.
+written_told : (files : Option Files) (command : Command) (from : Option Generation) (k l : SinkState) (mid : DiskState) (opened : Option Generation) (reply : Reply) (result : Result (Option Refusal) Stop) (x y z : Option Told)
+    → mid.told ≡ y → z ≡ y → WritesReply reply mid k l result → BothTold (AppliesTold (λ s. Step s files command) from (Ok (record { opened = opened; reply = reply }))) x y
+    → BothTold (LineTold (does command) from files k l (written_of opened result)) x z
+written_told files command from k l mid opened reply result None None z told same writes applies = subst (λ o. BothTold (LineTold (does command) from files k l (written_of opened result)) None o) (sym same) tt
+written_told files command from k l mid opened reply result None (Some e) z told same writes applies = absurd applies
+written_told files command from k l mid opened reply result (Some d) None z told same writes applies = absurd applies
+written_told files command from k l mid opened reply result (Some d) (Some e) z told same writes applies =
+    subst (λ o. BothTold (LineTold (does command) from files k l (written_of opened result)) (Some d) o) (sym same) (λ s is durably.
     let of = applies s is durably in
     record {
-      ends = reply_ends s depot command k l mid e opened reply of.ends.0 result told of.ends.1 of.ends.2.opened of.ends.2.reply of.ends.3 writes;
-      since = line_since s depot command e d.clock of.since;
+      ends = reply_ends s files command k l mid e opened reply of.ends.0 result told of.ends.1 of.ends.2.opened of.ends.2.reply of.ends.3 writes;
+      since = line_since s files command e d.clock of.since;
     })
 
-pub written_line : (depot : DepotState) (command : Command) (from : Option Generation) (k l : SinkState) (old mid new : DiskState) (opened : Option Generation) (reply : Reply) (result : Result (Option Refusal) Stop)
-    → Rests mid new → WritesReply reply mid k l result → BothTold (AppliesTold (λ s. Step s depot command) from (Ok (record { opened = opened; reply = reply }))) old.told mid.told
-    → BothTold (LineTold (does command) from depot k l (written_of opened result)) old.told new.told
-written_line depot command from k l old mid new opened reply result rests writes applies =
-    written_told depot command from k l mid opened reply result old.told mid.told new.told refl rests.told writes applies
+pub written_line : (files : Option Files) (command : Command) (from : Option Generation) (k l : SinkState) (old mid new : DiskState) (opened : Option Generation) (reply : Reply) (result : Result (Option Refusal) Stop)
+    → Rests mid new → WritesReply reply mid k l result → BothTold (AppliesTold (λ s. Step s files command) from (Ok (record { opened = opened; reply = reply }))) old.told mid.told
+    → BothTold (LineTold (does command) from files k l (written_of opened result)) old.told new.told
+written_line files command from k l old mid new opened reply result rests writes applies =
+    written_told files command from k l mid opened reply result old.told mid.told new.told refl rests.told writes applies
 
 rose_from : (a b c : ℕ) → a ≤ b → Rose b c → Rose a c
 rose_from a b c le (inl more) = inl (omega arith)

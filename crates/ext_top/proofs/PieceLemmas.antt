@@ -1,5 +1,5 @@
 -- One piece of a file: it is read, and then written.
-use Rattle.std.proofs.Common.{◌≡◌, ℕ, ◌+◌, ◌<◌, ◌≤◌, List, ◌++◌, length, drop, inl, inr, None, Result, Ok, Err, refl, sym, ap, ◌∙◌, subst, arith, append_assoc, length-append}
+use Rattle.std.proofs.Common.{◌≡◌, ◌≢◌, ◌⊎◌, ℕ, ◌+◌, ◌<◌, ◌≤◌, List, ◌++◌, length, drop, inl, inr, None, Result, Ok, Err, refl, sym, ap, ◌∙◌, subst, arith, append_assoc, length-append}
 use Rattle.ext_text.specs.Causes.{Rose}
 use Rattle.ext_io.specs.SinkState.{SinkState}
 use Rattle.ext_disk.specs.Disk.{DiskState}
@@ -91,3 +91,7 @@ cause_from held j k l d e f OutOfMemory le rests cause = tt
 cause_from held j k l d e f (BadStore (Broken line)) le rests cause = cause
 cause_from held j k l d e f (BadStore (Damaged damage)) le rests cause = (cause.0, subst (λ t. IsFound damage.listed t damage.found) (told_rests d e held.body rests) cause.1)
 cause_from held j k l d e f Unfinished le rests cause = cause
+
+-- a file that is not told to be missing was not told so before, while the disk rests
+pub stood_before : (d e : DiskState) (body : Body) (at : ℕ) → Rests d e → body_told e body ≢ missing → (at ≡ 0) ⊎ (body_told d body ≢ missing)
+stood_before d e body at rests stands = inr (subst (λ t. t ≢ missing) (told_rests d e body rests) stands)

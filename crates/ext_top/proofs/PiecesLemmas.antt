@@ -1,12 +1,12 @@
 -- A file that is written in pieces.
-use Rattle.std.proofs.Common.{◌≡◌, ℕ, ◌+◌, ◌≤◌, List, ◌++◌, length, take, drop, Option, Some, None, Ok, Err, sym, ap, ◌∙◌, subst, arith, append_assoc}
+use Rattle.std.proofs.Common.{◌≡◌, ℕ, ◌+◌, ◌≤◌, List, [], ◌++◌, length, take, drop, Option, Some, None, Ok, Err, refl, sym, ap, ◌∙◌, subst, arith, append_assoc, length-append}
 use Rattle.std.specs.Io.KnownBytes.{Appends}
 use Rattle.std.proofs.Math.Seq.{take-add, take-append_seam}
-use Rattle.std.proofs.lemmas.List.{take-append-drop, take_all}
+use Rattle.std.proofs.lemmas.List.{length-take-le, take-append-drop, take_all}
 use Rattle.ext_io.specs.SinkState.{SinkState}
 use Rattle.ext_host.specs.Shelf as shelf
 use Rattle.ext_host.specs.Shelf.{stored}
-use Rattle.ext_top.specs.Replying.{WritesFile, WritesNext, WritesPartly, WritesPiece}
+use Rattle.ext_top.specs.Replying.{WritesBytes, WritesFile, WritesMany, WritesNext, WritesPartly, WritesPiece}
 use Rattle.ext_top.specs.declared.stop.Stop.{Stop}
 use Rattle.ext_top.specs.declared.stop.Stop.TheVariants.{WriteFault, DiskFault, DepotFault, OutOfMemory, BadStore, Unfinished}
 use Rattle.ext_top.proofs.LineLemmas.{adds_nothing}
@@ -42,6 +42,19 @@ first_then told size at count k l m first next = λ bytes is long.
 pub first_all : {T : Type 0} (told : shelf.Told) (size at : ℕ) (k l : SinkState) (done : T) → size ≤ at → WritesFirst told size at k l → WritesFile {T = T} told size k l (Ok done)
 first_all told size at k l done all first = λ bytes is long.
     appends_same k.written l.written (take at bytes) bytes (take_all at bytes (omega (arith, long, all))) (first bytes is long)
+
+-- whatever the bytes are, so many of them were written
+pub many_none : (k : SinkState) → WritesMany 0 k k
+many_none k = ([], refl, adds_nothing k.written)
+
+pub many_then : (m n : ℕ) (j k l : SinkState) → WritesMany m j k → WritesMany n k l → WritesMany (m + n) j l
+many_then m n j k l (xs, is, one) (ys, also, two) = (xs ++ ys, length-append xs ys ∙ (λ i. is i + also i), appends_then j.written k.written l.written xs ys one two)
+
+pub many_all : (size at : ℕ) (k l : SinkState) → size ≤ at → at ≤ size → WritesMany at k l → WritesMany size k l
+many_all size at k l all within many = let same : at ≡ size = omega arith in subst (λ n. WritesMany n k l) same many
+
+pub many_piece : (buffer : List ℕ) (count : ℕ) (k l : SinkState) → count ≤ length buffer → WritesBytes {T = Unit {0}} (take count buffer) k l (Ok tt) → WritesMany count k l
+many_piece buffer count k l within writes = (take count buffer, length-take-le count buffer within, writes)
 
 -- a piece that was not written
 part_then : (T : Type 0) (bytes : List ℕ) (at : ℕ) (k l m : SinkState) (stop : Stop) → Appends k.written l.written (take at bytes) → WritesNext bytes at l m (Err stop) → WritesPartly {T = T} bytes k m (Err stop)

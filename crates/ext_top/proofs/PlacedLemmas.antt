@@ -1,5 +1,5 @@
 -- Homes of a coming host depend on what a store lists, on the bytes at the homes that it lists, and on the files of the depot.
-use Rattle.std.proofs.Common.{◌≡◌, ℕ, ◌+◌, Bool, List, [], ◌∷◌, length, inl, inr, subst}
+use Rattle.std.proofs.Common.{◌≡◌, ℕ, ◌+◌, Bool, List, [], ◌∷◌, length, Option, inl, inr, subst}
 use Rattle.ext_depot.specs.Depot.{DepotState}
 use Rattle.ext_tree.specs.Tree.{Entries}
 use Rattle.ext_tree.specs.declared.entry.Entry.{Entry}
@@ -7,14 +7,14 @@ use Rattle.ext_tree.specs.declared.entry.Entry.TheVariants.{Dir, Opaque, File, L
 use Rattle.ext_tree.specs.declared.stamp.Stamp.{Stamp}
 use Rattle.ext_host.specs.Held.{HeldFile}
 use Rattle.ext_host.specs.Shelf as shelf
-use Rattle.ext_host.specs.Shelf.{IsTold}
+use Rattle.ext_host.specs.Shelf.{IsFound, IsTold}
 use Rattle.ext_host.specs.declared.body.Body.{Body}
 use Rattle.ext_host.specs.declared.body.Body.TheVariants.{Here, Kept, Depot}
 use Rattle.ext_host.specs.declared.home.Home.{Home}
 use Rattle.ext_host.specs.declared.host.Host.{Host}
 use Rattle.ext_store_files.specs.Comparing.{IsCompared}
 use Rattle.ext_homes.specs.Placed.{Stored, ArePlaced, DifferBefore, IsBodyPlaced, IsBroughtTo, IsEntryPlaced, IsHostPlaced, TakesHome, brought_told}
-use Rattle.ext_homes.specs.Refused.{StopsAt}
+use Rattle.ext_homes.specs.Refused.{IsDamaged, StopsAt}
 
 -- the same homes are listed, with the same bytes, and the same is told of what is brought
 pub record Alike (a b : Stored) (d e : DepotState) : Type 0 where
@@ -29,6 +29,11 @@ module _ (a b : Stored) (d e : DepotState) (alike : Alike a b d e) where
 
   before : (stamp : Stamp) (brought : shelf.Told) (home : Home) → DifferBefore a stamp brought home → DifferBefore b stamp brought home
   before stamp brought home least = λ other listed less. compared stamp brought other _ listed (least other (alike.back stamp other listed) less)
+
+  pub damaged_alike : (stamp : Stamp) (brought : shelf.Told) (home : Home) (found : Option Stamp) → IsDamaged a stamp brought home found → IsDamaged b stamp brought home found
+  damaged_alike stamp brought home found is =
+      let listed = alike.lists stamp home is.listed in
+      record { listed = listed; least = before stamp brought home is.least; differs = subst (λ t. IsFound stamp t found) (alike.told stamp home listed) is.differs }
 
   takes : (generation : ℕ) (stamp : Stamp) (brought : shelf.Told) (next : ℕ) (home : Home) (written : List (List ℕ)) → TakesHome a generation stamp brought next home written → TakesHome b generation stamp brought next home written
   takes generation stamp brought next home written (inl (least, none)) =

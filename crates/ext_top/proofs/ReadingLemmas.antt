@@ -1,6 +1,6 @@
 -- Commands that only read the store: nothing is done, or its files are checked, or one of them is shown.
 use Rattle.std.proofs.Common.{◌≡◌, ℕ, true, List, inl, Option, Some, None, IfSome, Ok, Err, refl, sym, ap, ◌∙◌, subst}
-use Rattle.ext_depot.specs.Depot.{DepotState}
+use Rattle.ext_depot.specs.Depot.{DepotState, Files}
 use Rattle.ext_disk.specs.Disk.{Told, DiskState, BothTold, IsDisk, now}
 use Rattle.ext_host.specs.Drawn.{IsFileOf}
 use Rattle.ext_host.specs.Held.{HeldFile}
@@ -43,15 +43,15 @@ answered P from old new applied outcome same disk says = rested_told P from (Ok 
     (outcome s, of.0, of.1, subst (λ t. IsDurably t d.places) (sym of.2) durably))
 
 -- an answer
-pub answers_applied : (answer : Answer) (text : List ℕ) (from : Option Generation) (depot : DepotState) (old new : DiskState) → text ≡ answer_text answer → new.told ≡ old.told → IfSome old.told IsDisk
-    → BothTold (AppliesTold (λ s. Comes s depot (Answers answer)) from (Ok (record { opened = from; reply = Text text }))) old.told new.told
-answers_applied answer text from depot old new is same disk = answered (λ s. Comes s depot (Answers answer)) from old new (record { opened = from; reply = Text text }) (λ s. gives s text) same disk
+pub answers_applied : (answer : Answer) (text : List ℕ) (from : Option Generation) (files : Option Files) (old new : DiskState) → text ≡ answer_text answer → new.told ≡ old.told → IfSome old.told IsDisk
+    → BothTold (AppliesTold (λ s. Comes s files (Answers answer)) from (Ok (record { opened = from; reply = Text text }))) old.told new.told
+answers_applied answer text from files old new is same disk = answered (λ s. Comes s files (Answers answer)) from old new (record { opened = from; reply = Text text }) (λ s. gives s text) same disk
     (λ s here. (ap (gives s) is, record { opened = sym here; reply = (s, refl) }, refl))
 
 -- a refusal
-pub refusal_applied : (refusal : Refusal) (from : Option Generation) (depot : DepotState) (old new : DiskState) → new.told ≡ old.told → IfSome old.told IsDisk
-    → BothTold (AppliesTold (λ s. Comes s depot (Refuses refusal)) from (Ok (record { opened = from; reply = Refused refusal }))) old.told new.told
-refusal_applied refusal from depot old new same disk = answered (λ s. Comes s depot (Refuses refusal)) from old new (record { opened = from; reply = Refused refusal }) (λ s. refuses refusal) same disk
+pub refusal_applied : (refusal : Refusal) (from : Option Generation) (files : Option Files) (old new : DiskState) → new.told ≡ old.told → IfSome old.told IsDisk
+    → BothTold (AppliesTold (λ s. Comes s files (Refuses refusal)) from (Ok (record { opened = from; reply = Refused refusal }))) old.told new.told
+refusal_applied refusal from files old new same disk = answered (λ s. Comes s files (Refuses refusal)) from old new (record { opened = from; reply = Refused refusal }) (λ s. refuses refusal) same disk
     (λ s here. (refl, record { opened = sym here; reply = refl }, refl))
 
 -- no store that stands for a state is damaged
@@ -95,7 +95,7 @@ pub check_cause : (g : Generation) (old new : DiskState) (error : ShelfErr) → 
 check_cause g old new error opened stops =
     file_cause (Some g) old new stops.held error (file_of_host g.host stops.before stops.after stops.held (opened_is_well_formed g opened) stops.is) stops.cause
 
-checked_is : (disk : DiskState) (host : Host) (counts : ℕ × ℕ) (text : List ℕ) → AreChecked disk (files_of_host host) counts → text ≡ answer_text (Checked counts.0 counts.1) → text ≡ checked_text host
+pub checked_is : (disk : DiskState) (host : Host) (counts : ℕ × ℕ) (text : List ℕ) → AreChecked disk (files_of_host host) counts → text ≡ answer_text (Checked counts.0 counts.1) → text ≡ checked_text host
 checked_is disk host counts text checked is =
     is ∙ (ap (λ n. answer_text (Checked n counts.1)) (checked.number ∙ number_of_host host) ∙ ap (λ n. answer_text (Checked (host_files host) n)) (checked.bytes ∙ size_of_host host))
 

@@ -1,9 +1,9 @@
 -- A host is put in place of the one that the store has: what the preparation and the switch leave together.
-use Rattle.std.proofs.Common.{◌≡◌, ℕ, suc, ◌+◌, ◌<◌, false, List, [], ◌∷◌, ◌++◌, inl, inr, Option, Some, None, IfSome, Result, Ok, Err, refl, sym, ap, ◌∙◌, subst, arith}
-use Rattle.std.specs.Prelude.{Contains}
+use Rattle.std.proofs.Common.{◌≡◌, ℕ, zero, suc, ◌+◌, ◌<◌, false, List, [], ◌∷◌, ◌++◌, inl, inr, Option, Some, None, IfSome, Result, Ok, Err, refl, sym, ap, ◌∙◌, subst, arith}
+use Rattle.std.specs.Prelude.{◌⊎◌, Contains}
 use Rattle.std.specs.List.{AllByRecursion}
 use Rattle.ext_io.specs.declared.failed.Failed.{Failed}
-use Rattle.ext_depot.specs.Depot.{DepotState}
+use Rattle.ext_depot.specs.Depot.{DepotState, Files}
 use Rattle.ext_disk.specs.Disk.{Places, Told, DiskState, BothTold, now}
 use Rattle.ext_disk.specs.Since.{IsLater}
 use Rattle.ext_tree.specs.Tree.{Entries}
@@ -17,6 +17,7 @@ use Rattle.ext_store_files.specs.Removal.{MoreThan}
 use Rattle.ext_store_files.specs.declared.fault.StoreFault.TheVariants as store_faults
 use Rattle.ext_store_files.specs.declared.fault.StoreFault.TheVariants.{OutOfMemory, DiskFault, DepotFault, Damaged}
 use Rattle.ext_store_files.specs.LeftOvers.{most_left_overs}
+use Rattle.ext_store_files.specs.Copying.{IsMissing, IsReadStamp}
 use Rattle.ext_homes.specs.Brought.{is_brought}
 use Rattle.ext_homes.specs.Giving.{lists_kept, stored_by, trees_before}
 use Rattle.ext_homes.specs.Refused.{StopsAt}
@@ -31,19 +32,19 @@ use Rattle.ext_gen.specs.declared.errors.StoreErr.{StoreErr}
 use Rattle.ext_gen.specs.declared.errors.StoreErr.TheVariants as store_errors
 use Rattle.ext_gen.proofs.ForCallers.{opened_is_valid_for, stands_since_then, stands_since_wider}
 use Rattle.ext_cmd.specs.declared.refusal.Refusal.{Refusal}
-use Rattle.ext_intents.specs.Intents.{IsPlanned, past_seen}
+use Rattle.ext_intents.specs.Intents.{ArePasts, IsPlanned, MayBePast, marks, stays}
 use Rattle.ext_top.specs.Applying.{AppliesEnds, AppliesTold, ApplyCause, IsOfPreparing, IsPassed, refusal_from}
-use Rattle.ext_top.specs.Machine.{IsMismatch, IsNextState, IsNotThere, Outcome, Replaces, RefusesNext, gives, refuses, state_after, stored_of}
+use Rattle.ext_top.specs.Machine.{depot_of, IsMismatch, IsNextState, IsNotThere, Outcome, Replaces, RefusesNext, gives, refuses, state_after, stored_of}
 use Rattle.ext_top.specs.declared.applied.Applied.{Applied}
 use Rattle.ext_top.specs.declared.applied.Reply.TheVariants.{Text, Refused}
 use Rattle.ext_top.specs.declared.apply_err.ApplyErr.{ApplyErr}
 use Rattle.ext_top.specs.declared.apply_err.ApplyErr.TheVariants.{Fault, Unfinished}
 use Rattle.ext_top.proofs.ApplyingLemmas.{trees_alike}
 use Rattle.ext_top.proofs.PlacedLemmas.{host_alike, stops_alike}
-use Rattle.ext_top.proofs.StoredLemmas.{alike_stored, none_damaged, of_no_tree}
+use Rattle.ext_top.proofs.StoredLemmas.{alike_stored, depot_alike, none_damaged, of_no_tree}
 
 -- the plan is drawn from the host before
-pub planned_is_drawn : (from : Option Generation) (next : Host) → IsPlanned (host_before from) next → AreDrawnFrom (trees_before (host_before from)) (trees_of next)
+pub planned_is_drawn : (from : Option Generation) (next : Host) → IsPlanned (coming_number from) (host_before from) next → AreDrawnFrom (trees_before (host_before from)) (trees_of next)
 planned_is_drawn from next planned = subst (λ trees. AreDrawnFrom trees (trees_of next)) (trees_alike from) planned.drawn
 
 kept_brings_none : (n : ℕ) (body : Body) → IsKeptUpTo n body → is_brought body ≡ false
@@ -54,26 +55,81 @@ kept_brings_none n (Depot path) kept = absurd kept
 among_more : (a b : Entries HeldFile) (trees : List (Entries HeldFile)) (tree : Entries HeldFile) → Contains trees tree → Contains (a ∷ b ∷ trees) tree
 among_more a b trees tree (k, lt, is) = (suc (suc k), omega arith, is)
 
-of_past : (host : Host) (held : HeldFile) → IsFileOf (trees_of_pasts host.past) held → IsFileOf (trees_of host) held
-of_past host held file = record { tree = file.tree; among = among_more host.root host.lower (trees_of_pasts host.past) file.tree file.among; file = file.file }
+more_of : {X : Type 0} (x : X) (xs : List X) (y : X) → Contains xs y → Contains (x ∷ xs) y
+more_of x xs y (k, lt, is) = (suc k, omega arith, is)
 
-past_brings_none : (from : Option Generation) → IfSome from IsOpened → BringNone (trees_of_pasts (past_seen (host_before from)))
-past_brings_none None opened held file = absurd (of_no_tree held file)
-past_brings_none (Some g) opened held file = kept_brings_none g.number held.body ((opened_is_valid_for g opened).kept held (of_past g.host held file))
+root_among : (pasts : List Past) (past : Past) → Contains pasts past → Contains (trees_of_pasts pasts) past.root
+root_among [] past (k, lt, is) = absurd (omega arith)
+root_among (p ∷ pasts) past (zero, lt, is) = (zero, omega arith, ap (λ (x : Past). x.root) is)
+root_among (p ∷ pasts) past (suc k, lt, is) =
+    among_more p.root p.lower (trees_of_pasts pasts) past.root (root_among pasts past (k, omega arith, is))
 
-pub planned_brings_none : (from : Option Generation) (next : Host) → IfSome from IsOpened → IsPlanned (host_before from) next → BringNone (trees_of_pasts next.past)
-planned_brings_none from next opened planned = subst (λ past. BringNone (trees_of_pasts past)) (sym planned.past) (past_brings_none from opened)
+lower_among : (pasts : List Past) (past : Past) → Contains pasts past → Contains (trees_of_pasts pasts) past.lower
+lower_among [] past (k, lt, is) = absurd (omega arith)
+lower_among (p ∷ pasts) past (zero, lt, is) = (suc zero, omega arith, ap (λ (x : Past). x.lower) is)
+lower_among (p ∷ pasts) past (suc k, lt, is) =
+    among_more p.root p.lower (trees_of_pasts pasts) past.lower (lower_among pasts past (k, omega arith, is))
 
-all_before : (n : ℕ) (past : List Past) → AllByRecursion (λ p. (0 < p.generation) × (p.generation < n)) past → AllByRecursion (λ p. (0 < p.generation) × (p.generation < n + 1)) past
-all_before n [] all = tt
-all_before n (p ∷ past) all = let one = all.0.1 in ((all.0.0, omega arith), all_before n past all.1)
+-- a tree of past trees is one of some past
+abbrev OneOf : List Past → Entries HeldFile → Type 0
+OneOf pasts tree = (past : Past) × Contains pasts past × ((tree ≡ past.root) ⊎ (tree ≡ past.lower))
 
-past_is_before : (from : Option Generation) → IfSome from IsOpened → ArePastBefore (coming_number from) (past_seen (host_before from))
-past_is_before None opened = tt
-past_is_before (Some g) opened = all_before g.number g.host.past (opened_is_valid_for g opened).past
+one_of : (pasts : List Past) (tree : Entries HeldFile) → Contains (trees_of_pasts pasts) tree → OneOf pasts tree
+one_of [] tree (k, lt, is) = absurd (omega arith)
+one_of (p ∷ pasts) tree (zero, lt, is) = (p, (zero, omega arith, refl), inl (sym is))
+one_of (p ∷ pasts) tree (suc zero, lt, is) = (p, (zero, omega arith, refl), inr (sym is))
+one_of (p ∷ pasts) tree (suc (suc k), lt, is) =
+    let rest = one_of pasts tree (k, omega arith, is) in
+    (rest.0, more_of p pasts rest.0 rest.1, rest.2)
 
-pub planned_is_before : (from : Option Generation) (next : Host) → IfSome from IsOpened → IsPlanned (host_before from) next → ArePastBefore (coming_number from) next.past
-planned_is_before from next opened planned = subst (ArePastBefore (coming_number from)) (sym planned.past) (past_is_before from opened)
+-- the trees of what may be a past tree are the host's
+host_among : (coming : ℕ) (host : Host) (past : Past) (tree : Entries HeldFile) → MayBePast coming host past → (tree ≡ past.root) ⊎ (tree ≡ past.lower) → Contains (trees_of host) tree
+host_among coming host past tree (stays has) (inl is) =
+    among_more host.root host.lower (trees_of_pasts host.past) tree (subst (Contains (trees_of_pasts host.past)) (sym is) (root_among host.past past has))
+host_among coming host past tree (stays has) (inr is) =
+    among_more host.root host.lower (trees_of_pasts host.past) tree (subst (Contains (trees_of_pasts host.past)) (sym is) (lower_among host.past past has))
+host_among coming host past tree (marks number root lower) (inl is) = (zero, omega arith, sym (is ∙ root))
+host_among coming host past tree (marks number root lower) (inr is) = (suc zero, omega arith, sym (is ∙ lower))
+
+of_past : (coming : ℕ) (host : Host) (pasts : List Past) (held : HeldFile) → ArePasts coming (Some host) pasts → IsFileOf (trees_of_pasts pasts) held → IsFileOf (trees_of host) held
+of_past coming host pasts held are file =
+    let of = one_of pasts file.tree file.among in
+    record { tree = file.tree; among = host_among coming host of.0 file.tree (are of.0 of.1) of.2; file = file.file }
+
+-- what stays of the past brings no files
+past_brings_none : (from : Option Generation) (pasts : List Past) → IfSome from IsOpened → ArePasts (coming_number from) (host_before from) pasts → BringNone (trees_of_pasts pasts)
+past_brings_none None pasts opened none held file = absurd (of_no_tree held (subst (λ past. IsFileOf (trees_of_pasts past) held) none file))
+past_brings_none (Some g) pasts opened are held file =
+    kept_brings_none g.number held.body ((opened_is_valid_for g opened).kept held (of_past (g.number + 1) g.host pasts held are file))
+
+pub planned_brings_none : (from : Option Generation) (next : Host) → IfSome from IsOpened → IsPlanned (coming_number from) (host_before from) next → BringNone (trees_of_pasts next.past)
+planned_brings_none from next opened planned = past_brings_none from next.past opened planned.past
+
+at_contained : (P : Past → Type 0) (pasts : List Past) (past : Past) → AllByRecursion P pasts → Contains pasts past → P past
+at_contained P [] past all (k, lt, is) = absurd (omega arith)
+at_contained P (p ∷ pasts) past all (zero, lt, is) = subst P is all.0
+at_contained P (p ∷ pasts) past all (suc k, lt, is) = at_contained P pasts past all.1 (k, omega arith, is)
+
+all_contained : (P : Past → Type 0) (pasts : List Past) → ((past : Past) → Contains pasts past → P past) → AllByRecursion P pasts
+all_contained P [] each = tt
+all_contained P (p ∷ pasts) each = (each p (zero, omega arith, refl), all_contained P pasts (λ past has. each past (more_of p pasts past has)))
+
+-- and its generations come before the coming one
+one_before : (g : Generation) (past : Past) → IsOpened g → MayBePast (g.number + 1) g.host past → (0 < past.generation) × (past.generation < g.number + 1)
+one_before g past opened (stays has) =
+    let one = at_contained (λ p. (0 < p.generation) × (p.generation < g.number)) g.host.past past (opened_is_valid_for g opened).past has in
+    let less = one.1 in
+    (one.0, omega arith)
+one_before g past opened (marks number root lower) =
+    let some = opened.number.0 in
+    (omega arith, omega arith)
+
+past_is_before : (from : Option Generation) (pasts : List Past) → IfSome from IsOpened → ArePasts (coming_number from) (host_before from) pasts → ArePastBefore (coming_number from) pasts
+past_is_before None pasts opened none = subst (ArePastBefore 1) (sym none) tt
+past_is_before (Some g) pasts opened are = all_contained (λ p. (0 < p.generation) × (p.generation < g.number + 1)) pasts (λ past has. one_before g past opened (are past has))
+
+pub planned_is_before : (from : Option Generation) (next : Host) → IfSome from IsOpened → IsPlanned (coming_number from) (host_before from) next → ArePastBefore (coming_number from) next.past
+planned_is_before from next opened planned = past_is_before from next.past opened planned.past
 
 -- what is prepared may be switched to
 prepared_told : (from : Option Generation) (coming : Generation) (written : List (List ℕ)) (x y : Option Told) → BothTold (PreparesTold from coming written) x y → IfSome y (λ d. IsPrepared coming d.places)
@@ -95,13 +151,13 @@ one_passed P s u x outcome of is (inl before) = inl before
 one_passed P s u x outcome of is (inr after) = inr (outcome, of, after ∙ is)
 
 next_of : (s : State) (from : Option Generation) (next : Host) (d : Told) (old new : DiskState) (depot : DepotState) (coming : Generation) → generation_in s ≡ from → old.told ≡ Some d → Stands (now d.places) s
-    → (prepares : Prepares from next old new depot coming) → IsNextState s depot next (at coming (contents_after coming.number prepares.written s))
+    → (prepares : Prepares from next old new depot coming) → IsNextState s depot.contents next (at coming (contents_after coming.number prepares.written s))
 next_of s from next d old new depot coming is told stands prepares = record {
   coming = coming;
   number = prepares.number ∙ ap coming_number (sym is);
   text = prepares.text;
   written = prepares.written;
-  homes = host_alike (stored_by (host_before from) old) (stored_of s) depot depot (alike_stored s from d old depot is told stands) coming.number next coming.host prepares.written prepares.homes;
+  homes = host_alike (stored_by (host_before from) old) (stored_of s) depot (depot_of depot.contents) (alike_stored s from d old depot is told stands) coming.number next coming.host prepares.written prepares.homes;
   is = refl;
 }
 
@@ -112,14 +168,14 @@ switched_ends P s u coming reply (Err failed) e is of either = inr (gives u repl
 
 switched_told : (next : Host) (reply : List ℕ) (from : Option Generation) (coming : Generation) (depot : DepotState) (old mid : DiskState) (result : Result Generation Failed) (x y z : Option Told)
     → limit_of from next ≡ None → old.told ≡ x → (prepares : Prepares from next old mid depot coming) → BothTold (PreparesTold from coming prepares.written) x y → BothTold KeepsDurably x y
-    → BothTold IsLater y z → BothTold (CommitsTold result) y z → BothTold (AppliesTold (λ s. Replaces s depot next reply) from (switched coming reply result)) x z
+    → BothTold IsLater y z → BothTold (CommitsTold result) y z → BothTold (AppliesTold (λ s. Replaces s depot.contents next reply) from (switched coming reply result)) x z
 switched_told next reply from coming depot old mid result None None None few told prepares prepared kept later commits = tt
 switched_told next reply from coming depot old mid result None None (Some f) few told prepares prepared kept later commits = absurd later
 switched_told next reply from coming depot old mid result None (Some e) z few told prepares prepared kept later commits = absurd kept
 switched_told next reply from coming depot old mid result (Some d) None z few told prepares prepared kept later commits = absurd kept
 switched_told next reply from coming depot old mid result (Some d) (Some e) None few told prepares prepared kept later commits = absurd later
 switched_told next reply from coming depot old mid result (Some d) (Some e) (Some f) few told prepares prepared kept later commits = λ s is durably.
-    let P = Replaces s depot next reply in
+    let P = Replaces s depot.contents next reply in
     let u = at coming (contents_after coming.number prepares.written s) in
     let outcome = gives u reply in
     let of : P outcome = inl (u, ap (λ o. limit_of o next) is ∙ few, next_of s from next d old mid depot coming is told durably.stands prepares, refl) in
@@ -133,7 +189,7 @@ switched_told next reply from coming depot old mid result (Some d) (Some e) (Som
 
 pub switched_applies : (next : Host) (reply : List ℕ) (from : Option Generation) (coming : Generation) (depot : DepotState) (old mid new : DiskState) (result : Result Generation Failed)
     → limit_of from next ≡ None → Prepares from next old mid depot coming → BothTold KeepsDurably old.told mid.told
-    → BothTold IsLater mid.told new.told → BothTold (CommitsTold result) mid.told new.told → BothTold (AppliesTold (λ s. Replaces s depot next reply) from (switched coming reply result)) old.told new.told
+    → BothTold IsLater mid.told new.told → BothTold (CommitsTold result) mid.told new.told → BothTold (AppliesTold (λ s. Replaces s depot.contents next reply) from (switched coming reply result)) old.told new.told
 switched_applies next reply from coming depot old mid new result few prepares kept later commits =
     switched_told next reply from coming depot old mid result old.told mid.told new.told few refl prepares prepares.told kept later commits
 
@@ -143,16 +199,16 @@ unprepared from (Ok refusal) = Ok (record { opened = from; reply = Refused refus
 unprepared from (Err e) = Err e
 
 -- why a refusal is one of the machine's
-abbrev Refuted : State → DepotState → Host → Result Refusal ApplyErr → Type 0
-Refuted s depot next (Ok refusal) = RefusesNext s depot next refusal
-Refuted s depot next (Err (Fault DiskFault)) = Unit {0}
-Refuted s depot next (Err (Fault DepotFault)) = Unit {0}
-Refuted s depot next (Err (Fault (Damaged damage))) = ⊥
-Refuted s depot next (Err Unfinished) = Unit {0}
-Refuted s depot next (Err (Fault OutOfMemory)) = Unit {0}
+abbrev Refuted : State → Option Files → Host → Result Refusal ApplyErr → Type 0
+Refuted s files next (Ok refusal) = RefusesNext s files next refusal
+Refuted s files next (Err (Fault DiskFault)) = Unit {0}
+Refuted s files next (Err (Fault DepotFault)) = Unit {0}
+Refuted s files next (Err (Fault (Damaged damage))) = ⊥
+Refuted s files next (Err Unfinished) = Unit {0}
+Refuted s files next (Err (Fault OutOfMemory)) = Unit {0}
 
 refuted : (s : State) (from : Option Generation) (next : Host) (d : Told) (old new : DiskState) (depot after : DepotState) (error : StoreErr) → generation_in s ≡ from → old.told ≡ Some d → Stands (now d.places) s
-    → LimitSays {T = Generation} (limit_of from next) (Err error) → PrepareCause from next old new depot after error → Refuted s depot next (refusal_from error)
+    → LimitSays {T = Generation} (limit_of from next) (Err error) → PrepareCause from next old new depot after error → Refuted s depot.contents next (refusal_from error)
 refuted s from next d old new depot after (store_errors.Fault store_faults.OutOfMemory) is told stands limit cause = tt
 refuted s from next d old new depot after (store_errors.Fault store_faults.DiskFault) is told stands limit cause = tt
 refuted s from next d old new depot after (store_errors.Fault store_faults.DepotFault) is told stands limit cause = tt
@@ -160,23 +216,25 @@ refuted s from next d old new depot after (store_errors.Broken line) is told sta
 refuted s from next d old new depot after (store_errors.Fault (store_faults.Damaged damage)) is told stands limit cause =
     let trees : trees_before (host_before from) ≡ trees_before (host_before (generation_in s)) = ap (λ o. trees_before (host_before o)) (sym is) in
     none_damaged s d old told stands damage.listed damage.home damage.found (subst (λ ts. lists_kept ts damage.listed damage.home) trees cause.why.2.listed) cause.why.2.differs
-refuted s from next d old new depot after (store_errors.Mismatch path listed found) is told stands limit cause = (
-  ap (λ o. limit_of o next) is ∙ limit,
-  subst (λ n. StopsAt (stored_of s) depot n (next.root ++ next.lower) 0 (IsMismatch depot path listed found)) (ap coming_number (sym is))
-      (stops_alike (stored_by (host_before from) old) (stored_of s) depot depot (alike_stored s from d old depot is told stands) (coming_number from) (next.root ++ next.lower) _ (IsMismatch depot path listed found)
-      (λ held why. record { body = why.0; stamp = why.1; read = why.3 }) cause),
-)
-refuted s from next d old new depot after (store_errors.NotInDepot path) is told stands limit cause = (
-  ap (λ o. limit_of o next) is ∙ limit,
-  subst (λ n. StopsAt (stored_of s) depot n (next.root ++ next.lower) 0 (IsNotThere depot path)) (ap coming_number (sym is))
-      (stops_alike (stored_by (host_before from) old) (stored_of s) depot depot (alike_stored s from d old depot is told stands) (coming_number from) (next.root ++ next.lower) _ (IsNotThere depot path)
-      (λ held why. record { body = why.0; missing = why.2 }) cause),
-)
+refuted s from next d old new depot after (store_errors.Mismatch path listed found) is told stands limit cause =
+    let here = depot_of depot.contents in (
+      ap (λ o. limit_of o next) is ∙ limit,
+      subst (λ n. StopsAt (stored_of s) here n (next.root ++ next.lower) 0 (IsMismatch here path listed found)) (ap coming_number (sym is))
+          (stops_alike (stored_by (host_before from) old) (stored_of s) depot here (alike_stored s from d old depot is told stands) (coming_number from) (next.root ++ next.lower) _ (IsMismatch here path listed found)
+          (λ held why. record { body = why.0; stamp = why.1; read = subst (λ t. IsReadStamp t listed found) (depot_alike depot here refl held.body) why.3 }) cause),
+    )
+refuted s from next d old new depot after (store_errors.NotInDepot path) is told stands limit cause =
+    let here = depot_of depot.contents in (
+      ap (λ o. limit_of o next) is ∙ limit,
+      subst (λ n. StopsAt (stored_of s) here n (next.root ++ next.lower) 0 (IsNotThere here path)) (ap coming_number (sym is))
+          (stops_alike (stored_by (host_before from) old) (stored_of s) depot here (alike_stored s from d old depot is told stands) (coming_number from) (next.root ++ next.lower) _ (IsNotThere here path)
+          (λ held why. record { body = why.0; missing = subst IsMissing (depot_alike depot here refl held.body) why.2 }) cause),
+    )
 refuted s from next d old new depot after store_errors.Unfinished is told stands limit cause = tt
 refuted s from next d old new depot after (store_errors.Limit which) is told stands limit cause = ap (λ o. limit_of o next) is ∙ limit
 
-unprepared_ends : (s : State) (from : Option Generation) (next : Host) (depot : DepotState) (reply : List ℕ) (result : Result Refusal ApplyErr) (e : Places) → generation_in s ≡ from → Refuted s depot next result → IsDurably s e
-    → AppliesEnds (Replaces s depot next reply) s (unprepared from result) e
+unprepared_ends : (s : State) (from : Option Generation) (next : Host) (depot : DepotState) (reply : List ℕ) (result : Result Refusal ApplyErr) (e : Places) → generation_in s ≡ from → Refuted s depot.contents next result → IsDurably s e
+    → AppliesEnds (Replaces s depot.contents next reply) s (unprepared from result) e
 unprepared_ends s from next depot reply (Ok refusal) e is why durably = (refuses refusal, inr (refusal, why, refl), record { opened = sym is; reply = refl }, durably)
 unprepared_ends s from next depot reply (Err (Fault DiskFault)) e is why durably = inl durably
 unprepared_ends s from next depot reply (Err (Fault DepotFault)) e is why durably = durably
@@ -186,12 +244,12 @@ unprepared_ends s from next depot reply (Err (Fault OutOfMemory)) e is why durab
 
 unprepared_told : (next : Host) (reply : List ℕ) (from : Option Generation) (depot after : DepotState) (old new : DiskState) (error : StoreErr) (x y : Option Told) → old.told ≡ x
     → LimitSays {T = Generation} (limit_of from next) (Err error) → PrepareCause from next old new depot after error → BothTold KeepsDurably x y
-    → BothTold (AppliesTold (λ s. Replaces s depot next reply) from (unprepared from (refusal_from error))) x y
+    → BothTold (AppliesTold (λ s. Replaces s depot.contents next reply) from (unprepared from (refusal_from error))) x y
 unprepared_told next reply from depot after old new error None None told limit cause kept = tt
 unprepared_told next reply from depot after old new error None (Some e) told limit cause kept = absurd kept
 unprepared_told next reply from depot after old new error (Some d) None told limit cause kept = absurd kept
 unprepared_told next reply from depot after old new error (Some d) (Some e) told limit cause kept = λ s is durably.
-    let P = Replaces s depot next reply in
+    let P = Replaces s depot.contents next reply in
     let still = kept s durably in
     record {
       ends = unprepared_ends s from next depot reply (refusal_from error) e.places is (refuted s from next d old new depot after error is told durably.stands limit cause) still.0;
@@ -200,7 +258,7 @@ unprepared_told next reply from depot after old new error (Some d) (Some e) told
 
 pub unprepared_applies : (next : Host) (reply : List ℕ) (from : Option Generation) (depot after : DepotState) (old new : DiskState) (error : StoreErr)
     → LimitSays {T = Generation} (limit_of from next) (Err error) → PrepareCause from next old new depot after error → BothTold KeepsDurably old.told new.told
-    → BothTold (AppliesTold (λ s. Replaces s depot next reply) from (unprepared from (refusal_from error))) old.told new.told
+    → BothTold (AppliesTold (λ s. Replaces s depot.contents next reply) from (unprepared from (refusal_from error))) old.told new.told
 unprepared_applies next reply from depot after old new error limit cause kept = unprepared_told next reply from depot after old new error old.told new.told refl limit cause kept
 
 -- an error of a preparation

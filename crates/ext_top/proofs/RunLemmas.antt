@@ -1,8 +1,9 @@
 -- A run over a store: it is opened, and then its line runs.
 use Rattle.std.proofs.Common.{◌≡◌, ℕ, ◌≤◌, Bool, false, List, [], ◌∷◌, ◌⊎◌, inl, inr, Option, Some, None, is_some, IfSome, Result, Ok, Err, refl, sym, ap, ◌∙◌, subst, arith, append-nil}
+use Rattle.std.specs.Prelude.{IfErr}
 use Rattle.ext_text.specs.Causes.{Rose}
 use Rattle.ext_io.specs.SinkState.{SinkState}
-use Rattle.ext_depot.specs.Depot.{DepotState}
+use Rattle.ext_depot.specs.Depot.{DepotState, Files}
 use Rattle.ext_disk.specs.Disk.{Places, Told, DiskState, BothTold, now}
 use Rattle.ext_disk.specs.Since.{IsLater}
 use Rattle.ext_host.specs.Shelf.{IsFound}
@@ -26,7 +27,7 @@ use Rattle.ext_top.specs.Applying.{IsDamage, PointsAs}
 use Rattle.ext_top.specs.Exits.{IsOnTheWay, Line, Standing, StandsAs, between, durable}
 use Rattle.ext_top.specs.Lines.{LineCause, LineRuns, LineTold}
 use Rattle.ext_top.specs.Machine.{reply_of, state_after}
-use Rattle.ext_top.specs.Running.{IsClosed, HasTooManyLeftOversNow, IsDamagedNow, IsOfOpening, OpenedCause, RunsFrom, RunsSound, RunsTold, StoreCause, StoreSide, status_of, status_of_closed, status_of_stop, store_side}
+use Rattle.ext_top.specs.Running.{IsClosed, HasTooManyLeftOversNow, IsDamagedNow, IsOfOpening, OpenedCause, result_of_line, RunsFrom, RunsSound, RunsTold, StoreCause, StoreSide, status_of, status_of_closed, status_of_stop, store_side}
 use Rattle.ext_top.specs.declared.bad_store.BadStore.TheVariants as bad
 use Rattle.ext_top.specs.declared.lines.Written.{Written}
 use Rattle.ext_top.specs.declared.status.Status.{Status}
@@ -34,13 +35,8 @@ use Rattle.ext_top.specs.declared.status.Status.TheVariants.{Done, Refused, Usag
 use Rattle.ext_top.specs.declared.stop.Stop.{Stop}
 use Rattle.ext_top.specs.declared.stop.Stop.TheVariants as stops
 
--- the result of lines, of which the last one is done or stopped so
-abbrev pub last_of : Result Written Stop → Result (Option Refusal) Stop
-last_of (Ok written) = Ok written.refusal
-last_of (Err stop) = Err stop
-
-line_runs : (line : Line) (depot : DepotState) (k l : SinkState) (result : Result Written Stop) (s : State) (d e : Told) → LineRuns line s depot k l result d e → RunsFrom false (line ∷ []) depot k l (status_of false (last_of result)) s d e
-line_runs line depot k l (Ok written) s d e runs =
+line_runs : (line : Line) (files : Option Files) (k l : SinkState) (result : Result Written Stop) (s : State) (d e : Told) → LineRuns line s files k l result d e → RunsFrom false (line ∷ []) files k l (status_of false (result_of_line result)) s d e
+line_runs line files k l (Ok written) s d e runs =
     let done = runs.ends in
     record {
       result = Ok written.refusal;
@@ -52,7 +48,7 @@ line_runs line depot k l (Ok written) s d e runs =
       ends = inr (done.outcome, [], done.comes, sym (append-nil (reply_of done.outcome)), (ap Ok done.refusal, refl, refl));
       since = runs.since;
     }
-line_runs line depot k l (Err stop) s d e runs =
+line_runs line files k l (Err stop) s d e runs =
     let stops = runs.ends in
     record {
       result = Err stop;
@@ -65,19 +61,19 @@ line_runs line depot k l (Err stop) s d e runs =
       since = runs.since;
     }
 
-pub line_is_run : (line : Line) (opened : Option Generation) (depot : DepotState) (k l : SinkState) (result : Result Written Stop) (x y : Option Told) → BothTold (LineTold line opened depot k l result) x y
-    → BothTold (RunsTold false (line ∷ []) opened depot k l (status_of false (last_of result))) x y
-line_is_run line opened depot k l result None None runs = tt
-line_is_run line opened depot k l result None (Some e) runs = absurd runs
-line_is_run line opened depot k l result (Some d) None runs = absurd runs
-line_is_run line opened depot k l result (Some d) (Some e) runs = λ s is durably. line_runs line depot k l result s d e (runs s is durably)
+pub line_is_run : (line : Line) (opened : Option Generation) (files : Option Files) (k l : SinkState) (result : Result Written Stop) (x y : Option Told) → BothTold (LineTold line opened files k l result) x y
+    → BothTold (RunsTold false (line ∷ []) opened files k l (status_of false (result_of_line result))) x y
+line_is_run line opened files k l result None None runs = tt
+line_is_run line opened files k l result None (Some e) runs = absurd runs
+line_is_run line opened files k l result (Some d) None runs = absurd runs
+line_is_run line opened files k l result (Some d) (Some e) runs = λ s is durably. line_runs line files k l result s d e (runs s is durably)
 
 -- a line that was done or refused blames nothing
-pub no_cause : (opened : Option Generation) (old new : StoreSide) (refusal : Option Refusal) → OpenedCause opened old new (status_of_refusal refusal)
+no_cause : (opened : Option Generation) (old new : StoreSide) (refusal : Option Refusal) → OpenedCause opened old new (status_of_refusal refusal)
 no_cause opened old new None = tt
 no_cause opened old new (Some refusal) = tt
 
-pub stop_cause : (opened : Option Generation) (old new : StoreSide) (stop : Stop) → LineCause opened old.sink new.sink old.disk new.disk old.depot new.depot stop → OpenedCause opened old new (status_of_stop stop)
+stop_cause : (opened : Option Generation) (old new : StoreSide) (stop : Stop) → LineCause opened old.sink new.sink old.disk new.disk old.depot new.depot stop → OpenedCause opened old new (status_of_stop stop)
 stop_cause opened old new stops.WriteFault cause = cause
 stop_cause opened old new stops.DiskFault cause = cause
 stop_cause opened old new stops.DepotFault cause = cause
@@ -85,6 +81,10 @@ stop_cause opened old new stops.OutOfMemory cause = tt
 stop_cause opened old new (stops.BadStore (bad.Broken line)) cause = absurd cause
 stop_cause opened old new (stops.BadStore (bad.Damaged damage)) cause = cause
 stop_cause opened old new stops.Unfinished cause = cause
+
+pub line_cause : (opened : Option Generation) (old new : StoreSide) (result : Result Written Stop) → IfErr result (LineCause opened old.sink new.sink old.disk new.disk old.depot new.depot) → OpenedCause opened old new (status_of false (result_of_line result))
+line_cause opened old new (Ok written) says = no_cause opened old new written.refusal
+line_cause opened old new (Err stop) cause = stop_cause opened old new stop cause
 
 same_now : (d e : Told) → KeepsNow d e → now e.places ≡ now d.places
 same_now d e keeps = λ i p. keeps.now p refl i
@@ -102,12 +102,12 @@ standing_is_sound : (standing : Standing) (d : Places) → StandsAs standing d �
 standing_is_sound (durable s) d durably = durably_is_sound s d durably
 standing_is_sound (between s u) d either = either_is_sound s u d either
 
-runs_opened : (lines : List Line) (depot : DepotState) (k l : SinkState) (status : Status) (opened : Option Generation) (d e f : Told) → IsLater e f → OpensTold (Ok opened) d e → RunsTold false lines opened depot k l status e f
-    → RunsSound false lines depot k l status d f
-runs_opened lines depot k l status opened d e f later opens runs = λ sound.
+runs_opened : (lines : List Line) (files : Option Files) (k l : SinkState) (status : Status) (opened : Option Generation) (d e f : Told) → IsLater e f → OpensTold (Ok opened) d e → RunsTold false lines opened files k l status e f
+    → RunsSound false lines files k l status d f
+runs_opened lines files k l status opened d e f later opens runs = λ sound.
     let (s, is, stood, durably) = (opens sound).ends in
     let from = runs s is durably in
-    let P : State → Type 0 = λ x. IsMember d.places x ⊎ IsOnTheWay s depot lines x in (
+    let P : State → Type 0 = λ x. IsMember d.places x ⊎ IsOnTheWay s files lines x in (
       standing_is_sound from.standing f.places from.stands,
       inl (record {
         state = s;
@@ -121,18 +121,18 @@ runs_opened lines depot k l status opened d e f later opens runs = λ sound.
         ends = from.ends;
         since = stands_since_then P e f d.clock later
             (stands_since_wider (IsMember d.places) P e d.clock (λ x member. inl member) (opens sound).since)
-            (stands_since_wider (IsOnTheWay s depot lines) P f e.clock (λ x on. inr on) from.since);
+            (stands_since_wider (IsOnTheWay s files lines) P f e.clock (λ x on. inr on) from.since);
       }),
     )
 
-pub opened_runs : (lines : List Line) (depot : DepotState) (k l : SinkState) (status : Status) (opened : Option Generation) (x y z : Option Told) → BothTold IsLater y z → BothTold (OpensTold (Ok opened)) x y → BothTold (RunsTold false lines opened depot k l status) y z
-    → BothTold (RunsSound false lines depot k l status) x z
-opened_runs lines depot k l status opened None None None later opens runs = tt
-opened_runs lines depot k l status opened None None (Some f) later opens runs = absurd later
-opened_runs lines depot k l status opened None (Some e) z later opens runs = absurd opens
-opened_runs lines depot k l status opened (Some d) None z later opens runs = absurd opens
-opened_runs lines depot k l status opened (Some d) (Some e) None later opens runs = absurd later
-opened_runs lines depot k l status opened (Some d) (Some e) (Some f) later opens runs = runs_opened lines depot k l status opened d e f later opens runs
+pub opened_runs : (lines : List Line) (files : Option Files) (k l : SinkState) (status : Status) (opened : Option Generation) (x y z : Option Told) → BothTold IsLater y z → BothTold (OpensTold (Ok opened)) x y → BothTold (RunsTold false lines opened files k l status) y z
+    → BothTold (RunsSound false lines files k l status) x z
+opened_runs lines files k l status opened None None None later opens runs = tt
+opened_runs lines files k l status opened None None (Some f) later opens runs = absurd later
+opened_runs lines files k l status opened None (Some e) z later opens runs = absurd opens
+opened_runs lines files k l status opened (Some d) None z later opens runs = absurd opens
+opened_runs lines files k l status opened (Some d) (Some e) None later opens runs = absurd later
+opened_runs lines files k l status opened (Some d) (Some e) (Some f) later opens runs = runs_opened lines files k l status opened d e f later opens runs
 
 rose_from : (a b c : ℕ) → a ≤ b → Rose b c → Rose a c
 rose_from a b c le (inl more) = inl (omega arith)
@@ -214,11 +214,11 @@ closed_is_sound : (d e : Told) → IsSound d.places → ((e ≡ d) ⊎ ((s : Sta
 closed_is_sound d e sound (inl same) = subst (λ (t : Told). IsSound t.places) (sym same) sound
 closed_is_sound d e sound (inr (s, stood, durably)) = durably_is_sound s e.places durably
 
-pub closed_runs : (lines : List Line) (depot : DepotState) (k : SinkState) (old new : ℕ) (error : StoreErr) (x y : Option Told) → IfSome x (λ d. OpenSays (Err error) (now d.places)) → OpenCause old new error → BothTold (OpensTold (Err error)) x y
-    → BothTold (RunsSound false lines depot k k (status_of_closed error)) x y
-closed_runs lines depot k old new error None None says cause opens = tt
-closed_runs lines depot k old new error None (Some e) says cause opens = absurd opens
-closed_runs lines depot k old new error (Some d) None says cause opens = absurd opens
-closed_runs lines depot k old new error (Some d) (Some e) says cause opens = λ sound.
+pub closed_runs : (lines : List Line) (files : Option Files) (k : SinkState) (old new : ℕ) (error : StoreErr) (x y : Option Told) → IfSome x (λ d. OpenSays (Err error) (now d.places)) → OpenCause old new error → BothTold (OpensTold (Err error)) x y
+    → BothTold (RunsSound false lines files k k (status_of_closed error)) x y
+closed_runs lines files k old new error None None says cause opens = tt
+closed_runs lines files k old new error None (Some e) says cause opens = absurd opens
+closed_runs lines files k old new error (Some d) None says cause opens = absurd opens
+closed_runs lines files k old new error (Some d) (Some e) says cause opens = λ sound.
     let of = opens sound in
     (closed_is_sound d e sound of.ends, inr (record { closed = closed_status d old new error sound says cause; nothing = refl; ends = of.ends; since = of.since }))

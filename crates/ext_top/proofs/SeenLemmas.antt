@@ -1,7 +1,7 @@
 -- What a command sees of a store: what the disk tells of the files of its host is what a state has for which it stands.
-use Rattle.std.proofs.Common.{◌≡◌, ℕ, zero, suc, ◌==◌, ◌≤◌, true, List, inl, inr, Option, Some, None, IfSome, Result, Err, refl, sym, ap, subst, arith}
+use Rattle.std.proofs.Common.{◌≡◌, ℕ, zero, suc, ◌+◌, ◌==◌, ◌≤◌, true, List, inl, inr, Option, Some, None, IfSome, Result, Err, refl, sym, ap, subst, arith}
 use Rattle.std.proofs.lemmas.Bool.{false≢true}
-use Rattle.ext_depot.specs.Depot.{DepotState}
+use Rattle.ext_depot.specs.Depot.{DepotState, Files}
 use Rattle.ext_disk.specs.Disk.{BothTold, DiskState, IsDisk, Told, now}
 use Rattle.ext_disk.specs.Since.{Rests}
 use Rattle.ext_disk.proofs.ForCallers.{rests_then}
@@ -42,7 +42,7 @@ use Rattle.ext_top.specs.declared.applied.Reply.{Reply}
 use Rattle.ext_top.specs.declared.applied.Reply.TheVariants.{Text, File, Refused}
 use Rattle.ext_top.specs.declared.apply_err.ApplyErr.{ApplyErr}
 use Rattle.ext_top.specs.declared.apply_err.ApplyErr.TheVariants.{Fault, Unfinished}
-use Rattle.ext_top.proofs.ApplyingLemmas.{comes_alike, ends_wider, passed_wider, rested_told}
+use Rattle.ext_top.proofs.ApplyingLemmas.{ends_wider, passed_wider, rested_told}
 use Rattle.ext_top.proofs.CheckLemmas.{kept_is_listed}
 use Rattle.ext_top.proofs.ReadingLemmas.{file_cause, no_damage}
 use Rattle.ext_top.proofs.StoredLemmas.{told_home}
@@ -60,49 +60,49 @@ told_alike : (g : Generation) (contents : Home → List ℕ) (d : Told) (disk : 
 told_alike g contents d disk opened told stands = λ held file. body_alike g contents d disk opened told stands held held.body refl file
 
 -- so what is wanted of what is seen on the disk is wanted of the state
-wants_of_state : (g : Generation) (d : Told) (disk : DiskState) (depot : DepotState) (command : Command) (intent : Intent) → IsOpened g → disk.told ≡ Some d → Wants (seen_on (Some g) disk) depot command intent
-    → (s : State) → generation_in s ≡ Some g → IsDurably s d.places → Wants (seen_in s) depot command intent
-wants_of_state g d disk depot command intent opened told wants none is durably = absurd (let wrong : None ≡ Some g = is in cc)
-wants_of_state g d disk depot command intent opened told wants (at h contents) is durably =
+wants_of_state : (g : Generation) (d : Told) (disk : DiskState) (files : Option Files) (command : Command) (intent : Intent) → IsOpened g → disk.told ≡ Some d → Wants (seen_on (Some g) disk) files command intent
+    → (s : State) → generation_in s ≡ Some g → IsDurably s d.places → Wants (seen_in s) files command intent
+wants_of_state g d disk files command intent opened told wants none is durably = absurd (let wrong : None ≡ Some g = is in cc)
+wants_of_state g d disk files command intent opened told wants (at h contents) is durably =
     let same : g ≡ h = let one : Some h ≡ Some g = is in cc in
     let here = subst IsOpened same opened in
-    let seen = subst (λ x. Wants (seen_on (Some x) disk) depot command intent) same wants in
-    wants_alike h.host (λ held. body_told disk held.body) (λ held. stored (bytes_at (at h contents) held.body)) (told_alike h contents d disk here told durably.stands) (h.text == 2) depot command intent seen
+    let seen = subst (λ x. Wants (seen_on (Some x) disk) files command intent) same wants in
+    wants_alike h.host (λ held. body_told disk held.body) (λ held. stored (bytes_at (at h contents) held.body)) (told_alike h contents d disk here told durably.stands) (h.text == 2) files command intent seen
 
-first_of_state : (d : Told) (depot : DepotState) (command : Command) (intent : Intent) → WantsFirst command intent → (s : State) → generation_in s ≡ None → IsDurably s d.places → Wants (seen_in s) depot command intent
-first_of_state d depot command intent wants none is durably = wants
-first_of_state d depot command intent wants (at h contents) is durably = absurd (let wrong : Some h ≡ None = is in cc)
+first_of_state : (d : Told) (files : Option Files) (command : Command) (intent : Intent) → WantsFirst command intent → (s : State) → generation_in s ≡ None → IsDurably s d.places → Wants (seen_in s) files command intent
+first_of_state d files command intent wants none is durably = wants
+first_of_state d files command intent wants (at h contents) is durably = absurd (let wrong : Some h ≡ None = is in cc)
 
 -- of each state for which the disk durably stands
-abbrev pub WantsHere : Option Generation → DepotState → Command → Intent → Told → Type 0
-WantsHere from depot command intent d = (s : State) → generation_in s ≡ from → IsDurably s d.places → Wants (seen_in s) depot command intent
+abbrev pub WantsHere : Option Generation → Option Files → Command → Intent → Told → Type 0
+WantsHere from files command intent d = (s : State) → generation_in s ≡ from → IsDurably s d.places → Wants (seen_in s) files command intent
 
-wants_here : (from : Option Generation) (disk : DiskState) (depot : DepotState) (command : Command) (intent : Intent) (d : Told) → IfSome from IsOpened → disk.told ≡ Some d → Wants (seen_on from disk) depot command intent → WantsHere from depot command intent d
-wants_here None disk depot command intent d opened told wants = first_of_state d depot command intent wants
-wants_here (Some g) disk depot command intent d opened told wants = wants_of_state g d disk depot command intent opened told wants
+wants_here : (from : Option Generation) (disk : DiskState) (files : Option Files) (command : Command) (intent : Intent) (d : Told) → IfSome from IsOpened → disk.told ≡ Some d → Wants (seen_on from disk) files command intent → WantsHere from files command intent d
+wants_here None disk files command intent d opened told wants = first_of_state d files command intent wants
+wants_here (Some g) disk files command intent d opened told wants = wants_of_state g d disk files command intent opened told wants
 
 -- of either, and so of each state for which a disk durably stands that tells
-pub wants_of_all : (from : Option Generation) (disk : DiskState) (depot : DepotState) (command : Command) (intent : Intent) → IfSome from IsOpened → Wants (seen_on from disk) depot command intent → IfSome disk.told (WantsHere from depot command intent)
-wants_of_all from disk depot command intent opened wants =
-    elim disk.told as (λ o. disk.told ≡ o → IfSome o (WantsHere from depot command intent)) [ None ↦ λ _. tt | Some d ↦ λ told. wants_here from disk depot command intent d opened told wants ] refl
+pub wants_of_all : (from : Option Generation) (disk : DiskState) (files : Option Files) (command : Command) (intent : Intent) → IfSome from IsOpened → Wants (seen_on from disk) files command intent → IfSome disk.told (WantsHere from files command intent)
+wants_of_all from disk files command intent opened wants =
+    elim disk.told as (λ o. disk.told ≡ o → IfSome o (WantsHere from files command intent)) [ None ↦ λ _. tt | Some d ↦ λ told. wants_here from disk files command intent d opened told wants ] refl
 
-step_of : (from : Option Generation) (depot later : DepotState) (command : Command) (intent : Intent) (result : Result Applied ApplyErr) (d e : Told) → later.contents ≡ depot.contents → WantsHere from depot command intent d
-    → AppliesTold (λ s. Comes s later intent) from result d e → AppliesTold (λ s. Step s depot command) from result d e
-step_of from depot later command intent result d e same wants applies = λ s is durably.
+step_of : (from : Option Generation) (files later : Option Files) (command : Command) (intent : Intent) (result : Result Applied ApplyErr) (d e : Told) → later ≡ files → WantsHere from files command intent d
+    → AppliesTold (λ s. Comes s later intent) from result d e → AppliesTold (λ s. Step s files command) from result d e
+step_of from files later command intent result d e same wants applies = λ s is durably.
     let of = applies s is durably in
-    let wider : (outcome : Outcome) → Comes s later intent outcome → Step s depot command outcome
-    = λ outcome comes. record { intent = intent; wants = wants s is durably; comes = comes_alike s depot later intent outcome same comes } in
+    let wider : (outcome : Outcome) → Comes s later intent outcome → Step s files command outcome
+    = λ outcome comes. record { intent = intent; wants = wants s is durably; comes = subst (λ has. Comes s has intent outcome) same comes } in
     record {
-      ends = ends_wider (Comes s later intent) (Step s depot command) s result e.places wider of.ends;
-      since = stands_since_wider (IsPassed (Comes s later intent) s) (IsPassed (Step s depot command) s) e d.clock (λ x. passed_wider (Comes s later intent) (Step s depot command) s x wider) of.since;
+      ends = ends_wider (Comes s later intent) (Step s files command) s result e.places wider of.ends;
+      since = stands_since_wider (IsPassed (Comes s later intent) s) (IsPassed (Step s files command) s) e d.clock (λ x. passed_wider (Comes s later intent) (Step s files command) s x wider) of.since;
     }
 
-pub steps_told : (from : Option Generation) (depot later : DepotState) (command : Command) (intent : Intent) (result : Result Applied ApplyErr) (x y : Option Told) → later.contents ≡ depot.contents → IfSome x (WantsHere from depot command intent)
-    → BothTold (AppliesTold (λ s. Comes s later intent) from result) x y → BothTold (AppliesTold (λ s. Step s depot command) from result) x y
-steps_told from depot later command intent result None None same wants applies = tt
-steps_told from depot later command intent result None (Some e) same wants applies = absurd applies
-steps_told from depot later command intent result (Some d) None same wants applies = absurd applies
-steps_told from depot later command intent result (Some d) (Some e) same wants applies = step_of from depot later command intent result d e same wants applies
+pub steps_told : (from : Option Generation) (files later : Option Files) (command : Command) (intent : Intent) (result : Result Applied ApplyErr) (x y : Option Told) → later ≡ files → IfSome x (WantsHere from files command intent)
+    → BothTold (AppliesTold (λ s. Comes s later intent) from result) x y → BothTold (AppliesTold (λ s. Step s files command) from result) x y
+steps_told from files later command intent result None None same wants applies = tt
+steps_told from files later command intent result None (Some e) same wants applies = absurd applies
+steps_told from files later command intent result (Some d) None same wants applies = absurd applies
+steps_told from files later command intent result (Some d) (Some e) same wants applies = step_of from files later command intent result d e same wants applies
 
 see_ends : (P : Outcome → Type 0) (from : Option Generation) (old new : DiskState) (before after : DepotState) (error : ApplyErr) (s : State) (d : Told) → generation_in s ≡ from → old.told ≡ Some d → IsDurably s d.places
     → SeeCause from old new before after error → AppliesEnds P s (Err error) d.places
@@ -136,12 +136,12 @@ shelf_cause old new told held shelf_errors.OutOfMemory fault = absurd fault
 shelf_cause old new told held shelf_errors.Fault fault = fault
 shelf_cause old new told held (shelf_errors.Damaged damage) fault = fault
 
-pub step_cause : (g : Generation) (old new : DiskState) (before after : DepotState) (error : PlanErr) → StepCause g.host (λ held. body_told old held.body) old.faults new.faults before.faults after.faults error
+pub step_cause : (IsFile : HeldFile → Type 0) (g : Generation) (old new : DiskState) (before after : DepotState) (error : PlanErr) → StepCause IsFile g.host (λ held. body_told old held.body) old.faults new.faults before.faults after.faults error
     → SeeCause (Some g) old new before after (of_plan error)
-step_cause g old new before after plan_errors.DepotFault cause = cause
-step_cause g old new before after (plan_errors.Shelf e) cause =
+step_cause IsFile g old new before after plan_errors.DepotFault cause = cause
+step_cause IsFile g old new before after (plan_errors.Shelf e) cause =
     rest_see (Some g) old new before after (apply_err_of_shelf e) (file_cause (Some g) old new cause.held e cause.file (shelf_cause old.faults new.faults (body_told old cause.held.body) cause.held e cause.cause))
-step_cause g old new before after plan_errors.OutOfMemory cause = tt
+step_cause IsFile g old new before after plan_errors.OutOfMemory cause = tt
 
 body_same : (old mid : DiskState) → mid.told ≡ old.told → (body : Body) → body_told mid body ≡ body_told old body
 body_same old mid same (Here bytes) = refl
@@ -182,10 +182,10 @@ opened_serves g host same opened =
     })
 
 -- what is wanted of its host is what is wanted of what is seen, and fit for it
-pub step_wants : (g : Generation) (disk : DiskState) (depot : DepotState) (command : Command) (intent : Intent) (host : Host) (text : ℕ) → host ≡ g.host → text ≡ g.text
-    → WantsOf (record { host = host; newest = text == 2; told = λ held. body_told disk held.body }) depot command intent → Wants (seen_on (Some g) disk) depot command intent
-step_wants g disk depot command intent host text same number wants = subst (λ h. WantsOf (record { host = h; newest = g.text == 2; told = λ held. body_told disk held.body }) depot command intent) same
-    (subst (λ n. WantsOf (record { host = host; newest = n == 2; told = λ held. body_told disk held.body }) depot command intent) number wants)
+pub step_wants : (g : Generation) (disk : DiskState) (files : Option Files) (command : Command) (intent : Intent) (host : Host) (text : ℕ) → host ≡ g.host → text ≡ g.text
+    → WantsOf (record { host = host; newest = text == 2; told = λ held. body_told disk held.body }) files command intent → Wants (seen_on (Some g) disk) files command intent
+step_wants g disk files command intent host text same number wants = subst (λ h. WantsOf (record { host = h; newest = g.text == 2; told = λ held. body_told disk held.body }) files command intent) same
+    (subst (λ n. WantsOf (record { host = host; newest = n == 2; told = λ held. body_told disk held.body }) files command intent) number wants)
 
-pub step_fits : (g : Generation) (disk : DiskState) (depot : DepotState) (command : Command) (intent : Intent) → IsOpened g → Wants (seen_on (Some g) disk) depot command intent → IsFit (Some g.host) intent
-step_fits g disk depot command intent opened wants = wants_fit (record { host = g.host; newest = g.text == 2; told = λ held. body_told disk held.body }) depot command intent (opened_is_valid g opened) wants
+pub step_fits : (g : Generation) (disk : DiskState) (files : Option Files) (command : Command) (intent : Intent) → IsOpened g → Wants (seen_on (Some g) disk) files command intent → IsFit (g.number + 1) (Some g.host) intent
+step_fits g disk files command intent opened wants = wants_fit (g.number + 1) (record { host = g.host; newest = g.text == 2; told = λ held. body_told disk held.body }) files command intent (opened_is_valid g opened) wants

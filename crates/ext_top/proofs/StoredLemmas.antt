@@ -20,7 +20,7 @@ use Rattle.ext_homes.specs.Placed.{brought_told}
 use Rattle.ext_gen.specs.Opened.{Generation}
 use Rattle.ext_gen.specs.Preparing.{contents_of, host_before}
 use Rattle.ext_gen.specs.Store.{State, none, at, Stands, generation_in}
-use Rattle.ext_top.specs.Machine.{stored_of, trees_in}
+use Rattle.ext_top.specs.Machine.{depot_of, stored_of, trees_in}
 use Rattle.ext_top.proofs.PlacedLemmas.{Alike}
 
 -- no trees have no file
@@ -49,26 +49,17 @@ depot_alike d e same (Here bytes) = refl
 depot_alike d e same (Kept home) = refl
 depot_alike d e same (Depot path) = ap (λ files. contents_told files path) same
 
--- the store as its disk tells it, and as the state has it
+-- the store as its disk tells it, and as the state has it, with the files of the depot
 pub alike_stored : (s : State) (from : Option Generation) (d : Told) (disk : DiskState) (depot : DepotState) → generation_in s ≡ from → disk.told ≡ Some d → Stands (now d.places) s
-    → Alike (stored_by (host_before from) disk) (stored_of s) depot depot
+    → Alike (stored_by (host_before from) disk) (stored_of s) depot (depot_of depot.contents)
 alike_stored s from d disk depot is told stands =
     let trees : trees_before (host_before from) ≡ trees_in s = ap (λ o. trees_before (host_before o)) (sym is) in
     record {
       lists = λ stamp home listed. subst (λ ts. lists_kept ts stamp home) trees listed;
       back = λ stamp home listed. subst (λ ts. lists_kept ts stamp home) (sym trees) listed;
       told = λ stamp home listed. told_home s d disk told stands stamp home listed;
-      brought = λ body. refl;
+      brought = depot_alike (depot_of depot.contents) depot refl;
     }
-
--- the same store, with a depot of the same files
-pub alike_depot : (s : State) (d e : DepotState) → e.contents ≡ d.contents → Alike (stored_of s) (stored_of s) e d
-alike_depot s d e same = record {
-  lists = λ stamp home listed. listed;
-  back = λ stamp home listed. listed;
-  told = λ stamp home listed. refl;
-  brought = λ body. depot_alike d e same body;
-}
 
 -- bytes with the listed stamp are not found to be others
 pub stamped_not_found : (bytes : List ℕ) (listed : Stamp) (found : Option Stamp) → IsStampOf bytes listed → ¬ IsFound listed (stored bytes) found

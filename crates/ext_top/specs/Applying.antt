@@ -103,6 +103,19 @@ ApplyCause opened old new before after (Fault (Damaged damage)) = IsDamage opene
 ApplyCause opened old new before after Unfinished = HasTooManyLeftOvers opened old
 ApplyCause opened old new before after (Fault OutOfMemory) = Unit {0}
 
+-- what is said where a command is unfinished
+abbrev pub WhereUnfinished : Type 0 → ApplyErr → Type 0
+WhereUnfinished P (Fault fault) = Unit {0}
+WhereUnfinished P Unfinished = P
+
+-- what is said of a damage that a command ended with
+abbrev pub WhereDamaged : (Damage → Type 0) → ApplyErr → Type 0
+WhereDamaged P (Fault DiskFault) = Unit {0}
+WhereDamaged P (Fault DepotFault) = Unit {0}
+WhereDamaged P (Fault (Damaged damage)) = P damage
+WhereDamaged P (Fault OutOfMemory) = Unit {0}
+WhereDamaged P Unfinished = Unit {0}
+
 -- why a command that only reads the store was not carried out
 abbrev pub RestCause : Option Generation → DiskState → DiskState → ApplyErr → Type 0
 RestCause opened old new (Fault DiskFault) = Rose old.faults new.faults

@@ -2,13 +2,14 @@
 use Rattle.std.specs.Prelude.{◌≡◌, ℕ, ◌≤◌, Bool, true, false, List, length, Some}
 use Rattle.ext_text.specs.Causes.{Rose}
 use Rattle.ext_io.specs.SourceState.{SourceState}
+use Rattle.ext_depot.specs.Depot.{DepotState}
 use Rattle.ext_disk.specs.Disk.{DiskState, Told}
 use Rattle.ext_gen.specs.Sound.{IsSound}
 use Rattle.ext_cmd.specs.Words.{IsWellFormed, command_words}
 use Rattle.ext_cmd.specs.declared.command.Command.{Command}
 use Rattle.ext_intents.specs.Step.{is_of_store}
 use Rattle.ext_top.specs.Alone.{reads_source}
-use Rattle.ext_top.specs.Running.{Devices, HasTooManyLeftOversNow, most_source}
+use Rattle.ext_top.specs.Running.{Devices, HasTooManyLeftOversNow, OpenedWithin, most_source}
 use Rattle.ext_top.specs.declared.status.Status.{Status}
 use Rattle.ext_top.specs.declared.status.Status.TheVariants.{Done, Refused, Usage, ReadFault, WriteFault, DiskFault, DepotFault, OutOfMemory, BadStore, Unfinished, TooLong}
 
@@ -17,10 +18,14 @@ abbrev pub TellsWithin : Bool → SourceState → Type 0
 TellsWithin true source = (bytes : List ℕ) × (source.left ≡ Some bytes) × (length bytes ≤ most_source)
 TellsWithin false source = Unit {0}
 
--- the disk tells a sound store, in whose folder no more left-overs stand than one command removes, where it is looked at
-abbrev pub TellsSound : Bool → DiskState → Type 0
-TellsSound true disk = (d : Told) × (disk.told ≡ Some d) × IsSound d.places × ¬ HasTooManyLeftOversNow d
-TellsSound false disk = Unit {0}
+-- more left-overs stand there than one command removes, and the command wants a host that passes no limit of a store
+abbrev pub MeetsTooMany : Command → DiskState → DepotState → Told → Type 0
+MeetsTooMany command disk depot d = HasTooManyLeftOversNow d × OpenedWithin command disk depot
+
+-- the disk tells a sound store, in whose folder the command doesn't meet too many left-overs, where it is looked at
+abbrev pub TellsSound : Bool → Command → DiskState → DepotState → Type 0
+TellsSound true command disk depot = (d : Told) × (disk.told ≡ Some d) × IsSound d.places × ¬ MeetsTooMany command disk depot d
+TellsSound false command disk depot = Unit {0}
 
 -- no count of faults rose
 pub record NoneRose (old new : Devices) : Type 0 where
@@ -47,5 +52,5 @@ IsAnswered TooLong = ⊥
 abbrev pub Completes : List (List ℕ) → Devices → Devices → Status → Type 0
 Completes words old new status =
     (command : Command) → IsWellFormed command → words ≡ command_words command → TellsWithin (reads_source command) old.source
-    → TellsSound (is_of_store command) old.disk
+    → TellsSound (is_of_store command) command old.disk old.depot
     → NoneRose old new → IsAnswered status

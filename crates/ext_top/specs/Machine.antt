@@ -1,7 +1,8 @@
--- The machine that a store is: what each command makes of a state and what it replies, for the files that the depot has. What
--- a command wants of the host it sees is one definition a command; what becomes of it is here, once for all of them.
+-- The machine that a store is: what each command makes of a state and what it replies, for the files that the depot has, where
+-- these are told. What a command wants of the host it sees is one definition a command; what becomes of it is here, once for all
+-- of them.
 use Rattle.std.specs.Prelude.{◌≡◌, ℕ, ◌==◌, ◌⊎◌, List, [], ◌++◌, Option, Some, None}
-use Rattle.ext_depot.specs.Depot.{DepotState}
+use Rattle.ext_depot.specs.Depot.{DepotState, Files}
 use Rattle.ext_tree.specs.Tree.{Entries}
 use Rattle.ext_tree.specs.declared.stamp.Stamp.{Stamp}
 use Rattle.ext_host.specs.Held.{HeldFile}
@@ -71,13 +72,17 @@ trees_in s = trees_before (host_before (generation_in s))
 abbrev pub stored_of : State → Stored
 stored_of s = record { lists = lists_kept (trees_in s); told = λ home. stored (contents_of s home) }
 
+-- a depot that has these files
+abbrev pub depot_of : Option Files → DepotState
+depot_of files = record { contents = files; faults = 0 }
+
 -- the next generation, of that host with a home for each of its files, in the newest text
-pub record IsNextState (s : State) (depot : DepotState) (host : Host) (u : State) : Type 0 where
+pub record IsNextState (s : State) (files : Option Files) (host : Host) (u : State) : Type 0 where
   pub coming : Generation
   pub number : coming.number ≡ coming_number (generation_in s)
   pub text : coming.text ≡ 2
   pub written : List (List ℕ)
-  pub homes : IsHostPlaced (stored_of s) depot coming.number host coming.host written
+  pub homes : IsHostPlaced (stored_of s) (depot_of files) coming.number host coming.host written
   pub is : u ≡ at coming (contents_after coming.number written s)
 
 -- a file of the depot has other bytes than listed
@@ -92,24 +97,24 @@ pub record IsNotThere (depot : DepotState) (path : List (List ℕ)) (held : Held
   pub missing : IsMissing (brought_told depot held.body)
 
 -- the first file that gets no home, in the order of the index
-abbrev pub StopsFor : State → DepotState → Host → (HeldFile → Type 0) → Type 0
-StopsFor s depot host why =
-    (limit_of (generation_in s) host ≡ None) × StopsAt (stored_of s) depot (coming_number (generation_in s)) (host.root ++ host.lower) 0 why
+abbrev pub StopsFor : State → Option Files → Host → (HeldFile → Type 0) → Type 0
+StopsFor s files host why =
+    (limit_of (generation_in s) host ≡ None) × StopsAt (stored_of s) (depot_of files) (coming_number (generation_in s)) (host.root ++ host.lower) 0 why
 
 -- why there is no next generation of the host, the first reason in this order: the coming index is too long, files that are
 -- brought counted with a home in the coming generation; there is no number for that; a file, the first in the order of the
 -- index, is not in the depot, or has other bytes there than listed
-abbrev pub RefusesNext : State → DepotState → Host → Refusal → Type 0
-RefusesNext s depot host (Limit which) = limit_of (generation_in s) host ≡ Some which
-RefusesNext s depot host (NotInDepot path) = StopsFor s depot host (IsNotThere depot path)
-RefusesNext s depot host (Mismatch path listed found) = StopsFor s depot host (IsMismatch depot path listed found)
-RefusesNext s depot host _ = ⊥
+abbrev pub RefusesNext : State → Option Files → Host → Refusal → Type 0
+RefusesNext s files host (Limit which) = limit_of (generation_in s) host ≡ Some which
+RefusesNext s files host (NotInDepot path) = StopsFor s files host (IsNotThere (depot_of files) path)
+RefusesNext s files host (Mismatch path listed found) = StopsFor s files host (IsMismatch (depot_of files) path listed found)
+RefusesNext s files host _ = ⊥
 
 -- another host in place of the one that the state has
-abbrev pub Replaces : State → DepotState → Host → List ℕ → Outcome → Type 0
-Replaces s depot host reply outcome =
-    ((u : State) × (limit_of (generation_in s) host ≡ None) × IsNextState s depot host u × (outcome ≡ gives u reply))
-    ⊎ ((refusal : Refusal) × RefusesNext s depot host refusal × (outcome ≡ refuses refusal))
+abbrev pub Replaces : State → Option Files → Host → List ℕ → Outcome → Type 0
+Replaces s files host reply outcome =
+    ((u : State) × (limit_of (generation_in s) host ≡ None) × IsNextState s files host u × (outcome ≡ gives u reply))
+    ⊎ ((refusal : Refusal) × RefusesNext s files host refusal × (outcome ≡ refuses refusal))
 
 -- how many files the host has, and their bytes
 abbrev pub checked_text : Host → List ℕ
@@ -121,15 +126,15 @@ Counts none outcome = ⊥
 Counts (at g contents) outcome = outcome ≡ gives (at g contents) (checked_text g.host)
 
 -- the outcome of an intent
-abbrev pub Comes : State → DepotState → Intent → Outcome → Type 0
-Comes s depot (Changes host answer) outcome = Replaces s depot host (answer_text answer) outcome
-Comes s depot (Answers answer) outcome = outcome ≡ gives s (answer_text answer)
-Comes s depot Checks outcome = Counts s outcome
-Comes s depot (Shows held) outcome = outcome ≡ shows (bytes_at s held.body)
-Comes s depot (Refuses refusal) outcome = outcome ≡ refuses refusal
+abbrev pub Comes : State → Option Files → Intent → Outcome → Type 0
+Comes s files (Changes host answer) outcome = Replaces s files host (answer_text answer) outcome
+Comes s files (Answers answer) outcome = outcome ≡ gives s (answer_text answer)
+Comes s files Checks outcome = Counts s outcome
+Comes s files (Shows held) outcome = outcome ≡ shows (bytes_at s held.body)
+Comes s files (Refuses refusal) outcome = outcome ≡ refuses refusal
 
 -- the step of a command: what it wants of the state, and the outcome of that
-pub record Step (s : State) (depot : DepotState) (command : Command) (outcome : Outcome) : Type 0 where
+pub record Step (s : State) (files : Option Files) (command : Command) (outcome : Outcome) : Type 0 where
   pub intent : Intent
-  pub wants : Wants (seen_in s) depot command intent
-  pub comes : Comes s depot intent outcome
+  pub wants : Wants (seen_in s) files command intent
+  pub comes : Comes s files intent outcome

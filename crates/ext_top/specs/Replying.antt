@@ -50,6 +50,10 @@ WritesPartly bytes k l (Err OutOfMemory) = WritesPrefix k l bytes
 WritesPartly bytes k l (Err (BadStore why)) = ⊥
 WritesPartly bytes k l (Err Unfinished) = ⊥
 
+-- so many bytes were written
+abbrev pub WritesMany : ℕ → SinkState → SinkState → Type 0
+WritesMany size k l = (bytes : List ℕ) × (length bytes ≡ size) × Appends k.written l.written bytes
+
 -- so it is where a file of the listed size stands there
 abbrev pub WritesFile : {T : Type 0} → shelf.Told → ℕ → SinkState → SinkState → Result T Stop → Type 0
 WritesFile told size k l result = (bytes : List ℕ) → told ≡ stored bytes → length bytes ≡ size → WritesPartly bytes k l result
@@ -89,11 +93,12 @@ WritesRefusal refusal k l (Err OutOfMemory) = l ≡ k
 WritesRefusal refusal k l (Err (BadStore why)) = ⊥
 WritesRefusal refusal k l (Err Unfinished) = ⊥
 
--- what writing a reply leaves
+-- what writing a reply leaves; of a file that isn't told as many bytes are written as are listed
 abbrev pub WritesReply : Reply → DiskState → SinkState → SinkState → Result (Option Refusal) Stop → Type 0
 WritesReply (Text text) disk k l result = WritesText text k l result
 WritesReply (File held) disk k l result =
     WritesFile (body_told disk held.body) held.stamp.size k l result × IfOk result (λ last. last ≡ None)
+    × IfOk result (λ last. WritesMany held.stamp.size k l)
 WritesReply (Refused refusal) disk k l result = WritesRefusal refusal k l result
 
 -- the file is kept at the home, and what stands there is too short

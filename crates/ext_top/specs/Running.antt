@@ -8,7 +8,7 @@ use Rattle.ext_io.specs.SinkState.{SinkState}
 use Rattle.ext_io.specs.Whole.{ReadsAll, Took, AppendsProperPrefix}
 use Rattle.ext_disk.specs.Disk.{DiskState, Told, BothTold, now}
 use Rattle.ext_disk.specs.Since.{Follows}
-use Rattle.ext_depot.specs.Depot.{DepotState, IsKept}
+use Rattle.ext_depot.specs.Depot.{DepotState, Files, IsKept}
 use Rattle.ext_host.specs.Shelf.{IsFound}
 use Rattle.ext_host.specs.declared.damage.Damage.{Damage}
 use Rattle.ext_store_files.specs.HeldFiles.{node_told}
@@ -32,9 +32,10 @@ use Rattle.ext_intents.specs.declared.intent.Intent.{Intent}
 use Rattle.ext_top.specs.Machine.{Outcome, refusal_of, reply_of}
 use Rattle.ext_top.specs.Exits.{Line, does, Standing, StandsAs, EndsLines, IsOnTheWay}
 use Rattle.ext_top.specs.Applying.{HasTooManyLeftOvers, IsDamage, PointsAs}
-use Rattle.ext_top.specs.Working.{HasMet, StaysTold, WantsOn, WorksFor}
+use Rattle.ext_top.specs.Working.{FindsDamage, HasMet, KeepsCurrent, StaysTold, WantsOn, WantsWithin, WorksFor}
 use Rattle.ext_top.specs.Alone.{ComesAlone, Says, reads_source, status_of_refusal}
 use Rattle.ext_top.specs.declared.bad_store.BadStore.TheVariants as bad
+use Rattle.ext_top.specs.declared.lines.Written.{Written}
 use Rattle.ext_top.specs.declared.status.Status.{Status}
 use Rattle.ext_top.specs.declared.status.Status.TheVariants.{Done, Refused, Usage, ReadFault, WriteFault, DiskFault, DepotFault, OutOfMemory, BadStore, Unfinished, TooLong}
 use Rattle.ext_top.specs.declared.stop.Stop.{Stop}
@@ -161,9 +162,14 @@ status_of true (Ok last) = Done
 status_of false (Ok last) = status_of_refusal last
 status_of batch (Err stop) = status_of_stop stop
 
+-- how a run of one line ended, by what the line came to
+abbrev pub result_of_line : Result Written Stop → Result (Option Refusal) Stop
+result_of_line (Ok written) = Ok written.refusal
+result_of_line (Err stop) = Err stop
+
 -- The lines ran from a state for which the store durably stood, and ended by the table of exits. Each tree that a stop since may
 -- have left stands for a state on the way.
-pub record RunsFrom (batch : Bool) (lines : List Line) (depot : DepotState) (k l : SinkState) (status : Status) (s : State)
+pub record RunsFrom (batch : Bool) (lines : List Line) (files : Option Files) (k l : SinkState) (status : Status) (s : State)
     (d e : Told) : Type 0 where
   pub result : Result (Option Refusal) Stop
   pub status_is : status ≡ status_of batch result
@@ -171,17 +177,17 @@ pub record RunsFrom (batch : Bool) (lines : List Line) (depot : DepotState) (k l
   pub written : Appends k.written l.written bytes
   pub standing : Standing
   pub stands : StandsAs standing e.places
-  pub ends : EndsLines None s depot lines result standing bytes
-  pub since : StandsSince (IsOnTheWay s depot lines) e d.clock
+  pub ends : EndsLines None s files lines result standing bytes
+  pub since : StandsSince (IsOnTheWay s files lines) e d.clock
 
 -- what the lines leave on a disk that tells
-abbrev pub RunsTold : Bool → List Line → Option Generation → DepotState → SinkState → SinkState → Status → Told → Told → Type 0
-RunsTold batch lines opened depot k l status d e =
-    (s : State) → generation_in s ≡ opened → IsDurably s d.places → RunsFrom batch lines depot k l status s d e
+abbrev pub RunsTold : Bool → List Line → Option Generation → Option Files → SinkState → SinkState → Status → Told → Told → Type 0
+RunsTold batch lines opened files k l status d e =
+    (s : State) → generation_in s ≡ opened → IsDurably s d.places → RunsFrom batch lines files k l status s d e
 
 -- The store was opened: the lines ran from the state for which it stood, and ended by the table of exits. Each tree that a stop
 -- since may have left stands for a state on the way, or for one for which it might have stood before.
-pub record RunsOpened (batch : Bool) (lines : List Line) (depot : DepotState) (k l : SinkState) (status : Status)
+pub record RunsOpened (batch : Bool) (lines : List Line) (files : Option Files) (k l : SinkState) (status : Status)
     (d e : Told) : Type 0 where
   pub state : State
   pub stood : Stands (now d.places) state
@@ -191,8 +197,8 @@ pub record RunsOpened (batch : Bool) (lines : List Line) (depot : DepotState) (k
   pub written : Appends k.written l.written bytes
   pub standing : Standing
   pub stands : StandsAs standing e.places
-  pub ends : EndsLines None state depot lines result standing bytes
-  pub since : StandsSince (λ x. IsMember d.places x ⊎ IsOnTheWay state depot lines x) e d.clock
+  pub ends : EndsLines None state files lines result standing bytes
+  pub since : StandsSince (λ x. IsMember d.places x ⊎ IsOnTheWay state files lines x) e d.clock
 
 -- The store was not opened: a fault of the disk, or no memory
 abbrev pub IsClosed : Status → Type 0
@@ -206,9 +212,9 @@ pub record RunsClosed (k l : SinkState) (status : Status) (d e : Told) : Type 0 
   pub since : StandsSince (IsMember d.places) e d.clock
 
 -- from a sound store
-abbrev pub RunsSound : Bool → List Line → DepotState → SinkState → SinkState → Status → Told → Told → Type 0
-RunsSound batch lines depot k l status d e =
-    IsSound d.places → IsSound e.places × (RunsOpened batch lines depot k l status d e ⊎ RunsClosed k l status d e)
+abbrev pub RunsSound : Bool → List Line → Option Files → SinkState → SinkState → Status → Told → Told → Type 0
+RunsSound batch lines files k l status d e =
+    IsSound d.places → IsSound e.places × (RunsOpened batch lines files k l status d e ⊎ RunsClosed k l status d e)
 
 -- a file that the host of the store lists is another than listed
 pub record IsDamagedNow (d : Told) (damage : Damage) : Type 0 where
@@ -279,36 +285,64 @@ pub record RunsStore (batch : Bool) (lines : List Line) (old new : StoreSide) (s
   pub follows : Follows old.disk new.disk
   pub kept : IsKept old.depot new.depot
   pub cause : StoreCause old new status
-  pub sound : BothTold (RunsSound batch lines old.depot old.sink new.sink status) old.disk.told new.disk.told
+  pub sound : BothTold (RunsSound batch lines old.depot.contents old.sink new.sink status) old.disk.told new.disk.told
 
--- what was met by a command that was done or refused; else nothing is said
-abbrev pub StatusMet : (Option Refusal → Option Generation → Type 0) → Status → Type 0
-StatusMet M Done = (after : Option Generation) × M None after
-StatusMet M (Refused refusal) = (after : Option Generation) × M (Some refusal) after
-StatusMet M (Usage place) = Unit {0}
-StatusMet M ReadFault = Unit {0}
-StatusMet M WriteFault = Unit {0}
-StatusMet M DiskFault = Unit {0}
-StatusMet M DepotFault = Unit {0}
-StatusMet M OutOfMemory = Unit {0}
-StatusMet M (BadStore why) = Unit {0}
-StatusMet M Unfinished = Unit {0}
-StatusMet M TooLong = Unit {0}
+-- what was met by a command that was done or refused, what by one that is unfinished, and what by one that found a damage; else
+-- nothing is said
+abbrev pub StatusMet : (Option Refusal → Option Generation → Type 0) → Type 0 → (Damage → Type 0) → Status → Type 0
+StatusMet M P R Done = (after : Option Generation) × M None after
+StatusMet M P R (Refused refusal) = (after : Option Generation) × M (Some refusal) after
+StatusMet M P R (Usage place) = Unit {0}
+StatusMet M P R ReadFault = Unit {0}
+StatusMet M P R WriteFault = Unit {0}
+StatusMet M P R DiskFault = Unit {0}
+StatusMet M P R DepotFault = Unit {0}
+StatusMet M P R OutOfMemory = Unit {0}
+StatusMet M P R (BadStore (bad.Broken line)) = Unit {0}
+StatusMet M P R (BadStore (bad.Damaged damage)) = R damage
+StatusMet M P R Unfinished = P
+StatusMet M P R TooLong = Unit {0}
 
 -- The disk, where it is told, points to what was opened; and what the command wants of that does so to the disk. Where it wants
 -- no other host, or the run ended before that, nothing is made, removed or appended.
 abbrev pub RunWorks : Command → DiskState → DepotState → Told → Told → Type 0
 RunWorks command disk depot d e =
-    StaysTold d e ⊎ ((opened : Option Generation) × Points (now d.places) opened × WorksFor (WantsOn opened disk depot command) opened d e)
+    StaysTold d e ⊎ ((opened : Option Generation) × Points (now d.places) opened × WorksFor (WantsOn opened disk depot.contents command) opened d e)
 
--- what was met of what the command wants of what was opened
-abbrev pub OpenedMet : Command → DiskState → DiskState → DepotState → Option Refusal → Option Generation → Type 0
-OpenedMet command old new depot refusal after =
-    (opened : Option Generation) × PointsAs old opened × HasMet (WantsOn opened old depot command) opened old new depot refusal after
+-- what was met of what the command wants of what was opened, and what was written for that
+abbrev pub OpenedMet : Command → DiskState → DiskState → DepotState → SinkState → SinkState → Option Refusal → Option Generation → Type 0
+OpenedMet command old new depot k l refusal after =
+    (opened : Option Generation) × PointsAs old opened × HasMet (WantsOn opened old depot.contents command) opened old new depot k l refusal after
 
--- the same of a command that was done or refused
-abbrev pub RunMet : Command → DiskState → DiskState → DepotState → Status → Type 0
-RunMet command old new depot status = StatusMet (OpenedMet command old new depot) status
+-- of what was opened the command wants a host that passes no limit of a store
+abbrev pub OpenedWithin : Command → DiskState → DepotState → Type 0
+OpenedWithin command old depot =
+    (opened : Option Generation) × PointsAs old opened × WantsWithin (WantsOn opened old depot.contents command) opened
+
+-- the damage is one that the command found, which read a file there
+abbrev pub OpenedDamage : Command → DiskState → DepotState → Damage → Type 0
+OpenedDamage command old depot damage =
+    (opened : Option Generation) × PointsAs old opened × FindsDamage command opened old depot damage
+
+-- the first of a command that was done or refused, the second of one that is unfinished, the third of one that found a damage
+abbrev pub RunMet : Command → DiskState → DiskState → DepotState → SinkState → SinkState → Status → Type 0
+RunMet command old new depot k l status =
+    StatusMet (OpenedMet command old new depot k l) (OpenedWithin command old depot) (OpenedDamage command old depot) status
+
+-- where a command was refused, or ended for another reason than a fault of the disk or of the sink, and not done, `current` is as
+-- it was
+abbrev pub RunLeavesCurrent : Status → Told → Told → Type 0
+RunLeavesCurrent Done d e = Unit {0}
+RunLeavesCurrent (Refused refusal) d e = KeepsCurrent d e
+RunLeavesCurrent (Usage place) d e = KeepsCurrent d e
+RunLeavesCurrent ReadFault d e = KeepsCurrent d e
+RunLeavesCurrent WriteFault d e = Unit {0}
+RunLeavesCurrent DiskFault d e = Unit {0}
+RunLeavesCurrent DepotFault d e = KeepsCurrent d e
+RunLeavesCurrent OutOfMemory d e = KeepsCurrent d e
+RunLeavesCurrent (BadStore why) d e = KeepsCurrent d e
+RunLeavesCurrent Unfinished d e = KeepsCurrent d e
+RunLeavesCurrent TooLong d e = KeepsCurrent d e
 
 -- disk and depot are left alone
 pub record RunsAlone (command : Command) (old new : Devices) (status : Status) : Type 0 where
@@ -320,7 +354,8 @@ pub record RunsAlone (command : Command) (old new : Devices) (status : Status) :
 pub record RunsOver (command : Command) (old new : Devices) (status : Status) : Type 0 where
   pub source : new.source ≡ old.source
   pub works : BothTold (RunWorks command old.disk old.depot) old.disk.told new.disk.told
-  pub met : RunMet command old.disk new.disk old.depot status
+  pub met : RunMet command old.disk new.disk old.depot old.sink new.sink status
+  pub current : BothTold (RunLeavesCurrent status) old.disk.told new.disk.told
   pub store : RunsStore false (does command ∷ []) (store_side old.sink old.disk old.depot) (store_side new.sink new.disk new.depot) status
 
 -- a run by the kind of its command: over a store, or without one

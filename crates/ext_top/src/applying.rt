@@ -4,18 +4,18 @@ ghost use Rattle.ext_depot.specs.Depot.{IsKept};
 ghost use Rattle.ext_disk.specs.Disk.{BothTold};
 ghost use Rattle.ext_disk.specs.Since.{Follows, Rests};
 ghost use Rattle.ext_host.specs.Drawn.{IsFileOf};
-ghost use Rattle.ext_host.specs.Valid.{IsValidHost};
-ghost use Rattle.ext_host.specs.Planning.{ServesHost};
-ghost use Rattle.ext_store_files.specs.HeldFiles.{IsListed, body_told, is_served};
+ghost use Rattle.ext_host.specs.Shelf.{IsKeptAs};
+ghost use Rattle.ext_store_files.specs.HeldFiles.{IsListed, body_told};
 ghost use Rattle.ext_gen.specs.Opened.{IsOpened};
-ghost use Rattle.ext_gen.specs.Preparing.{host_before};
+ghost use Rattle.ext_gen.specs.Preparing.{coming_number, host_before};
 ghost use Rattle.ext_cmd.specs.Words.{IsWellFormed};
 ghost use Rattle.ext_intents.specs.Intents.{IsFit, trees_seen};
-ghost use Rattle.ext_intents.specs.Causes.{StepCause};
-ghost use Rattle.ext_intents.specs.Step.{Wants, WantsOf, is_of_store};
-ghost use Rattle.ext_top.specs.Machine.{Comes, Counts, Step, bytes_at, shows};
-ghost use Rattle.ext_top.specs.Applying.{AppliesTold, ApplyCause, IsShownReply, PointsAs, RestCause, SeeCause, seen_on};
-ghost use Rattle.ext_top.specs.Working.{AppliedSo, AreListed, Met, WantsOn, WorksFor, refused_by};
+ghost use Rattle.ext_intents.specs.Step.{Wants, is_line};
+ghost use Rattle.ext_top.specs.Machine.{Comes, Counts, Step, bytes_at, checked_text, shows};
+ghost use Rattle.ext_top.specs.Applying.{AppliesTold, ApplyCause, IsShownReply, PointsAs};
+ghost use Rattle.ext_top.specs.Applying.{RestCause, SeeCause, WhereDamaged, WhereUnfinished, seen_on};
+ghost use Rattle.ext_top.specs.Working.{AppliedSo, AreListed, FindsDamage, IsHeldReply, IsReplyTo, IsTextReply, LeavesCurrent};
+ghost use Rattle.ext_top.specs.Working.{Met, ReadsDamage, SeesDamage, WantsOn, WantsWithin, WorksFor, refused_by};
 
 use crate::applied::{Applied, Reply};
 use crate::apply_err::ApplyErr;
@@ -24,8 +24,8 @@ use ext_cmd::{Answer, Command, answer_text};
 use ext_depot::Depot;
 use ext_disk::Disk;
 use ext_gen::{GenShelf, Opened, check, verify};
-use ext_host::{Held, Host};
-use ext_intents::{Intent, PlanErr, first_step, step};
+use ext_host::Held;
+use ext_intents::{Intent, first_step, step};
 use std::alloc::Global;
 
 /// Carries one command out on a store that was opened so, or on none. Where the disk tells its contents, it points to what was
@@ -40,8 +40,8 @@ use std::alloc::Global;
 /// and so may a stop at any moment. Every other error leaves that state, durably.
 ///
 /// - `DiskFault` and `DepotFault` come only where that count rose.
-/// - `Damaged` comes only where a file that the host lists is another than listed, which no such store has. Where one that
-///   is to be shown or checked is, the command is not done.
+/// - `Damaged` comes only where a file that the host lists and the command reads is another than listed, which no such store
+///   has. Where one that is to be shown or checked is, the command is not done.
 /// - `Unfinished` comes exactly where a plan within the limits met more left-overs than one command removes.
 pub fn apply<D: Disk, P: Depot>(
     alloc: Global,
@@ -50,18 +50,23 @@ pub fn apply<D: Disk, P: Depot>(
     disk: &mut D,
     depot: &mut P,
 ) -> Result<Applied, ApplyErr>
-    requires store { IsTrue (is_of_store command.now) }
+    requires line { IsTrue (is_line command.now) }
     requires formed { IsWellFormed command.now }
     requires points { PointsAs (D.state disk.old) opened }
     ensures follows { Follows (D.state disk.old) (D.state disk.new) }
     ensures kept { IsKept (P.state depot.old) (P.state depot.new) }
-    ensures applies { BothTold (AppliesTold (λ s. Step s (P.state depot.old) command.now) opened result)
+    ensures applies { BothTold (AppliesTold (λ s. Step s (P.state depot.old).contents command.now) opened result)
         (D.state disk.old).told (D.state disk.new).told }
     ensures shown { IfOk result (λ applied. IsShownReply opened (D.state disk.old) (D.state disk.new) applied.reply) }
-    ensures works { BothTold (WorksFor (WantsOn opened (D.state disk.old) (P.state depot.old) command.now) opened)
+    ensures works { BothTold (WorksFor (WantsOn opened (D.state disk.old) (P.state depot.old).contents command.now) opened)
         (D.state disk.old).told (D.state disk.new).told }
-    ensures met { IfOk result (AppliedSo (WantsOn opened (D.state disk.old) (P.state depot.old) command.now) opened
+    ensures met { IfOk result (AppliedSo (WantsOn opened (D.state disk.old) (P.state depot.old).contents command.now) opened
         (D.state disk.old) (D.state disk.new) (P.state depot.old)) }
+    ensures points { IfOk result (λ applied. PointsAs (D.state disk.new) applied.opened) }
+    ensures current { BothTold (LeavesCurrent result) (D.state disk.old).told (D.state disk.new).told }
+    ensures unfinished { IfErr result (WhereUnfinished (WantsWithin (WantsOn opened (D.state disk.old) (P.state depot.old).contents
+        command.now) opened)) }
+    ensures damaged { IfErr result (WhereDamaged (FindsDamage command.now opened (D.state disk.old) (P.state depot.old))) }
     ensures cause { IfErr result (ApplyCause opened (D.state disk.old) (D.state disk.new) (P.state depot.old) (P.state depot.new)) }
 {
     let intent = intended(alloc, command, &opened, disk, depot)?;
@@ -76,68 +81,24 @@ fn intended<D: Disk, P: Depot>(
     disk: &mut D,
     depot: &mut P,
 ) -> Result<Intent, ApplyErr>
-    requires store { IsTrue (is_of_store command.now) }
+    requires line { IsTrue (is_line command.now) }
     requires formed { IsWellFormed command.now }
     ensures rests { Rests (D.state disk.old) (D.state disk.new) }
     ensures kept { IsKept (P.state depot.old) (P.state depot.new) }
-    ensures wants { IfOk result (Wants (seen_on opened.now (D.state disk.old)) (P.state depot.old) command.now) }
-    ensures fit { IfOk result (IsFit (host_before opened.now)) }
+    ensures wants { IfOk result (Wants (seen_on opened.now (D.state disk.old)) (P.state depot.old).contents command.now) }
+    ensures fit { IfOk result (IsFit (coming_number opened.now) (host_before opened.now)) }
     ensures opened { IfSome opened.now IsOpened }
+    ensures damaged { IfErr result (WhereDamaged (SeesDamage opened.now command.now)) }
     ensures cause { IfErr result (SeeCause opened.now (D.state disk.old) (D.state disk.new) (P.state depot.old) (P.state depot.new)) }
 {
     match opened {
         None => Ok(first_step(alloc, command)?),
-        Some(opened) => seen_step(alloc, command, opened, disk, depot),
+        Some(opened) => {
+            let newest = opened.text() == 2;
+            let mut shelf = GenShelf { disk };
+            Ok(step(alloc, command, opened.host(), newest, depot, &mut shelf)?)
+        }
     }
-}
-
-// What it wants of a store that is there.
-fn seen_step<D: Disk, P: Depot>(
-    alloc: Global,
-    command: &Command,
-    opened: &Opened,
-    disk: &mut D,
-    depot: &mut P,
-) -> Result<Intent, ApplyErr>
-    requires store { IsTrue (is_of_store command.now) }
-    requires formed { IsWellFormed command.now }
-    ensures rests { Rests (D.state disk.old) (D.state disk.new) }
-    ensures kept { IsKept (P.state depot.old) (P.state depot.new) }
-    ensures wants { IfOk result (Wants (seen_on (Some opened.now) (D.state disk.old)) (P.state depot.old) command.now) }
-    ensures fit { IfOk result (IsFit (Some opened.now.host)) }
-    ensures opened { IsOpened opened.now }
-    ensures cause { IfErr result (SeeCause (Some opened.now) (D.state disk.old) (D.state disk.new) (P.state depot.old)
-        (P.state depot.new)) }
-{
-    let newest = opened.text() == 2;
-    Ok(step_over(alloc, command, opened.host(), newest, disk, depot)?)
-}
-
-// What it wants of a host whose files the disk has.
-fn step_over<D: Disk, P: Depot>(
-    alloc: Global,
-    command: &Command,
-    host: &Host,
-    newest: bool,
-    disk: &mut D,
-    depot: &mut P,
-) -> Result<Intent, PlanErr>
-    requires store { IsTrue (is_of_store command.now) }
-    requires valid { IsValidHost host.now }
-    requires serves { ServesHost (λ held. is_served held.body) host.now }
-    ensures rests { Rests (D.state disk.old) (D.state disk.new) }
-    ensures kept { IsKept (P.state depot.old) (P.state depot.new) }
-    ensures wants { IfOk result (WantsOf (record {
-      host = host.now;
-      newest = newest;
-      told = λ held. body_told
-          (D.state disk.old) held.body;
-    }) (P.state depot.old) command.now) }
-    ensures cause { IfErr result (StepCause host.now (λ held. body_told (D.state disk.old) held.body)
-        (D.state disk.old).faults (D.state disk.new).faults (P.state depot.old).faults (P.state depot.new).faults) }
-{
-    let mut shelf = GenShelf { disk };
-    step(alloc, command, host, newest, depot, &mut shelf)
 }
 
 // Does what a command wants.
@@ -148,17 +109,22 @@ fn carry_out<D: Disk, P: Depot>(
     disk: &mut D,
     depot: &mut P,
 ) -> Result<Applied, ApplyErr>
-    requires fit { IsFit (host_before opened) intent }
+    requires fit { IsFit (coming_number opened) (host_before opened) intent }
     requires opened { IfSome opened IsOpened }
     requires points { PointsAs (D.state disk.old) opened }
     ensures follows { Follows (D.state disk.old) (D.state disk.new) }
     ensures kept { IsKept (P.state depot.old) (P.state depot.new) }
-    ensures applies { BothTold (AppliesTold (λ s. Comes s (P.state depot.old) intent) opened result) (D.state disk.old).told
+    ensures applies { BothTold (AppliesTold (λ s. Comes s (P.state depot.old).contents intent) opened result) (D.state disk.old).told
         (D.state disk.new).told }
     ensures shown { IfOk result (λ applied. IsShownReply opened (D.state disk.old) (D.state disk.new) applied.reply) }
     ensures works { BothTold (WorksFor (λ wanted. wanted ≡ intent) opened) (D.state disk.old).told (D.state disk.new).told }
     ensures met { IfOk result (λ applied. Met intent opened (D.state disk.old) (D.state disk.new) (P.state depot.old)
         (refused_by applied.reply) applied.opened) }
+    ensures points { IfOk result (λ applied. PointsAs (D.state disk.new) applied.opened) }
+    ensures current { BothTold (LeavesCurrent result) (D.state disk.old).told (D.state disk.new).told }
+    ensures replies { IfOk result (λ applied. IsReplyTo intent opened applied.reply) }
+    ensures unfinished { IfErr result (WhereUnfinished (WantsWithin (λ wanted. wanted ≡ intent) opened)) }
+    ensures damaged { IfErr result (WhereDamaged (ReadsDamage intent opened (D.state disk.old) (P.state depot.old))) }
     ensures cause { IfErr result (ApplyCause opened (D.state disk.old) (D.state disk.new) (P.state depot.old) (P.state depot.new)) }
 {
     match intent {
@@ -187,6 +153,7 @@ fn check_files<D: Disk>(
     ensures rests { Rests (D.state disk.old) (D.state disk.new) }
     ensures met { IfOk result (λ applied. (applied.opened ≡ opened) × (refused_by applied.reply ≡ None)
         × AreListed opened (D.state disk.old)) }
+    ensures replies { IfOk result (λ applied. IfSome opened (λ g. IsTextReply (checked_text g.host) applied.reply)) }
     ensures checks { BothTold (AppliesTold (λ s. Counts s) opened result) (D.state disk.old).told (D.state disk.new).told }
     ensures shown { IfOk result (λ applied. IsShownReply opened (D.state disk.old) (D.state disk.new) applied.reply) }
     ensures cause { IfErr result (RestCause opened (D.state disk.old) (D.state disk.new)) }
@@ -210,9 +177,11 @@ fn show<D: Disk>(
     ensures rests { Rests (D.state disk.old) (D.state disk.new) }
     ensures met { IfOk result (λ applied. (applied.opened ≡ opened) × (refused_by applied.reply ≡ None)
         × IsListed (body_told (D.state disk.old) held.body) held.stamp) }
+    ensures replies { IfOk result (λ applied. IsHeldReply held applied.reply) }
     ensures shows { BothTold (AppliesTold (λ s outcome. outcome ≡ shows (bytes_at s held.body)) opened result)
         (D.state disk.old).told (D.state disk.new).told }
     ensures shown { IfOk result (λ applied. IsShownReply opened (D.state disk.old) (D.state disk.new) applied.reply) }
+    ensures damaged { IfErr result (WhereDamaged (λ damage. IsKeptAs held damage.home damage.listed)) }
     ensures cause { IfErr result (RestCause opened (D.state disk.old) (D.state disk.new)) }
 {
     verify(alloc, disk, &held)?;

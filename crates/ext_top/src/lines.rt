@@ -5,11 +5,11 @@ ghost use Rattle.ext_disk.specs.Disk.{BothTold};
 ghost use Rattle.ext_disk.specs.Since.{Follows};
 ghost use Rattle.ext_gen.specs.Opened.{IsOpened};
 ghost use Rattle.ext_cmd.specs.Words.{IsWellFormed};
-ghost use Rattle.ext_intents.specs.Step.{is_of_store};
+ghost use Rattle.ext_intents.specs.Step.{is_line};
 ghost use Rattle.ext_top.specs.Applying.{PointsAs};
 ghost use Rattle.ext_top.specs.Exits.{does};
-ghost use Rattle.ext_top.specs.Lines.{LineTold, LineCause};
-ghost use Rattle.ext_top.specs.Working.{HasMet, WantsOn, WorksFor};
+ghost use Rattle.ext_top.specs.Lines.{LineCause, LineLeavesCurrent, LineTold, WhereLineDamaged, WhereLineUnfinished};
+ghost use Rattle.ext_top.specs.Working.{FindsDamage, HasMet, WantsOn, WantsWithin, WorksFor};
 
 use crate::applied::Applied;
 use crate::applying::apply;
@@ -43,18 +43,23 @@ pub(crate) fn do_line<K: Sink, D: Disk, P: Depot>(
     disk: &mut D,
     depot: &mut P,
 ) -> Result<Written, Stop>
-    requires store { IsTrue (is_of_store command.now) }
+    requires line { IsTrue (is_line command.now) }
     requires formed { IsWellFormed command.now }
     requires points { PointsAs (D.state disk.old) opened }
     ensures follows { Follows (D.state disk.old) (D.state disk.new) }
     ensures kept { IsKept (P.state depot.old) (P.state depot.new) }
     ensures count { (K.state sink.old).faults ≤ (K.state sink.new).faults }
-    ensures runs { BothTold (LineTold (does command.now) opened (P.state depot.old) (K.state sink.old) (K.state sink.new)
+    ensures runs { BothTold (LineTold (does command.now) opened (P.state depot.old).contents (K.state sink.old) (K.state sink.new)
         result) (D.state disk.old).told (D.state disk.new).told }
-    ensures works { BothTold (WorksFor (WantsOn opened (D.state disk.old) (P.state depot.old) command.now) opened)
+    ensures works { BothTold (WorksFor (WantsOn opened (D.state disk.old) (P.state depot.old).contents command.now) opened)
         (D.state disk.old).told (D.state disk.new).told }
-    ensures met { IfOk result (λ written. HasMet (WantsOn opened (D.state disk.old) (P.state depot.old) command.now) opened
-        (D.state disk.old) (D.state disk.new) (P.state depot.old) written.refusal written.opened) }
+    ensures met { IfOk result (λ written. HasMet (WantsOn opened (D.state disk.old) (P.state depot.old).contents command.now) opened
+        (D.state disk.old) (D.state disk.new) (P.state depot.old) (K.state sink.old) (K.state sink.new) written.refusal written.opened) }
+    ensures points { IfOk result (λ written. PointsAs (D.state disk.new) written.opened) }
+    ensures current { BothTold (LineLeavesCurrent result) (D.state disk.old).told (D.state disk.new).told }
+    ensures unfinished { IfErr result (WhereLineUnfinished (WantsWithin (WantsOn opened (D.state disk.old) (P.state depot.old).contents
+        command.now) opened)) }
+    ensures damaged { IfErr result (WhereLineDamaged (FindsDamage command.now opened (D.state disk.old) (P.state depot.old))) }
     ensures cause { IfErr result (LineCause opened (K.state sink.old) (K.state sink.new) (D.state disk.old)
         (D.state disk.new) (P.state depot.old) (P.state depot.new)) }
 {

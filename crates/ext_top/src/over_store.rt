@@ -1,24 +1,20 @@
 // Runs of commands over a store.
 ghost use Rattle.std.specs.Prelude.{◌≡◌, ◌∷◌, [], ◌≤◌, false, IsTrue};
-ghost use Rattle.ext_depot.specs.Depot.{IsKept};
 ghost use Rattle.ext_disk.specs.Disk.{BothTold};
-ghost use Rattle.ext_disk.specs.Since.{Follows};
 ghost use Rattle.ext_cmd.specs.Words.{IsWellFormed};
-ghost use Rattle.ext_intents.specs.Step.{is_of_store};
+ghost use Rattle.ext_intents.specs.Step.{is_line};
 ghost use Rattle.ext_top.specs.Alone.{status_of_refusal};
-ghost use Rattle.ext_top.specs.Applying.{PointsAs};
 ghost use Rattle.ext_top.specs.Exits.{does};
-ghost use Rattle.ext_top.specs.Running.{IsOfOpening, OpenedCause, RunMet, RunWorks, RunsStore, RunsTold, StatusMet, status_of_closed, status_of_stop, store_side};
-ghost use Rattle.ext_top.specs.Working.{HasMet, WantsOn, WorksFor};
+ghost use Rattle.ext_top.specs.Running.{IsOfOpening, RunLeavesCurrent, RunMet, RunWorks, RunsStore, result_of_line, status_of, status_of_closed, status_of_stop, store_side};
 
 use crate::bad_store::BadStore;
-use crate::lines::do_line;
+use crate::lines::{Written, do_line};
 use crate::status::Status;
 use crate::stop::Stop;
 use ext_cmd::{Command, Refusal};
 use ext_depot::Depot;
 use ext_disk::Disk;
-use ext_gen::{Opened, StoreErr, open};
+use ext_gen::{StoreErr, open};
 use ext_io::Sink;
 use std::alloc::Global;
 
@@ -30,47 +26,31 @@ pub(crate) fn run_store<K: Sink, D: Disk, P: Depot>(
     disk: &mut D,
     depot: &mut P,
 ) -> Status
-    requires store { IsTrue (is_of_store command.now) }
+    requires line { IsTrue (is_line command.now) }
     requires formed { IsWellFormed command.now }
     ensures runs { RunsStore false (does command.now ∷ [])
         (store_side (K.state sink.old) (D.state disk.old) (P.state depot.old))
         (store_side (K.state sink.new) (D.state disk.new) (P.state depot.new)) result }
     ensures works { BothTold (RunWorks command.now (D.state disk.old) (P.state depot.old)) (D.state disk.old).told (D.state disk.new).told }
-    ensures met { RunMet command.now (D.state disk.old) (D.state disk.new) (P.state depot.old) result }
+    ensures met { RunMet command.now (D.state disk.old) (D.state disk.new) (P.state depot.old) (K.state sink.old) (K.state sink.new)
+        result }
+    ensures current { BothTold (RunLeavesCurrent result) (D.state disk.old).told (D.state disk.new).told }
     ensures count { (K.state sink.old).faults ≤ (K.state sink.new).faults }
 {
     match open(alloc, disk) {
-        Ok(opened) => run_opened(alloc, command, opened, sink, disk, depot),
+        Ok(opened) => {
+            let line = do_line(alloc, command, opened, sink, disk, depot);
+            status_of_line(line)
+        }
         Err(error) => status_of_closed(error),
     }
 }
 
-// The run of a command over a store that was opened so.
-fn run_opened<K: Sink, D: Disk, P: Depot>(
-    alloc: Global,
-    command: &Command,
-    opened: Option<Opened>,
-    sink: &mut K,
-    disk: &mut D,
-    depot: &mut P,
-) -> Status
-    requires store { IsTrue (is_of_store command.now) }
-    requires formed { IsWellFormed command.now }
-    requires points { PointsAs (D.state disk.old) opened }
-    ensures follows { Follows (D.state disk.old) (D.state disk.new) }
-    ensures kept { IsKept (P.state depot.old) (P.state depot.new) }
-    ensures count { (K.state sink.old).faults ≤ (K.state sink.new).faults }
-    ensures runs { BothTold (RunsTold false (does command.now ∷ []) opened (P.state depot.old) (K.state sink.old)
-        (K.state sink.new) result) (D.state disk.old).told (D.state disk.new).told }
-    ensures works { BothTold (WorksFor (WantsOn opened (D.state disk.old) (P.state depot.old) command.now) opened)
-        (D.state disk.old).told (D.state disk.new).told }
-    ensures met { StatusMet (HasMet (WantsOn opened (D.state disk.old) (P.state depot.old) command.now) opened
-        (D.state disk.old) (D.state disk.new) (P.state depot.old)) result }
-    ensures cause { OpenedCause opened
-        (store_side (K.state sink.old) (D.state disk.old) (P.state depot.old))
-        (store_side (K.state sink.new) (D.state disk.new) (P.state depot.new)) result }
+// The status of a run of one line.
+fn status_of_line(line: Result<Written, Stop>) -> Status
+    ensures { result ≡ status_of false (result_of_line line) }
 {
-    match do_line(alloc, command, opened, sink, disk, depot) {
+    match line {
         Ok(written) => status_of_refusal(written.refusal),
         Err(stop) => status_of_stop(stop),
     }

@@ -1,18 +1,19 @@
 // The reply of a command is written.
-ghost use Rattle.std.specs.Prelude.{◌≡◌, ◌+◌, ◌<◌, ◌≤◌, true, length, IfErr, IfOk};
+ghost use Rattle.std.specs.Prelude.{◌≡◌, ◌≢◌, ◌⊎◌, ◌+◌, ◌<◌, ◌≤◌, true, length, take, IfErr, IfOk};
 ghost use Rattle.ext_disk.specs.Since.{Rests};
-ghost use Rattle.ext_store_files.specs.HeldFiles.{body_told, is_served};
+ghost use Rattle.ext_host.specs.Shelf.{missing};
+ghost use Rattle.ext_store_files.specs.HeldFiles.{body_told, is_served, IsNextPiece, PieceCause};
 ghost use Rattle.ext_top.specs.Applying.{IsServedReply};
 ghost use Rattle.ext_top.specs.Working.{refused_by};
-ghost use Rattle.ext_top.specs.Replying.{FileCause, ReplyCause, WritesBytes, WritesFile, WritesPiece, WritesReply};
+ghost use Rattle.ext_top.specs.Replying.{FileCause, ReplyCause, WritesBytes, WritesFile, WritesMany, WritesPiece, WritesReply};
 
 use crate::applied::Reply;
 use crate::stop::Stop;
 use ext_cmd::{Refusal, refusal_text};
 use ext_disk::Disk;
-use ext_gen::piece;
-use ext_host::Held;
+use ext_host::{Held, ShelfErr};
 use ext_io::{PIECE, Sink, write_all, zeros};
+use ext_store_files::{next_piece, piece};
 use std::alloc::Global;
 
 /// Writes a reply, and gives the refusal that it is the line of, if it is one.
@@ -73,6 +74,7 @@ fn write_file<K: Sink, D: Disk>(
     ensures rests { Rests (D.state disk.old) (D.state disk.new) }
     ensures writes { WritesFile (body_told (D.state disk.old) held.now.body) held.now.stamp.size (K.state sink.old)
         (K.state sink.new) result }
+    ensures many { IfOk result (λ done. WritesMany held.now.stamp.size (K.state sink.old) (K.state sink.new)) }
     ensures count { (K.state sink.old).faults ≤ (K.state sink.new).faults }
     ensures cause { IfErr result (FileCause held.now (K.state sink.old) (K.state sink.new) (D.state disk.old) (D.state disk.new)) }
 {
@@ -93,6 +95,7 @@ fn write_pieces<K: Sink, D: Disk>(
     ensures rests { Rests (D.state disk.old) (D.state disk.new) }
     ensures writes { WritesFile (body_told (D.state disk.old) held.now.body) held.now.stamp.size (K.state sink.old)
         (K.state sink.new) result }
+    ensures many { IfOk result (λ done. WritesMany held.now.stamp.size (K.state sink.old) (K.state sink.new)) }
     ensures count { (K.state sink.old).faults ≤ (K.state sink.new).faults }
     ensures cause { IfErr result (FileCause held.now (K.state sink.old) (K.state sink.new) (D.state disk.old) (D.state disk.new)) }
 {
@@ -116,14 +119,42 @@ fn write_piece<K: Sink, D: Disk>(
     requires served { is_served held.now.body ≡ true }
     requires room { 0 < length buffer.old }
     requires place { at < held.now.stamp.size }
+    requires stands { (at ≡ 0) ⊎ (body_told (D.state disk.old) held.now.body ≢ missing) }
     ensures within { IfOk result (λ n. (0 < n) × (at + n ≤ held.now.stamp.size)) }
+    ensures stands { IfOk result (λ n. body_told (D.state disk.old) held.now.body ≢ missing) }
     ensures rests { Rests (D.state disk.old) (D.state disk.new) }
     ensures writes { WritesPiece (body_told (D.state disk.old) held.now.body) held.now.stamp.size at (K.state sink.old)
         (K.state sink.new) result }
+    ensures many { IfOk result (λ n. WritesMany n (K.state sink.old) (K.state sink.new)) }
     ensures count { (K.state sink.old).faults ≤ (K.state sink.new).faults }
     ensures cause { IfErr result (FileCause held.now (K.state sink.old) (K.state sink.new) (D.state disk.old) (D.state disk.new)) }
 {
-    let count = piece(alloc, disk, held, at, buffer)?;
+    let count = read_piece(alloc, disk, held, at, buffer)?;
     write_bytes(sink, &buffer[..count])?;
     Ok(count as u64)
+}
+
+// Reads bytes of a file from the byte `at` on. For the first of them alone the disk is asked what stands there.
+fn read_piece<D: Disk>(
+    alloc: Global,
+    disk: &mut D,
+    held: &Held,
+    at: u64,
+    buffer: &mut [u8],
+) -> Result<usize, ShelfErr>
+    requires served { is_served held.now.body ≡ true }
+    requires room { 0 < length buffer.old }
+    requires place { at < held.now.stamp.size }
+    requires stands { (at ≡ 0) ⊎ (body_told (D.state disk.old) held.now.body ≢ missing) }
+    ensures within { IfOk result (λ n. (0 < n) × (n ≤ length buffer.new) × (at + n ≤ held.now.stamp.size)) }
+    ensures next { IfOk result (λ n. IsNextPiece (body_told (D.state disk.old) held.now.body) at (take n buffer.new)) }
+    ensures rests { Rests (D.state disk.old) (D.state disk.new) }
+    ensures cause { IfErr result (PieceCause (D.state disk.old).faults (D.state disk.new).faults
+        (body_told (D.state disk.old) held.now.body) held.now at) }
+{
+    if at == 0 {
+        piece(alloc, disk, held, at, buffer)
+    } else {
+        next_piece(alloc, disk, held, at, buffer)
+    }
 }

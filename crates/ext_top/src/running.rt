@@ -24,11 +24,13 @@ use std::alloc::Global;
 ///
 /// Whatever the store is, a command makes, removes and appends only what the host that it wants asks for, and nothing at all
 /// where it wants no other host. A command that `may_change` is false of never does any of it. Where a command was done or
-/// refused, no file that it showed or checked was another than listed, and no change met more left-overs than one command
-/// removes.
+/// refused, no file that it showed or checked was another than listed, no change met more left-overs than one command
+/// removes, and the reply that was written goes with what it met.
 ///
-/// Where no count rose, a source that is read tells its bytes and is within its limit, and a store that is looked at is
-/// sound and has no more left-overs than one command removes, it ends with `Done`, `Refused` or `OutOfMemory`.
+/// It tells a damaged file only where the command reads that file. It ends unfinished only where the command wants a host
+/// that passes no limit of a store, and more left-overs stand there than one command removes. Where no count rose, a source
+/// that is read tells its bytes and is within its limit, and a store that is looked at is sound and the command doesn't meet
+/// that, it ends with `Done`, `Refused` or `OutOfMemory`.
 pub fn run<S: Source, K: Sink, D: Disk, P: Depot>(
     alloc: Global,
     words: &Words,
@@ -46,25 +48,6 @@ pub fn run<S: Source, K: Sink, D: Disk, P: Depot>(
     ensures reading { StaysUnlessChanging words.now
         (devices (S.state source.old) (K.state sink.old) (D.state disk.old) (P.state depot.old))
         (devices (S.state source.new) (K.state sink.new) (D.state disk.new) (P.state depot.new)) }
-    ensures counts { CountsOn
-        (devices (S.state source.old) (K.state sink.old) (D.state disk.old) (P.state depot.old))
-        (devices (S.state source.new) (K.state sink.new) (D.state disk.new) (P.state depot.new)) }
-{
-    run_words(alloc, words, source, sink, disk, depot)
-}
-
-// The run, by its status alone.
-fn run_words<S: Source, K: Sink, D: Disk, P: Depot>(
-    alloc: Global,
-    words: &Words,
-    source: &mut S,
-    sink: &mut K,
-    disk: &mut D,
-    depot: &mut P,
-) -> Status
-    ensures runs { Runs words.now
-        (devices (S.state source.old) (K.state sink.old) (D.state disk.old) (P.state depot.old))
-        (devices (S.state source.new) (K.state sink.new) (D.state disk.new) (P.state depot.new)) result }
     ensures counts { CountsOn
         (devices (S.state source.old) (K.state sink.old) (D.state disk.old) (P.state depot.old))
         (devices (S.state source.new) (K.state sink.new) (D.state disk.new) (P.state depot.new)) }

@@ -106,6 +106,7 @@ module _ (told : HeldFile → Told) (host : Host) (base : Entries HeldFile) (cla
   too_large which passes = record {
     items = items;
     surveyed = surveyed;
+    non_empty = passes.non_empty;
     images = passes.images;
     are_images = passes.are_images;
     root = passes.root;

@@ -113,10 +113,6 @@ other_apart Confext host p valid in_ =
 abbrev pub base_of : Host → List (List ℕ) → Option (Entry HeldFile)
 base_of host p = base_at (hierarchies_in host) (present host) p
 
--- the base with another view, by its trees
-base_with : (class : Extension) (host : Host) (names : Option (List (List ℕ))) (root lower : Entries HeldFile) (p : List (List ℕ)) → base_of (with_view class names root lower host) p ≡ cond (in_merged (with_view class names root lower host) p) (lookup (with_view class names root lower host).lower p) (lookup (with_view class names root lower host).root p)
-base_with class host names root lower p = refl
-
 pub root_with : (class : Extension) (host : Host) (names : Option (List (List ℕ))) (root lower : Entries HeldFile) → ((with_view class names root lower host).root ≡ root) × ((with_view class names root lower host).lower ≡ lower)
 root_with Sysext host names root lower = (refl, refl)
 root_with Confext host names root lower = (refl, refl)

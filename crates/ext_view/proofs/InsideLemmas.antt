@@ -1,6 +1,6 @@
 -- What stands at and below some names directly below the root.
 use Rattle.std.proofs.Common.{◌≡◌, ℕ, ◌≤◌, Bool, true, false, cond, not, List, [], ◌∷◌, ◌++◌, length, map, take, get_or, None, is_some, refl, sym, ap, ◌∙◌, arith, ◌+◌, ◌<◌}
-use Rattle.std.proofs.lemmas.Bool.{and_parts, false≢true, true≢false}
+use Rattle.std.proofs.lemmas.Bool.{and_parts, false≢true}
 use Rattle.std.proofs.lemmas.Float.{T_from_true}
 use Rattle.std.proofs.lemmas.List.{map-append, take_more}
 use Rattle.std.proofs.lemmas.List.Elements.{filter-append}
@@ -29,10 +29,6 @@ pub in_prefix : (names : List (List ℕ)) (m : List ℕ) (q p : List (List ℕ))
 in_prefix names m q [] prefix = absurd (false≢true prefix)
 in_prefix names m q (a ∷ p) prefix =
     in_first names m a q p (same_name m a (and_parts (eq_by_cmp bytes_cmp m a) (is_prefix q p) prefix).0)
-
--- what is in the names is not the root
-pub in_some : (names : List (List ℕ)) (p : List (List ℕ)) → is_in names p ≡ true → p ≡ [] → ⊥
-in_some names p in_ root = true≢false (sym in_ ∙ ap (is_in names) root ∙ in_root names)
 
 module _ {C : Type 0} where
   pub lookup_inside : (names : List (List ℕ)) (p : List (List ℕ)) (es : Entries C) → lookup (inside names es) p ≡ cond (is_in names p) (lookup es p) None

@@ -173,7 +173,8 @@ module _ (class : Extension) (a b : Host) (like : AreLike class a b) where
     same = u.same ∙ like.view None back.root back.lower;
   }
 
-one_tree : (a b : Entries HeldFile) → IsTree a → IsTree b → ((p : List (List ℕ)) → lookup a p ≡ lookup b p) → a ≡ b
+-- a tree is one by its look-ups
+pub one_tree : (a b : Entries HeldFile) → IsTree a → IsTree b → ((p : List (List ℕ)) → lookup a p ≡ lookup b p) → a ≡ b
 one_tree a b x y same = same_entries path_cmp paths_total paths_exact a b (T_from_true _ x.sorted) (T_from_true _ y.sorted) same
 
 -- what is the same in the names and elsewhere is the same
@@ -184,7 +185,8 @@ in_or_out names p o w in_ out =
       | false ↦ out
     ] refl
 
-one_unmerged : (host : Host) (class : Extension) (a b : Host) → IsUnmerged host class a → IsUnmerged host class b → a ≡ b
+-- a host has one unmerged host
+pub one_unmerged : (host : Host) (class : Extension) (a b : Host) → IsUnmerged host class a → IsUnmerged host class b → a ≡ b
 one_unmerged host class a b x y =
     let names = hierarchies_at class host in
     let root = one_tree a.root b.root x.root y.root (λ p. in_or_out names p (lookup a.root p) (lookup b.root p) (λ in_. x.base p in_ ∙ sym (y.base p in_)) (λ out. x.root_outside p out ∙ sym (y.root_outside p out))) in
@@ -207,14 +209,19 @@ same_options (Some x) w there back = sym (there x refl)
 same_options None None there back = refl
 same_options None (Some x) there back = back x refl
 
-one_view : (host : Host) (class : Extension) (base : Entries HeldFile) (items : List SurveyItem) (a b : Host) → HasView host class base items a → HasView host class base items b → a ≡ b
-one_view host class base items a b x y =
+-- the trees of a view are the same for the same items
+pub one_pair_of_trees : (host : Host) (class : Extension) (base : Entries HeldFile) (items : List SurveyItem) (images others : List (Entries HeldFile)) (root lower other_root other_lower : Entries HeldFile) → AreImagesOf base items images → AreImagesOf base items others → AreViewTrees host class base images root lower → AreViewTrees host class base others other_root other_lower → (root ≡ other_root) × (lower ≡ other_lower)
+one_pair_of_trees host class base items images others root lower other_root other_lower x y s other_trees =
     let names = hierarchies_at class host in
-    let s : AreViewTrees host class base x.images a.root a.lower = x.trees in
-    let t : AreViewTrees host class base x.images b.root b.lower = subst (λ images. AreViewTrees host class base images b.root b.lower) (one_images base items y.images x.images y.are_images x.are_images) y.trees in
-    let root = one_tree a.root b.root s.root_tree t.root_tree (λ p. in_or_out names p (lookup a.root p) (lookup b.root p) (λ in_. same_options (lookup a.root p) (lookup b.root p) (λ e there. t.whole p e in_ (s.visible p e in_ there)) (λ e there. s.whole p e in_ (t.visible p e in_ there))) (λ out. s.root_outside p out ∙ sym (t.root_outside p out))) in
-    let lower = one_tree a.lower b.lower s.lower_tree t.lower_tree (λ p. in_or_out names p (lookup a.lower p) (lookup b.lower p) (λ in_. s.base_lower p in_ ∙ sym (t.base_lower p in_)) (λ out. s.lower_outside p out ∙ sym (t.lower_outside p out))) in
-    x.same ∙ (λ i. with_view class (Some (names_of items)) (root i) (lower i) host) ∙ sym y.same
+    let t : AreViewTrees host class base images other_root other_lower = subst (λ images. AreViewTrees host class base images other_root other_lower) (one_images base items others images y x) other_trees in (
+      one_tree root other_root s.root_tree t.root_tree (λ p. in_or_out names p (lookup root p) (lookup other_root p) (λ in_. same_options (lookup root p) (lookup other_root p) (λ e there. t.whole p e in_ (s.visible p e in_ there)) (λ e there. s.whole p e in_ (t.visible p e in_ there))) (λ out. s.root_outside p out ∙ sym (t.root_outside p out))),
+      one_tree lower other_lower s.lower_tree t.lower_tree (λ p. in_or_out names p (lookup lower p) (lookup other_lower p) (λ in_. s.base_lower p in_ ∙ sym (t.base_lower p in_)) (λ out. s.lower_outside p out ∙ sym (t.lower_outside p out))),
+    )
+
+pub one_view : (host : Host) (class : Extension) (base : Entries HeldFile) (items : List SurveyItem) (a b : Host) → HasView host class base items a → HasView host class base items b → a ≡ b
+one_view host class base items a b x y =
+    let trees = one_pair_of_trees host class base items x.images y.images a.root a.lower b.root b.lower x.are_images y.are_images x.trees y.trees in
+    x.same ∙ (λ i. with_view class (Some (names_of items)) (trees.0 i) (trees.1 i) host) ∙ sym y.same
 
 pub one_view_law : OneView
 one_view_law host class base [] next other x y = one_unmerged host class next other x y

@@ -13,6 +13,7 @@ use Rattle.ext_tree.specs.Tree.{Entries, IsTree, lookup}
 use Rattle.ext_tree.specs.declared.entry.Entry.{Entry}
 use Rattle.ext_tree.proofs.ForCallers.{tree_part}
 use Rattle.ext_layer.specs.Layered.{CutsOff, GivesLayered, IsLayered, IsVisible, cuts_below}
+use Rattle.ext_layer.proofs.ForCallers.{layered_same, same_over}
 use Rattle.ext_layer.specs.declared.errors.LayerErr.{LayerErr}
 use Rattle.ext_layer.specs.declared.errors.LayerErr.TheVariants as layer_errors
 use Rattle.ext_host.specs.Held.{HeldFile}
@@ -138,7 +139,7 @@ pub all_reverse : {X : Type 0} (P : X → Type 0) (xs : List X) → AllByRecursi
 all_reverse P [] all = tt
 all_reverse P (x ∷ xs) all = subst (AllByRecursion P) (sym (reverse_cons x xs)) (all_append P (reverse xs) (x ∷ []) (all_reverse P xs all.1) (all.0, tt))
 
-map_reverse : {X Y : Type 0} (f : X → Y) (xs : List X) → map f (reverse xs) ≡ reverse (map f xs)
+pub map_reverse : {X Y : Type 0} (f : X → Y) (xs : List X) → map f (reverse xs) ≡ reverse (map f xs)
 map_reverse f [] = refl
 map_reverse f (x ∷ xs) =
     ap (map f) (reverse_cons x xs) ∙ map-append f (reverse xs) (x ∷ []) ∙ ap (λ ys. ys ++ f x ∷ []) (map_reverse f xs) ∙ sym (reverse_cons (f x) (map f xs))
@@ -160,18 +161,20 @@ module _ (names : List (List ℕ)) (base : Entries HeldFile) (items : List Surve
       none_of None none = refl
       none_of (Some e) none = absurd (none e refl)
 
-  layers_are : (layers parts images : List (Entries HeldFile)) → layers ≡ reverse parts → parts ≡ map (inside names) images → layers ++ inside names base ∷ [] ≡ map (inside names) (reverse images ++ base ∷ [])
-  layers_are layers parts images is parts_are =
-      ap (λ ls. ls ++ inside names base ∷ []) (is ∙ ap reverse parts_are ∙ sym (map_reverse (inside names) images))
+  layers_are : (parts images : List (Entries HeldFile)) → parts ≡ map (inside names) images → reverse parts ++ inside names base ∷ [] ≡ map (inside names) (reverse images ++ base ∷ [])
+  layers_are parts images parts_are =
+      ap (λ ls. ls ++ inside names base ∷ []) (ap reverse parts_are ∙ sym (map_reverse (inside names) images))
       ∙ sym (map-append (inside names) (reverse images) (base ∷ []))
 
   has_view : (layers : List (Entries HeldFile)) → AreLayersOf base names items layers → (view : Entries HeldFile) → IsLayered (layers ++ inside names base ∷ []) view → HasViewOf names base items view
   has_view layers are view layered =
       let of = images_of base names items are.0 are.1 in
+      let under = inside names base ∷ [] in
+      let whole : IsLayered (reverse are.0 ++ under) view = layered_same (layers ++ under) (reverse are.0 ++ under) view (same_over layers (reverse are.0) under are.2) layered in
       record {
         images = of.0;
         are_images = of.1;
-        is_view = layered_view of.0 view of.1 (subst (λ ls. IsLayered ls view) (layers_are layers are.0 of.0 are.2 of.2) layered);
+        is_view = layered_view of.0 view of.1 (subst (λ ls. IsLayered ls view) (layers_are are.0 of.0 of.2) whole);
       }
 
   -- what layering gives is the view, or one with too many entries

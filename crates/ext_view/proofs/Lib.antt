@@ -8,7 +8,10 @@ pub mod CountLemmas
 pub mod HostLemmas
 pub mod UnmergedLemmas
 pub mod LayerLemmas
+pub mod PartsLemmas
 pub mod EntryLemmas
 pub mod ViewLemmas
 pub mod ChosenLemmas
 pub mod LawsLemmas
+pub mod OneSurveyLemmas
+pub mod ForCallers

@@ -105,7 +105,8 @@ module _ (class : Extension) (host : Host) (base : Entries HeldFile) (is_base : 
     trees_given view (Err errors.NoHostRelease) has fits = absurd fits
     trees_given view (Err (errors.BadHostRelease line)) has fits = absurd fits
     trees_given view (Err (errors.Shelf e)) has fits = absurd fits
-    trees_given view (Err (errors.Limit which)) has fits = record {
+    trees_given view (Err (errors.Limit which)) has fits = λ non_empty. record {
+      non_empty = non_empty;
       images = has.images;
       are_images = has.are_images;
       root = view_root view;
@@ -126,7 +127,8 @@ module _ (class : Extension) (host : Host) (base : Entries HeldFile) (is_base : 
         let has = gives.1.1 in
         let long : most_entries < length view = gives.1.2 in
         let shorter = view_shorter has.images view has.is_view in
-        record {
+        λ non_empty. record {
+          non_empty = non_empty;
           images = has.images;
           are_images = has.are_images;
           root = view_root view;

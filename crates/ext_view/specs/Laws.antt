@@ -1,16 +1,17 @@
 -- The laws of views.
-use Rattle.std.specs.Prelude.{◌≡◌, ℕ, Bool, not, List, Option, Some, None, Ok, IsTrue}
+use Rattle.std.specs.Prelude.{◌≡◌, ◌≢◌, ℕ, Bool, not, List, Option, Some, None, Ok, IsTrue}
 use Rattle.ext_text.specs.declared.extension.Extension.{Extension}
 use Rattle.ext_tree.specs.Tree.{Entries, is_hide, is_opaque, lookup}
 use Rattle.ext_tree.specs.declared.entry.Entry.{Entry}
 use Rattle.ext_host.specs.Held.{HeldFile}
 use Rattle.ext_host.specs.Host.{IsBase, is_in}
-use Rattle.ext_host.specs.Shelf.{Told}
+use Rattle.ext_host.specs.Shelf.{Told, untold}
 use Rattle.ext_host.specs.Valid.{IsValidHost}
 use Rattle.ext_host.specs.declared.host.Host.{Host}
 use Rattle.ext_host.specs.declared.host.Plan.{Plan}
 use Rattle.ext_view.specs.Hierarchies.{hierarchies_at}
 use Rattle.ext_view.specs.Merging.{Merges, Refreshes, Unmerges}
+use Rattle.ext_view.specs.Surveying.{IsSurveyOf}
 use Rattle.ext_view.specs.View.{HasView, IsMergedHost, IsUnmerged}
 use Rattle.ext_view.specs.declared.outcome.Merge.{Merge}
 use Rattle.ext_view.specs.declared.surveyed.SurveyItem.{SurveyItem}
@@ -41,6 +42,30 @@ UnmergeThenMergeIsRefresh =
     → (plan : Option Plan)
     × Refreshes told old new host class force (Ok (record { plan = plan; names = merged.names }))
     × (host_after host plan ≡ host_after (host_after host unmerged) merged.plan)
+
+-- it is told of each file what it has, or that it is missing
+abbrev pub TellsAll : (HeldFile → Told) → Type 0
+TellsAll told = (held : HeldFile) → told held ≢ untold
+
+-- where that is told, what refreshing gives is what unmerging and then merging give
+abbrev pub RefreshGivesUnmergeThenMerge : Type 0
+RefreshGivesUnmergeThenMerge =
+    (told : HeldFile → Told) (old new : ℕ) (host : Host) (class : Extension) (force : Bool) (unmerged : Option Plan) (merged refreshed : Merge)
+    → TellsAll told
+    → IsValidHost host
+    → Unmerges host class (Ok unmerged)
+    → Merges told old new (host_after host unmerged) class force (Ok merged)
+    → Refreshes told old new host class force (Ok refreshed)
+    → (refreshed.names ≡ merged.names) × (host_after host refreshed.plan ≡ host_after (host_after host unmerged) merged.plan)
+
+-- where that is told, a host has one survey
+abbrev pub OneSurvey : Type 0
+OneSurvey =
+    (told : HeldFile → Told) (host : Host) (base : Entries HeldFile) (class : Extension) (force : Bool) (items others : List SurveyItem)
+    → TellsAll told
+    → IsSurveyOf told host base class force items
+    → IsSurveyOf told host base class force others
+    → items ≡ others
 
 -- chosen images have one view
 abbrev pub OneView : Type 0

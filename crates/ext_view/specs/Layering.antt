@@ -63,8 +63,9 @@ FitsWithin root lower (Ok trees) =
 FitsWithin root lower (Err (errors.Limit which)) = PassLimit which root lower
 FitsWithin root lower (Err e) = ⊥
 
--- the trees of the merged host pass a limit
+-- there is an image at least, and the trees of the merged host pass a limit
 pub record TreesPass (host : Host) (class : Extension) (base : Entries HeldFile) (items : List SurveyItem) (which : Which) : Type 0 where
+  pub non_empty : 0 < length items
   pub images : List (Entries HeldFile)
   pub are_images : AreImagesOf base items images
   pub root : Entries HeldFile
@@ -81,12 +82,12 @@ pub record AreTrees (host : Host) (class : Extension) (base : Entries HeldFile) 
   pub entries : length root + length lower ≤ most_entries
   pub bytes : all_bytes root + all_bytes lower ≤ most_bytes
 
--- the trees of the merged host, or the limit that they pass
+-- the trees of the merged host, or, where there is an image at least, the limit that they pass
 abbrev pub GivesTrees : Host → Extension → Entries HeldFile → List SurveyItem
     → Result (Entries HeldFile × Entries HeldFile) ViewErr → Type 0
 GivesTrees host class base items (Ok trees) = AreTrees host class base items trees.0 trees.1
 GivesTrees host class base items (Err errors.OutOfMemory) = Unit {0}
-GivesTrees host class base items (Err (errors.Limit which)) = TreesPass host class base items which
+GivesTrees host class base items (Err (errors.Limit which)) = 0 < length items → TreesPass host class base items which
 GivesTrees host class base items (Err e) = ⊥
 
 -- the merged host

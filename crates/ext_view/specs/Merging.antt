@@ -1,5 +1,5 @@
 -- What merging, unmerging and refreshing give.
-use Rattle.std.specs.Prelude.{◌≡◌, ℕ, Bool, true, false, List, [], Option, Some, None, Result, Ok, Err}
+use Rattle.std.specs.Prelude.{◌≡◌, ℕ, ◌<◌, Bool, true, false, List, [], length, Option, Some, None, Result, Ok, Err}
 use Rattle.ext_lines.specs.declared.memory.OutOfMemory.{OutOfMemory}
 use Rattle.ext_text.specs.declared.extension.Extension.{Extension}
 use Rattle.ext_text.specs.declared.which.Which.{Which}
@@ -38,11 +38,12 @@ pub record IsRefreshed (told : HeldFile → Told) (host : Host) (base : Entries 
   pub names : merge.names ≡ names_of (chosen items)
   pub plan : PlansView host class base (chosen items) merge.plan
 
--- the trees of the merged host pass a limit
+-- some image is chosen, and the trees of the merged host pass a limit
 pub record IsTooLarge (told : HeldFile → Told) (host : Host) (base : Entries HeldFile) (class : Extension) (force : Bool)
     (which : Which) : Type 0 where
   pub items : List SurveyItem
   pub surveyed : IsSurveyOf told host base class force items
+  pub non_empty : 0 < length (chosen items)
   pub images : List (Entries HeldFile)
   pub are_images : AreImagesOf base (chosen items) images
   pub root : Entries HeldFile

@@ -9,8 +9,8 @@ ghost use Rattle.ext_view.specs.Parts.{LeadsItem};
 
 use crate::errors::ViewErr;
 use crate::hierarchies::hierarchies_of;
-use crate::image::layers_of;
 use crate::inside::{Pair, inside};
+use crate::layers::layers_of;
 use crate::merging::names_of;
 use crate::replaced::replaced;
 use crate::surveyed::SurveyItem;

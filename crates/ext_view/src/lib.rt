@@ -14,6 +14,7 @@ mod inside;
 mod judging;
 pub mod laws;
 mod layering;
+mod layers;
 mod merging;
 mod outcome;
 mod replaced;

@@ -1,6 +1,7 @@
 use Rattle.std.proofs.Common.{false, sym, subst}
 use Rattle.std.specs.Prelude.{IfErr, IfOk}
-use Rattle.ext_intents.specs.Causes.{ViewCause}
+use Rattle.ext_cmd.specs.declared.command.ViewCommand.TheVariants as views
+use Rattle.ext_intents.specs.Causes.{IsViewFile, ViewCause}
 use Rattle.ext_intents.specs.Views.{ListWants}
 use Rattle.ext_intents.proofs.ViewsLemmas.{list_cause, list_refused}
 use Rattle.ext_intents.proofs.views.list_step.Goals as goal
@@ -16,5 +17,5 @@ returns-in-Err-clause-cause g c =
     let told = g.H.Shelf.told c.args.shelf.now in
     let old = g.H.Shelf.faults c.args.shelf.now in
     let new = g.H.Shelf.faults c.survey.new.shelf in
-    subst (λ r. IfErr r (ViewCause c.args.host.now told old new)) (sym c.refused.ensures)
+    subst (λ r. IfErr r (ViewCause (IsViewFile c.args.host.now c.args.class views.List) c.args.host.now told old new)) (sym c.refused.ensures)
     (list_cause told old new c.args.host.now c.args.class false c.in-Err.failed c.in-Err.ensures.gives)

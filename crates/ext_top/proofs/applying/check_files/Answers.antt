@@ -3,7 +3,7 @@ use Rattle.std.proofs.lemmas.Result.{err_from_is_err_and}
 use Rattle.ext_host.specs.Drawn.{trees_of}
 use Rattle.ext_gen.specs.Checking.{AreServed}
 use Rattle.ext_gen.proofs.ForCallers.{opened_is_served}
-use Rattle.ext_top.proofs.ReadingLemmas.{check_cause, checked_applied, unread_applies}
+use Rattle.ext_top.proofs.ReadingLemmas.{check_cause, checked_applied, checked_is, unread_applies}
 use Rattle.ext_top.proofs.applying.check_files.Goals as goal
 
 pub check-requires-clause-served : goal.check-requires-clause-served
@@ -38,3 +38,7 @@ returns-clause-checks g c =
 
 pub returns-clause-met : goal.returns-clause-met
 returns-clause-met g c = rw c.in-Some.is (refl, refl, (rw c.host.ensures.same at c.in_ok-files.ensures.checked).listed)
+
+pub returns-clause-replies : goal.returns-clause-replies
+returns-clause-replies g c =
+    rw c.in-Some.is (checked_is (g.D.Disk.state c.args.disk.now) c.in-Some.opened.host _ _ (rw c.host.ensures.same at c.in_ok-files.ensures.checked) c.in_ok-answer_text.ensures)

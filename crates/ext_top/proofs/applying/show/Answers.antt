@@ -1,6 +1,7 @@
 use Rattle.std.proofs.Common.{refl}
 use Rattle.std.proofs.lemmas.Result.{err_from_is_err_and}
 use Rattle.ext_top.proofs.ReadingLemmas.{file_cause, seen_is_before, seen_is_served, shown_applied, unread_applies}
+use Rattle.ext_top.proofs.DamagedLemmas.{file_damage}
 use Rattle.ext_top.proofs.applying.show.Goals as goal
 
 pub verify-requires : goal.verify-requires
@@ -32,3 +33,8 @@ returns-clause-shown g c =
 
 pub returns-clause-met : goal.returns-clause-met
 returns-clause-met g c = (refl, refl, c.in_ok-verify.ensures.listed)
+
+pub returns-in_err-verify-clause-damaged : goal.returns-in_err-verify-clause-damaged
+returns-in_err-verify-clause-damaged g c =
+    let p = err_from_is_err_and c.from_residual.result c.from_residual.ensures.1 in
+    rw (p.1, p.2) (file_damage _ _ _ c.args.held _ c.in_err-verify.ensures.cause)

@@ -1,8 +1,8 @@
 use Rattle.std.proofs.Common.{Ok, Err, arith}
 use Rattle.std.proofs.lemmas.Result.{err_from_is_err_and}
 use Rattle.ext_store_files.specs.HeldFiles.{body_told}
-use Rattle.ext_top.proofs.PieceLemmas.{cause_from, piece_since, rests_then}
-use Rattle.ext_top.proofs.PiecesLemmas.{first_stopped, first_then}
+use Rattle.ext_top.proofs.PieceLemmas.{cause_from, piece_since, rests_then, stood_before}
+use Rattle.ext_top.proofs.PiecesLemmas.{first_stopped, first_then, many_then}
 use Rattle.ext_top.proofs.replying.write_pieces.Goals as goal
 
 pub pieces-preserved : goal.pieces-preserved
@@ -19,6 +19,8 @@ pieces-preserved g c =
       i.3,
       first_then (body_told first held.body) held.stamp.size c.pieces.at c.in_ok-at.field-0 (g.K.Sink.state c.args.sink.now) k l i.4
           (piece_since first here held.body held.stamp.size c.pieces.at k l (Ok c.in_ok-at.field-0) i.0 c.in_ok-at.ensures.writes),
+      many_then c.pieces.at c.in_ok-at.field-0 (g.K.Sink.state c.args.sink.now) k l i.5 c.in_ok-at.ensures.many,
+      stood_before first here held.body _ i.0 c.in_ok-at.ensures.stands,
     )
 
 pub returns-in_err-at-clause-writes : goal.returns-in_err-at-clause-writes

@@ -4,7 +4,7 @@ use Rattle.ext_tree.specs.Tree.{IsTreeWithin}
 use Rattle.ext_tree.proofs.ForCallers.{tree_part_within}
 use Rattle.ext_view.specs.Inside.{inside, seen_below}
 use Rattle.ext_view.proofs.InsideLemmas.{within_inside}
-use Rattle.ext_view.proofs.image.part_below.Goals as goal
+use Rattle.ext_view.proofs.layers.part_below.Goals as goal
 
 pub from_pairs-requires : goal.from_pairs-requires
 from_pairs-requires c =

@@ -1,0 +1,43 @@
+-- A command wants one thing.
+use Rattle.std.proofs.Common.{◌≡◌, Some, None, sym, ◌∙◌}
+use Rattle.ext_text.specs.declared.extension.Extension.TheVariants as extensions
+use Rattle.ext_depot.specs.Depot.{Files}
+use Rattle.ext_cmd.specs.declared.command.Command.{Command}
+use Rattle.ext_cmd.specs.declared.command.Command.TheVariants.{Init, ImportFs, Remove, Sysext, Confext, Tree, Cat, Compare, Check, Layer, Migrate}
+use Rattle.ext_intents.specs.Intents.{Seen}
+use Rattle.ext_intents.specs.Laws.{IsToldSeen, OneIntent}
+use Rattle.ext_intents.specs.Step.{WantsFirst, WantsOf}
+use Rattle.ext_intents.specs.declared.intent.Intent.{Intent}
+use Rattle.ext_intents.proofs.OneImportLemmas.{TextLaws, import_once}
+use Rattle.ext_intents.proofs.OneInitLemmas.{init_once}
+use Rattle.ext_intents.proofs.OneViewLemmas.{SurveyLaws, view_once}
+
+first_once : (command : Command) (a b : Intent) → WantsFirst command a → WantsFirst command b → a ≡ b
+first_once (Init arch scope hierarchies) a b x y = init_once arch scope hierarchies a b x y
+first_once (ImportFs resource path) a b x y = x ∙ sym y
+first_once (Remove path) a b x y = x ∙ sym y
+first_once (Sysext view) a b x y = x ∙ sym y
+first_once (Confext view) a b x y = x ∙ sym y
+first_once (Tree path) a b x y = x ∙ sym y
+first_once (Cat path) a b x y = x ∙ sym y
+first_once (Compare v w) a b x y = x ∙ sym y
+first_once Check a b x y = x ∙ sym y
+first_once Layer a b x y = absurd x
+first_once Migrate a b x y = x ∙ sym y
+
+seen_once : TextLaws → SurveyLaws → (seen : Seen) (files : Files) (command : Command) (a b : Intent) → IsToldSeen seen → WantsOf seen (Some files) command a → WantsOf seen (Some files) command b → a ≡ b
+seen_once texts surveys seen files (Init arch scope hierarchies) a b is x y = x ∙ sym y
+seen_once texts surveys seen files (ImportFs resource path) a b is x y = import_once texts seen.host is.root files resource path a b x y
+seen_once texts surveys seen files (Remove path) a b is x y = x ∙ sym y
+seen_once texts surveys seen files (Sysext view) a b is x y = view_once surveys seen.host seen.told is.tells extensions.Sysext view a b x y
+seen_once texts surveys seen files (Confext view) a b is x y = view_once surveys seen.host seen.told is.tells extensions.Confext view a b x y
+seen_once texts surveys seen files (Tree path) a b is x y = x ∙ sym y
+seen_once texts surveys seen files (Cat path) a b is x y = x ∙ sym y
+seen_once texts surveys seen files (Compare v w) a b is x y = x ∙ sym y
+seen_once texts surveys seen files Check a b is x y = x ∙ sym y
+seen_once texts surveys seen files Layer a b is x y = absurd x
+seen_once texts surveys seen files Migrate a b is x y = x ∙ sym y
+
+pub one_intent : TextLaws → SurveyLaws → OneIntent
+one_intent texts surveys None files command a b is x y = first_once command a b x y
+one_intent texts surveys (Some seen) files command a b is x y = seen_once texts surveys seen files command a b is x y
