@@ -1,7 +1,11 @@
-"""Too little memory."""
+"""Too little memory, and how much there must be."""
 import resource
+import subprocess
+import sys
 
-from scenes.running import LAYER, Failed, directories, expect, named, run, shortened
+from scenes.running import LAYER, SECONDS, Failed, directories, expect, named, run, shortened
+from scenes.stores import in_a_place
+from scenes.views import ANY, host, put
 
 
 def out_of_memory_writes_nothing(program):
@@ -21,4 +25,40 @@ def out_of_memory_writes_nothing(program):
         raise Failed(f"no limit shows each of the two: {sorted(found)}")
 
 
-scenes = named(out_of_memory_writes_nothing)
+# Starts a command from a small process, since the peak of a process's memory begins with that of the one that started it.
+STARTER = """
+import os, sys
+quiet = [(os.POSIX_SPAWN_OPEN, 1, os.devnull, os.O_WRONLY, 0)]
+_, status, usage = os.wait4(os.posix_spawn(sys.argv[1], sys.argv[1:], os.environ, file_actions=quiet), 0)
+print(os.waitstatus_to_exitcode(status), usage.ru_maxrss)
+"""
+
+
+def peak(place, *words):
+    """The peak of a command's memory in KiB; the command is done."""
+    command = [sys.executable, "-I", "-S", "-c", STARTER, place.program, place.store, place.depot, *words]
+    status, found = subprocess.run(command, stdout=subprocess.PIPE, check=True, timeout=SECONDS).stdout.split()
+    if int(status):
+        raise Failed(f"`{' '.join(words)}` ended with {int(status)}")
+    return int(found)
+
+
+def a_hundred_links_to_one_image_take_the_memory_of_one(place):
+    """Each is an image of its own name, and what it shows is what the others show."""
+    host(place)
+    names = [f"link{at:02}" for at in range(100)]
+    releases = {f"usr/lib/extension-release.d/extension-release.{name}": ANY for name in names}
+    put(place, "image", {**{f"usr/d{at // 100:04}/e{at % 100:02}": None for at in range(100_000)}, **releases}, "/srv/image")
+    one, hundred = (merged_peak(place, names[:count]) for count in (1, 100))
+    place.expect(("sysext status", b"".join([b"merged 100\n", *(b"%s\n" % name.encode() for name in names)])))
+    if hundred >= 2 * one:
+        raise Failed(f"a hundred links take {hundred:,} KiB, and one takes {one:,}")
+
+
+def merged_peak(place, names):
+    """The peak of a merge of links of these names to the one image."""
+    put(place, "links", {name: "l 18 ../../../srv/image {path}" for name in names}, "/var/lib/extensions")
+    return peak(place, "sysext", "refresh")
+
+
+scenes = named(out_of_memory_writes_nothing, in_a_place(a_hundred_links_to_one_image_take_the_memory_of_one))

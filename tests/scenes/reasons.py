@@ -163,10 +163,27 @@ def an_import_from_the_store_itself_is_refused(place):
     upper.store.mkdir()
     upper.expect(("init x86-64 system", DONE), ("import-fs host /", DONE), ("tree", HOST))
 
+def an_import_from_too_deep_below_the_store_is_a_fault(place):
+    """So deep that a name of the folders above is longer than the system takes: it can't be told that the depot stands in the store."""
+    place.expect(("init x86-64 system", DONE))
+    folder = os.open(place.store, os.O_RDONLY)
+    for name in ["g-7", *"d" * 1400]:
+        os.mkdir(name, dir_fd=folder)
+        folder, above = os.open(name, os.O_RDONLY, dir_fd=folder), folder
+        os.close(above)
+    with open("host.tree", "wb", opener=lambda path, flags: os.open(path, flags, dir_fd=folder)) as text:
+        text.write(HOST)
+    words = [os.fsencode(place.store), b".", b"import-fs", b"host", b"/"]
+    expect(run(place.program, words, before=lambda: os.fchdir(folder)), (b"", b"hostext: depot fault\n", 6))
+    os.stat("host.tree", dir_fd=folder)
+    os.close(folder)
+    subprocess.run(["rm", "-r", place.store / "g-7"], check=True)
+
 
 CALLS = [
     *(a_fault_of_a_device_names_the_call_and_the_path, a_refusal_of_the_system_has_its_words, a_full_file_system_is_named),
     *(control_bytes_are_escaped, a_bad_store_names_the_line_or_the_file, words_that_are_no_command_are_explained),
-    *(the_reason_is_told_to_a_terminal_and_to_nobody_else, what_a_store_has_is_its_owners_alone, an_import_from_the_store_itself_is_refused),
+    *(the_reason_is_told_to_a_terminal_and_to_nobody_else, what_a_store_has_is_its_owners_alone),
+    *(an_import_from_the_store_itself_is_refused, an_import_from_too_deep_below_the_store_is_a_fault),
 ]
 scenes = named(*map(in_a_place, CALLS))

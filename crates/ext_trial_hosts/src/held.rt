@@ -4,7 +4,7 @@ use crate::showing::tree_text;
 use ext_case::{
     Trouble, append_line, append_number, line_of, one, one_and_more, path, path_line, three, two,
 };
-use ext_host::{Body, Held, HereShelf, Shelf, ShelfErr, from_depot};
+use ext_host::{Body, Held, HereShelf, HereText, Shelf, ShelfErr, from_depot};
 use ext_text::{Path, Text};
 use ext_tree::{Entry, Held1, Tree, TreeErr};
 use std::alloc::Global;
@@ -27,9 +27,9 @@ pub(crate) fn held(alloc: Global, arguments: &[Text]) -> Result<Text, Trouble> {
 // `bytes FIRST SECOND`: the bytes of a copy of a file that is here, and of another one, a line each.
 fn bytes(alloc: Global, arguments: &[Text]) -> Result<Text, Trouble> {
     let (first, second) = two(arguments)?;
-    let first = Held::here(first.copy()?);
+    let first = Held::here(HereText::new(alloc, first.copy()?)?);
     let copy = first.copy(alloc)?;
-    let second = Held::here(second.copy()?);
+    let second = Held::here(HereText::new(alloc, second.copy()?)?);
     let mut shelf = HereShelf;
     let first = shelf.bytes(alloc, &copy).map_err(trouble)?;
     let second = shelf.bytes(alloc, &second).map_err(trouble)?;
@@ -55,7 +55,7 @@ fn trouble(failed: ShelfErr) -> Trouble {
 
 // `stamp BYTES`: the size and the digest of a file that is here.
 fn stamp(alloc: Global, argument: &Text) -> Result<Text, Trouble> {
-    let held = Held::here(argument.copy()?);
+    let held = Held::here(HereText::new(alloc, argument.copy()?)?);
     let mut text = Text::new(alloc);
     append_number(alloc, &mut text, held.stamp().size)?;
     text.append(b" ")?;
@@ -102,7 +102,7 @@ fn depot_path<'a>(tree: &'a Tree<Held>, path: &Path) -> Option<&'a Path> {
 
 fn body_path(body: &Body) -> Option<&Path> {
     match body {
-        Body::Depot(path) => Some(path),
+        Body::Depot(path) => Some(path.path()),
         Body::Here(_) | Body::Kept(_) => None,
     }
 }

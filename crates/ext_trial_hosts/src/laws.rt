@@ -31,6 +31,8 @@ fn call_laws_of_indexes() {
 
 fn call_laws_of_views() {
     ext_view::laws::refresh_is_unmerge_then_merge();
+    ext_view::laws::refresh_gives_what_unmerge_and_merge_give();
+    ext_view::laws::there_is_one_survey();
     ext_view::laws::there_is_one_view();
     ext_view::laws::nothing_hides_in_views();
     ext_view::laws::merging_keeps_the_base();

@@ -2,7 +2,7 @@
 use crate::parts::path_of;
 use ext_case::{Trouble, line_of, number_line, string, three};
 use ext_find::{FindErr, host_release};
-use ext_host::{Body, Held, Shelf, ShelfErr};
+use ext_host::{Body, Held, HereText, Shelf, ShelfErr};
 use ext_release::Release;
 use ext_text::{Mode, Text};
 use ext_tree::{Entry, Tree, TreeErr};
@@ -82,7 +82,7 @@ fn put(
     bytes: Option<&Text>,
 ) -> Result<(), Trouble> {
     let path = path_of(alloc, path)?;
-    let entry = entry_of(bytes)?;
+    let entry = entry_of(alloc, bytes)?;
     tree.insert(path, entry).map_err(tree_trouble)
 }
 
@@ -94,10 +94,13 @@ fn tree_trouble(failed: TreeErr) -> Trouble {
 }
 
 // A file of these bytes, or a directory.
-fn entry_of(bytes: Option<&Text>) -> Result<Entry<Held>, Trouble> {
+fn entry_of(alloc: Global, bytes: Option<&Text>) -> Result<Entry<Held>, Trouble> {
     match (Mode::new(0o755), bytes) {
         (Some(mode), None) => Ok(Entry::Dir(mode)),
-        (Some(mode), Some(bytes)) => Ok(Entry::File(mode, Held::here(bytes.copy()?))),
+        (Some(mode), Some(bytes)) => {
+            let text = HereText::new(alloc, bytes.copy()?)?;
+            Ok(Entry::File(mode, Held::here(text)))
+        }
         (None, _) => Err(Trouble::Unreadable("not a mode")),
     }
 }
@@ -122,7 +125,7 @@ impl Shelf for HereAlone {
 
     fn bytes(&mut self, _alloc: Global, held: &Held) -> Result<Text, ShelfErr> {
         match held.body() {
-            Body::Here(text) => Ok(text.copy()?),
+            Body::Here(text) => Ok(text.text().copy()?),
             Body::Kept(_) | Body::Depot(_) => Err(ShelfErr::OutOfMemory),
         }
     }

@@ -1,7 +1,9 @@
 // Hosts and trees that cases describe, from tree texts.
 use crate::parts::tree_trouble;
 use ext_case::Trouble;
-use ext_host::{Attachments, Held, Home, Host, Manifests, Pasts, default_hierarchies, stamp_of};
+use ext_host::{
+    Attachments, Held, HereText, Home, Host, Manifests, Pasts, default_hierarchies, stamp_of,
+};
 use ext_text::{Arch, Extension, Scope, Text};
 use ext_tree::{Entry, Stamp, Tree, TreeErr, read_tree};
 use std::alloc::Global;
@@ -76,7 +78,8 @@ fn held_entry(
 fn held_of(alloc: Global, stamp: &Stamp, home: Home, contents: &[&[u8]]) -> Result<Held, Trouble> {
     for content in contents {
         if stamp_of(content) == *stamp {
-            return Ok(Held::here(Text::from_bytes(alloc, content)?));
+            let text = Text::from_bytes(alloc, content)?;
+            return Ok(Held::here(HereText::new(alloc, text)?));
         }
     }
     Ok(Held::kept(*stamp, home))

@@ -9,7 +9,9 @@ ghost use Rattle.ext_trial_plans.specs.Plans.{AreNamesOf, IsMadeOf, IsPlain, IsP
 
 use crate::refused::Refused;
 use ext_gen::Opened;
-use ext_host::{Attachments, Held, Host, Manifests, Pasts, Plan, default_hierarchies, from_depot};
+use ext_host::{
+    Attachments, Held, HereText, Host, Manifests, Pasts, Plan, default_hierarchies, from_depot,
+};
 use ext_text::{Arch, Extension, Mode, Name, Names, Path, Scope, Text};
 use ext_tree::{Entry, Stamp, Tree, read_tree};
 use std::alloc::Global;
@@ -125,7 +127,7 @@ fn brought_to(
     ensures { IfOk result (λ new. AreDrawnFrom (root ∷ []) (new ∷ [])) }
 {
     let new = imported(alloc, root, at, &brought.text)?;
-    with_files(new, brought.here.as_slice())
+    with_files(alloc, new, brought.here.as_slice())
 }
 
 // The tree with another hung in at a path.
@@ -146,22 +148,27 @@ fn imported(
 }
 
 // The tree with these files put into it, whose bytes are here.
-fn with_files(root: Tree<Held>, files: &[(Path, Text)]) -> Result<Tree<Held>, Refused>
+fn with_files(
+    alloc: Global,
+    root: Tree<Held>,
+    files: &[(Path, Text)],
+) -> Result<Tree<Held>, Refused>
     ensures { IfOk result (λ new. AreDrawnFrom (root ∷ []) (new ∷ [])) }
 {
     let mut new = root;
     'files: for file in files {
-        put_file(&mut new, &file.0, &file.1)?;
+        put_file(alloc, &mut new, &file.0, &file.1)?;
     }
     Ok(new)
 }
 
 // Puts a file at a path where nothing stands, whose bytes are here.
-fn put_file(tree: &mut Tree<Held>, path: &Path, bytes: &Text) -> Result<(), Refused>
+fn put_file(alloc: Global, tree: &mut Tree<Held>, path: &Path, bytes: &Text) -> Result<(), Refused>
     ensures { OnOk result (AreDrawnFrom (tree.old ∷ []) (tree.new ∷ [])) }
 {
     let mode = Mode::new(0o644).ok_or(Refused)?;
-    let held = Held::here(bytes.copy()?);
+    let text = HereText::new(alloc, bytes.copy()?)?;
+    let held = Held::here(text);
     tree.insert(path.copy()?, Entry::File(mode, held))?;
     Ok(())
 }

@@ -1,13 +1,10 @@
 // What a case did to its store, so that it can be done again.
-use crate::changing::carry_change;
-use crate::disk_calls::call_text;
-use crate::outcome::Outcome;
-use crate::placing::{put_file, put_files, put_folder, sync};
 use crate::streams::{Streams, run_over};
 use ext_case::Trouble;
 use ext_depot::MemoryDepot;
 use ext_disk::MemoryDisk;
 use ext_text::{Text, Words};
+use ext_trial_disks::{Outcome, call_text, carry_change, put_file, put_files, put_folder, sync};
 use ext_trial_plans::Change;
 use std::alloc::Global;
 

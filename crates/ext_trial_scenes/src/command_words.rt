@@ -1,10 +1,10 @@
 // What is known of a command by its words alone.
-use crate::outcome::append_field;
 use crate::words::words_of;
 use ext_case::{Trouble, line_of};
 use ext_cmd::{CmdErr, read_words};
 use ext_text::Text;
 use ext_top::may_change;
+use ext_trial_disks::append_field;
 use std::alloc::Global;
 
 /// Whether the command of these words may change a store, `yes` or `no`, or `usage PLACE` where they are none.

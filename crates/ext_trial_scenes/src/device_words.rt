@@ -2,39 +2,16 @@
 use crate::acts::Act;
 use crate::every::Stream;
 use crate::scene::Scene;
-use ext_case::{Trouble, number, number_line, one, one_and_more, path, size, small, string, two};
+use ext_case::{Trouble, number, number_line, one, one_and_more, size, small, string, two};
 use ext_disk::Pick;
 use ext_text::Text;
 use std::alloc::Global;
 
-/// What a statement about the devices writes: what they have, and where they fail; `None` where it is no such statement.
+/// `pieces SIZE..`: the sizes.
 ///
 /// # Errors
-/// `Unreadable` where it can't be carried out, and `OutOfMemory`.
-pub(crate) fn answer_devices(
-    alloc: Global,
-    scene: &mut Scene,
-    word: &str,
-    arguments: &[Text],
-) -> Result<Option<Text>, Trouble> {
-    match word {
-        "disk" => put_on_disk(alloc, scene, arguments)?,
-        "depot" => {
-            let (at, bytes) = two(arguments)?;
-            scene.put(path(alloc, at)?, bytes.copy()?)?;
-        }
-        "input" => scene.give_source(one(arguments)?.copy()?),
-        "pieces" => scene.cut_streams(sizes(alloc, arguments)?),
-        "after" => after_stop(alloc, scene, arguments)?,
-        "call" => return Ok(Some(scene.call(alloc, arguments)?)),
-        "fail" => return Ok(Some(fail(alloc, scene, arguments)?)),
-        "stop" => return Ok(Some(stop(alloc, scene, arguments)?)),
-        _ => return Ok(None),
-    }
-    Ok(Some(Text::new(alloc)))
-}
-
-fn sizes(alloc: Global, arguments: &[Text]) -> Result<Vec<usize>, Trouble> {
+/// `Unreadable` where one is none, and `OutOfMemory`.
+pub(crate) fn sizes(alloc: Global, arguments: &[Text]) -> Result<Vec<usize>, Trouble> {
     let mut sizes = Vec::new(alloc);
     for argument in arguments {
         sizes.push(size(argument)?)?;
@@ -42,10 +19,17 @@ fn sizes(alloc: Global, arguments: &[Text]) -> Result<Vec<usize>, Trouble> {
     Ok(sizes)
 }
 
-// `disk folder PATH`, `disk file PATH TEXT`, `disk files PATH COUNT` or `disk sync PATH`.
-fn put_on_disk(alloc: Global, scene: &mut Scene, arguments: &[Text]) -> Result<(), Trouble> {
+/// `disk folder PATH`, `disk file PATH TEXT`, `disk files PATH COUNT` or `disk sync PATH`.
+///
+/// # Errors
+/// `Unreadable` where it can't be carried out, and `OutOfMemory`.
+pub(crate) fn put_on_disk(
+    alloc: Global,
+    scene: &mut Scene,
+    arguments: &[Text],
+) -> Result<Text, Trouble> {
     let _outcome = scene.act(alloc, put_of(arguments)?)?;
-    Ok(())
+    Ok(Text::new(alloc))
 }
 
 fn put_of(arguments: &[Text]) -> Result<Act, Trouble> {
@@ -65,13 +49,21 @@ fn put_of(arguments: &[Text]) -> Result<Act, Trouble> {
     }
 }
 
-// `after stop PICK`.
-fn after_stop(alloc: Global, scene: &mut Scene, arguments: &[Text]) -> Result<(), Trouble> {
+/// `after stop PICK`.
+///
+/// # Errors
+/// As for [`put_on_disk`].
+pub(crate) fn after_stop(
+    alloc: Global,
+    scene: &mut Scene,
+    arguments: &[Text],
+) -> Result<Text, Trouble> {
     let (stop, pick) = two(arguments)?;
     match string(stop)? {
-        "stop" => scene.stop_now(alloc, pick_of(pick)?),
-        _ => Err(Trouble::Unreadable("after what?")),
+        "stop" => scene.stop_now(alloc, pick_of(pick)?)?,
+        _ => return Err(Trouble::Unreadable("after what?")),
     }
+    Ok(Text::new(alloc))
 }
 
 /// The pick of a word.
@@ -87,8 +79,11 @@ pub(crate) fn pick_of(word: &Text) -> Result<Pick, Trouble> {
     }
 }
 
-// `fail DEVICE CALL` or `fail DEVICE every`; of the depot also `never`.
-fn fail(alloc: Global, scene: &mut Scene, arguments: &[Text]) -> Result<Text, Trouble> {
+/// `fail DEVICE CALL` or `fail DEVICE every`; of the depot also `never`.
+///
+/// # Errors
+/// As for [`put_on_disk`].
+pub(crate) fn fail(alloc: Global, scene: &mut Scene, arguments: &[Text]) -> Result<Text, Trouble> {
     let (device, call) = two(arguments)?;
     match string(call)? {
         "every" => fail_every(alloc, scene, string(device)?),
@@ -135,8 +130,11 @@ fn fail_never(alloc: Global, scene: &mut Scene, device: &str) -> Result<Text, Tr
     }
 }
 
-// `stop CALL`, or `stop every pick PICK` where `every` is each pick.
-fn stop(alloc: Global, scene: &mut Scene, arguments: &[Text]) -> Result<Text, Trouble> {
+/// `stop CALL`, or `stop every pick PICK` where `every` is each pick.
+///
+/// # Errors
+/// As for [`put_on_disk`].
+pub(crate) fn stop(alloc: Global, scene: &mut Scene, arguments: &[Text]) -> Result<Text, Trouble> {
     match arguments {
         [call] => {
             scene.stop_at(number(call, u64::MAX)?)?;

@@ -1,13 +1,12 @@
 // What a store tells before a change and after it.
 use crate::acts::{Act, act_all, act_on};
-use crate::changing::standing_text;
-use crate::outcome::Outcome;
 use crate::streams::{Streams, run_over};
 use ext_case::Trouble;
 use ext_depot::MemoryDepot;
 use ext_disk::MemoryDisk;
 use ext_io::Calls;
 use ext_text::{Text, Words};
+use ext_trial_disks::{Outcome, standing_text};
 use std::alloc::Global;
 
 /// What a store tells. First it tells of a command its tree and a check of its files, and of a change what it stands for.

@@ -1,13 +1,13 @@
 // A change is made once for each call that it makes, with that call failing or the disk stopped there.
 use crate::acts::{Act, act_on};
 use crate::ends::{Ends, agree, ask, ends_of, is_an_end, prepared};
-use crate::outcome::{Outcome, append_field};
 use crate::streams::{Streams, only, run_over};
 use ext_case::{Trouble, append_str};
 use ext_depot::MemoryDepot;
 use ext_disk::{MemoryDisk, Pick};
 use ext_io::Calls;
 use ext_text::{Path, Text, Words};
+use ext_trial_disks::{Outcome, append_field};
 use std::alloc::Global;
 
 // As many calls of one device are tried at most.

@@ -10,6 +10,7 @@ pub(crate) fn call_laws() {
     ext_disk::laws::fixed_paths_stay();
     ext_homes::laws::a_brought_file_takes_the_least_home_of_its_bytes();
     ext_homes::laws::a_host_is_placed_in_one_way();
+    ext_homes::laws::what_is_written_is_new();
     ext_store_files::laws::a_name_is_of_one_generation();
     ext_store_files::laws::left_overs();
     ext_store_files::laws::worked_rows();
@@ -22,6 +23,8 @@ pub(crate) fn call_laws() {
     ext_gen::laws::a_stop_leaves_a_state();
     ext_gen::laws::a_synced_store_is_durable();
     ext_gen::laws::a_fixed_store_is_durable();
+    ext_intents::laws::a_command_wants_one_thing();
     ext_top::laws::one_reply();
     ext_top::laws::compare_is_done();
+    ext_top::laws::a_step_has_one_outcome();
 }

@@ -7,24 +7,16 @@
 #![tactic(auto)]
 
 mod acts;
-mod changing;
 mod command_words;
-mod depot_words;
 mod device_words;
-mod disk_calls;
 mod ends;
 mod every;
-mod kept_words;
 mod laws;
-mod looking;
-mod outcome;
-mod placing;
 mod scene;
-mod store_words;
 mod streams;
 mod words;
 
-pub use outcome::Outcome;
+pub use ext_trial_disks::Outcome;
 pub use scene::Scene;
 pub use streams::{Streams, run_over};
 pub use words::{answer, words_of};

@@ -5,13 +5,13 @@ mod runs;
 
 use crate::acts::Act;
 use crate::every::{Stream, depot_of};
-use crate::outcome::Outcome;
 use crate::streams::Streams;
 use ext_case::Trouble;
 use ext_depot::MemoryDepot;
 use ext_disk::{MemoryDisk, Pick};
 use ext_io::Calls;
 use ext_text::{Path, Text};
+use ext_trial_disks::Outcome;
 use std::alloc::Global;
 use std::mem;
 

@@ -1,11 +1,11 @@
 // The streams of a command, and its run.
-use crate::outcome::{Outcome, status_text};
-use ext_case::Trouble;
+use ext_case::{Trouble, append_number, append_str};
 use ext_depot::Depot;
 use ext_disk::Disk;
 use ext_io::{Calls, MemorySink, MemorySource};
 use ext_text::{Text, Words};
-use ext_top::run;
+use ext_top::{BadStore, Status, run};
+use ext_trial_disks::{Outcome, append_damage, append_field};
 use std::alloc::Global;
 
 /// What a command reads and how it is written: the bytes of its source, how many bytes a call moves, and which call of
@@ -69,4 +69,33 @@ pub(crate) fn only(alloc: Global, call: u64) -> Result<Calls, Trouble> {
         calls.push(call)?;
     }
     Ok(calls)
+}
+
+/// A status as a statement states it: its number, of words that are no command with the place of the fault, and of a bad
+/// store with what is wrong.
+///
+/// # Errors
+/// `OutOfMemory`.
+fn status_text(alloc: Global, status: &Status) -> Result<Text, Trouble> {
+    let mut text = Text::new(alloc);
+    append_number(alloc, &mut text, u64::from(status.number()))?;
+    match status {
+        Status::Usage { place } => append_field(alloc, &mut text, *place)?,
+        Status::BadStore(bad) => append_bad_store(alloc, &mut text, bad)?,
+        _ => {}
+    }
+    Ok(text)
+}
+
+fn append_bad_store(alloc: Global, text: &mut Text, bad: &BadStore) -> Result<(), Trouble> {
+    match bad {
+        BadStore::Broken { line } => {
+            append_str(text, " broken")?;
+            append_field(alloc, text, *line)
+        }
+        BadStore::Damaged(damage) => {
+            append_str(text, " ")?;
+            append_damage(alloc, text, damage)
+        }
+    }
 }

@@ -1,21 +1,23 @@
 // The words of scenes.
 use crate::acts::Act;
-use crate::changing::{change_of, refusal_text, standing_text};
 use crate::command_words::may_change_text;
-use crate::depot_words::{read_text, size_text};
-use crate::device_words::{answer_devices, pick_of};
-use crate::kept_words::{compare, copy, give, give_piece};
+use crate::device_words::{after_stop, fail, pick_of, put_on_disk, sizes, stop};
 use crate::laws::call_laws;
-use crate::looking::{calls_text, file_text, kind_text, most_bytes, sizes_text, whole_text};
 use crate::scene::Scene;
-use crate::store_words::{clean, current_text, left_over_text, paths_text};
-use ext_case::{Trouble, none, number, number_text, one, one_and_more, size, two};
+use ext_case::{Trouble, none, number, number_text, one, one_and_more, path, size, two};
 use ext_disk::{DiskOp, MemoryDisk};
 use ext_text::{Text, Words};
+use ext_trial_disks::{
+    calls_text, change_of, clean, compare, copy, current_text, file_text, give, give_piece,
+    kind_text, left_over_text, most_bytes, paths_text, read_text, refusal_text, size_text,
+    sizes_text, standing_text, whole_text,
+};
 use ext_trial_plans::prepare_first;
 use std::alloc::Global;
 
-/// What a statement writes; `None` where no statement of scenes begins with the word.
+/// What a statement writes; `None` where no statement of scenes begins with the word. The first words say what devices have
+/// and where they fail, the next ones carry out commands and changes and tell how they end, then come those that look at
+/// the disk and at what it was asked for, and last the calls below the commands.
 ///
 /// # Errors
 /// `Unreadable` where it can't be carried out, and `OutOfMemory`.
@@ -25,43 +27,94 @@ pub fn answer(
     word: &str,
     arguments: &[Text],
 ) -> Result<Option<Text>, Trouble> {
-    if let Some(text) = answer_devices(alloc, scene, word, arguments)? {
-        return Ok(Some(text));
-    }
-    if let Some(text) = answer_commands(alloc, scene, word, arguments)? {
-        return Ok(Some(text));
-    }
-    if let Some(text) = answer_looks(alloc, scene, word, arguments)? {
-        return Ok(Some(text));
-    }
-    answer_store(alloc, scene, word, arguments)
+    let text = match word {
+        "disk" => put_on_disk(alloc, scene, arguments)?,
+        "depot" => {
+            let (at, bytes) = two(arguments)?;
+            scene.put(path(alloc, at)?, bytes.copy()?)?;
+            Text::new(alloc)
+        }
+        "input" => {
+            scene.give_source(one(arguments)?.copy()?);
+            Text::new(alloc)
+        }
+        "pieces" => {
+            scene.cut_streams(sizes(alloc, arguments)?);
+            Text::new(alloc)
+        }
+        "after" => after_stop(alloc, scene, arguments)?,
+        "call" => scene.call(alloc, arguments)?,
+        "fail" => fail(alloc, scene, arguments)?,
+        "stop" => stop(alloc, scene, arguments)?,
+        "$" => command(alloc, scene, arguments)?,
+        "change" => change(alloc, scene, arguments)?,
+        "again" => again(alloc, scene, arguments)?,
+        "first" => first(alloc, scene, arguments)?,
+        "status" => status(alloc, scene, arguments)?,
+        "stands" => stands(alloc, scene, arguments)?,
+        "shows" => file_text(alloc, scene.disk(alloc)?, one(arguments)?, 65_536)?,
+        "read" => read(alloc, scene, arguments)?,
+        "appended" => counted(alloc, scene.disk(alloc)?.appended(), arguments)?,
+        "calls" => counted(alloc, scene.disk(alloc)?.calls(), arguments)?,
+        "starved" => counted(alloc, scene.disk(alloc)?.starved(), arguments)?,
+        "most" => counted(alloc, most_bytes(scene.disk(alloc)?), arguments)?,
+        "called" => called(alloc, scene.disk(alloc)?, arguments)?,
+        "whole" => whole(alloc, scene, arguments)?,
+        "appends" => sizes_text(alloc, scene.disk(alloc)?, DiskOp::Append, one(arguments)?)?,
+        "reads" => sizes_text(alloc, scene.disk(alloc)?, DiskOp::Read, one(arguments)?)?,
+        "laws" => return Ok(laws(alloc, arguments)),
+        _ => return answer_store(alloc, scene, word, arguments),
+    };
+    Ok(Some(text))
 }
 
-// Commands, changes, and how they end.
-fn answer_commands(
+// The calls below the commands.
+fn answer_store(
     alloc: Global,
     scene: &mut Scene,
     word: &str,
     arguments: &[Text],
 ) -> Result<Option<Text>, Trouble> {
-    match word {
-        "$" => {
-            let outcome = scene.run(alloc, words_of(alloc, arguments)?)?;
-            Ok(Some(scene.end(outcome)))
+    Ok(Some(match word {
+        "may-change" => may_change_text(alloc, arguments)?,
+        "current" => current_text(alloc, arguments)?,
+        "paths" => paths_text(alloc, arguments)?,
+        "left-over" => left_over_text(alloc, arguments)?,
+        "clean" => clean(alloc, scene.disk(alloc)?, arguments)?,
+        "depot-size" => size_text(alloc, scene.depot(alloc)?, one(arguments)?)?,
+        "depot-read" => read_text(alloc, scene.depot(alloc)?, arguments)?,
+        "standing" => standing(alloc, scene, arguments)?,
+        "copy" => {
+            let (disk, depot) = scene.devices(alloc)?;
+            copy(alloc, disk, depot, arguments)?
         }
-        "change" => {
-            let outcome = scene.act(alloc, Act::Change(change_of(alloc, arguments)?))?;
-            Ok(Some(scene.end(outcome)))
+        "compare-kept" => {
+            let (disk, depot) = scene.devices(alloc)?;
+            compare(alloc, disk, depot, arguments)?
         }
-        "again" => {
-            none(arguments)?;
-            let outcome = scene.again(alloc)?;
-            Ok(Some(scene.end(outcome)))
-        }
-        "first" => Ok(Some(first(alloc, scene, arguments)?)),
-        "status" => Ok(Some(status(alloc, scene, arguments)?)),
-        _ => Ok(None),
-    }
+        "give" => give(alloc, scene.disk(alloc)?, arguments)?,
+        "give-piece" => give_piece(alloc, scene.disk(alloc)?, arguments)?,
+        _ => return Ok(None),
+    }))
+}
+
+// `$ WORD..`: carries a command out.
+fn command(alloc: Global, scene: &mut Scene, words: &[Text]) -> Result<Text, Trouble> {
+    let outcome = scene.run(alloc, words_of(alloc, words)?)?;
+    Ok(scene.end(outcome))
+}
+
+// `change ..`: carries a change out.
+fn change(alloc: Global, scene: &mut Scene, arguments: &[Text]) -> Result<Text, Trouble> {
+    let outcome = scene.act(alloc, Act::Change(change_of(alloc, arguments)?))?;
+    Ok(scene.end(outcome))
+}
+
+// `again`: carries the last one out again.
+fn again(alloc: Global, scene: &mut Scene, arguments: &[Text]) -> Result<Text, Trouble> {
+    none(arguments)?;
+    let outcome = scene.again(alloc)?;
+    Ok(scene.end(outcome))
 }
 
 /// The words of a command.
@@ -114,62 +167,22 @@ fn stated(alloc: Global, found: &Text, words: &[Text]) -> Result<Text, Trouble> 
     Ok(line)
 }
 
-// What stands on the disk, and what it was asked for.
-fn answer_looks(
-    alloc: Global,
-    scene: &mut Scene,
-    word: &str,
-    arguments: &[Text],
-) -> Result<Option<Text>, Trouble> {
-    match word {
-        "stands" => {
-            let (at, kind) = one_and_more(arguments)?;
-            let found = kind_text(alloc, scene.disk(alloc)?, at)?;
-            Ok(Some(stated(alloc, &found, kind)?))
-        }
-        "shows" => {
-            let at = one(arguments)?;
-            Ok(Some(file_text(alloc, scene.disk(alloc)?, at, 65_536)?))
-        }
-        "read" => {
-            let (at, most) = two(arguments)?;
-            let found = file_text(alloc, scene.disk(alloc)?, at, size(most)?)?;
-            Ok(Some(found))
-        }
-        "appended" => {
-            let found = number_text(alloc, scene.disk(alloc)?.appended())?;
-            Ok(Some(stated(alloc, &found, arguments)?))
-        }
-        "calls" => {
-            let found = number_text(alloc, scene.disk(alloc)?.calls())?;
-            Ok(Some(stated(alloc, &found, arguments)?))
-        }
-        _ => answer_calls(alloc, scene, word, arguments),
-    }
+// `stands PATH KIND ..`: writes the kind where it is another.
+fn stands(alloc: Global, scene: &mut Scene, arguments: &[Text]) -> Result<Text, Trouble> {
+    let (at, kind) = one_and_more(arguments)?;
+    let found = kind_text(alloc, scene.disk(alloc)?, at)?;
+    stated(alloc, &found, kind)
 }
 
-// The calls that the disk was asked for.
-fn answer_calls(
-    alloc: Global,
-    scene: &mut Scene,
-    word: &str,
-    arguments: &[Text],
-) -> Result<Option<Text>, Trouble> {
-    match word {
-        "called" => Ok(Some(called(alloc, scene.disk(alloc)?, arguments)?)),
-        "whole" => Ok(Some(whole(alloc, scene, arguments)?)),
-        "starved" => {
-            let found = number_text(alloc, scene.disk(alloc)?.starved())?;
-            Ok(Some(stated(alloc, &found, arguments)?))
-        }
-        "appends" => Ok(Some(sizes(alloc, scene, DiskOp::Append, arguments)?)),
-        "reads" => Ok(Some(sizes(alloc, scene, DiskOp::Read, arguments)?)),
-        "most" => {
-            let found = number_text(alloc, most_bytes(scene.disk(alloc)?))?;
-            Ok(Some(stated(alloc, &found, arguments)?))
-        }
-        _ => Ok(None),
-    }
+// `read PATH MOST`: the first bytes of a file.
+fn read(alloc: Global, scene: &mut Scene, arguments: &[Text]) -> Result<Text, Trouble> {
+    let (at, most) = two(arguments)?;
+    file_text(alloc, scene.disk(alloc)?, at, size(most)?)
+}
+
+// Writes a count where it is another than stated.
+fn counted(alloc: Global, count: u64, stated_count: &[Text]) -> Result<Text, Trouble> {
+    stated(alloc, &number_text(alloc, count)?, stated_count)
 }
 
 // `called`, or `called COUNT` for the last so many.
@@ -180,41 +193,11 @@ fn called(alloc: Global, disk: &MemoryDisk, arguments: &[Text]) -> Result<Text, 
     }
 }
 
-// `appends PATH`, or `reads PATH`.
-fn sizes(
-    alloc: Global,
-    scene: &mut Scene,
-    op: DiskOp,
-    arguments: &[Text],
-) -> Result<Text, Trouble> {
-    sizes_text(alloc, scene.disk(alloc)?, op, one(arguments)?)
-}
-
 // `whole`, or `whole PICK` for what a stop now would leave.
 fn whole(alloc: Global, scene: &mut Scene, arguments: &[Text]) -> Result<Text, Trouble> {
     match arguments {
         [] => whole_text(alloc, scene.disk(alloc)?),
         _ => scene.left_by_stop(alloc, pick_of(one(arguments)?)?),
-    }
-}
-
-// The calls below the commands.
-fn answer_store(
-    alloc: Global,
-    scene: &mut Scene,
-    word: &str,
-    arguments: &[Text],
-) -> Result<Option<Text>, Trouble> {
-    match word {
-        "may-change" => Ok(Some(may_change_text(alloc, arguments)?)),
-        "current" => Ok(Some(current_text(alloc, arguments)?)),
-        "paths" => Ok(Some(paths_text(alloc, arguments)?)),
-        "left-over" => Ok(Some(left_over_text(alloc, arguments)?)),
-        "clean" => Ok(Some(clean(alloc, scene.disk(alloc)?, arguments)?)),
-        "depot-size" => Ok(Some(size_text(alloc, scene.depot(alloc)?, one(arguments)?)?)),
-        "depot-read" => Ok(Some(read_text(alloc, scene.depot(alloc)?, arguments)?)),
-        "laws" => Ok(laws(alloc, arguments)),
-        _ => answer_kept(alloc, scene, word, arguments),
     }
 }
 
@@ -229,28 +212,8 @@ fn laws(alloc: Global, arguments: &[Text]) -> Option<Text> {
     }
 }
 
-// The calls that look at kept files.
-fn answer_kept(
-    alloc: Global,
-    scene: &mut Scene,
-    word: &str,
-    arguments: &[Text],
-) -> Result<Option<Text>, Trouble> {
-    match word {
-        "standing" => {
-            none(arguments)?;
-            Ok(Some(standing_text(alloc, scene.disk(alloc)?)?))
-        }
-        "copy" => {
-            let (disk, depot) = scene.devices(alloc)?;
-            Ok(Some(copy(alloc, disk, depot, arguments)?))
-        }
-        "compare-kept" => {
-            let (disk, depot) = scene.devices(alloc)?;
-            Ok(Some(compare(alloc, disk, depot, arguments)?))
-        }
-        "give" => Ok(Some(give(alloc, scene.disk(alloc)?, arguments)?)),
-        "give-piece" => Ok(Some(give_piece(alloc, scene.disk(alloc)?, arguments)?)),
-        _ => Ok(None),
-    }
+// `standing`: what stands in the store.
+fn standing(alloc: Global, scene: &mut Scene, arguments: &[Text]) -> Result<Text, Trouble> {
+    none(arguments)?;
+    standing_text(alloc, scene.disk(alloc)?)
 }

@@ -10,20 +10,9 @@ use std::alloc::Global;
 // of them is halved in another way.
 const MOST_EMPTY: usize = 3;
 
-/// What the word writes.
-///
-/// # Errors
-/// `Unreadable` where the arguments are no arguments of the word, and `OutOfMemory`.
-pub(crate) fn reply(alloc: Global, asked: &[u8], rest: &[Text]) -> Result<Option<Text>, Trouble> {
-    match asked {
-        b"show" => Ok(Some(show(alloc, rest)?)),
-        _ => Ok(None),
-    }
-}
-
 // `layers show TREE.. HOST`: the text of what is visible of trees, the topmost first and the host last. Empty layers
 // between them show nothing: where something else is visible with some, or of the copied tree, that is written too.
-fn show(alloc: Global, rest: &[Text]) -> Result<Text, Trouble> {
+pub(crate) fn show(alloc: Global, rest: &[Text]) -> Result<Text, Trouble> {
     let [upper @ .., host] = rest else {
         return Err(Trouble::Unreadable("a host is wanted"));
     };

@@ -24,6 +24,7 @@ mod trees;
 mod values;
 mod versions;
 mod walks;
+mod words;
 
 use ext_case::Trouble;
 use ext_text::Text;
@@ -36,41 +37,7 @@ use std::alloc::Global;
 /// `Unreadable` where the arguments are no arguments of the word, and `OutOfMemory`.
 pub fn answer(alloc: Global, word: &str, arguments: &[Text]) -> Result<Option<Text>, Trouble> {
     match arguments {
-        [asked, rest @ ..] => reply(alloc, word, asked.bytes(), rest),
+        [asked, rest @ ..] => words::reply(alloc, word, asked.bytes(), rest),
         [] => Ok(None),
-    }
-}
-
-// What the two words write.
-fn reply(alloc: Global, word: &str, asked: &[u8], rest: &[Text]) -> Result<Option<Text>, Trouble> {
-    match word {
-        "name" | "list" | "hash" | "bytes" => names::reply(alloc, word, asked, rest),
-        "path" => paths::reply(alloc, asked, rest),
-        "digest" | "mode" | "arch" | "scope" | "class" | "memory" => {
-            values::reply(alloc, word, asked, rest)
-        }
-        "split" | "line" | "blanks" | "word" | "plain" => lines::reply(alloc, word, asked, rest),
-        "decimal" | "octal" | "five" | "hexadecimal" => numbers::reply(alloc, word, asked, rest),
-        _ => reply_of_files(alloc, word, asked, rest),
-    }
-}
-
-// The same for words of files, trees and streams.
-fn reply_of_files(
-    alloc: Global,
-    word: &str,
-    asked: &[u8],
-    rest: &[Text],
-) -> Result<Option<Text>, Trouble> {
-    match word {
-        "release" | "verdict" => releases::reply(alloc, word, asked, rest),
-        "version" => versions::reply(alloc, asked, rest),
-        "walk" => walks::reply(alloc, asked, rest),
-        "entry" | "trees" => tree_texts::reply(alloc, word, asked, rest),
-        "tree" => trees::reply(alloc, asked, rest),
-        "layers" => layering::reply(alloc, asked, rest),
-        "source" | "sink" | "reader" | "writer" => streams::reply(alloc, word, asked, rest),
-        "laws" => proved::reply(alloc, asked, rest),
-        _ => Ok(None),
     }
 }

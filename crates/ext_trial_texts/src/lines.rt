@@ -9,32 +9,6 @@ use ext_lines::{
 use ext_text::Text;
 use std::alloc::Global;
 
-/// What a word of this file writes.
-///
-/// # Errors
-/// `Unreadable` where the arguments are no arguments of the word, and `OutOfMemory`.
-pub(crate) fn reply(
-    alloc: Global,
-    word: &str,
-    asked: &[u8],
-    rest: &[Text],
-) -> Result<Option<Text>, Trouble> {
-    match (word, asked) {
-        ("split", b"bytes") => Ok(Some(split_bytes(alloc, rest)?)),
-        ("split", b"text") => Ok(Some(split_text(alloc, rest)?)),
-        ("split", b"last") => Ok(Some(split_last(alloc, rest)?)),
-        ("line", b"next") => Ok(Some(first_line(alloc, rest)?)),
-        ("line", b"text") => Ok(Some(first_text_line(alloc, rest)?)),
-        ("line", b"begins") => Ok(Some(begins(alloc, rest)?)),
-        ("line", b"strip") => Ok(Some(strip(alloc, rest)?)),
-        ("blanks", _) => without_blanks(alloc, asked, rest),
-        ("word", b"next") => Ok(Some(first_word(alloc, rest)?)),
-        ("word", b"has") => Ok(Some(has(alloc, rest)?)),
-        ("plain", _) => is_plain_as(alloc, asked, rest),
-        _ => Ok(None),
-    }
-}
-
 // The one byte of an argument.
 fn byte(argument: &Text) -> Result<u8, Trouble> {
     match argument.bytes() {
@@ -44,19 +18,19 @@ fn byte(argument: &Text) -> Result<u8, Trouble> {
 }
 
 // `split bytes BYTE TEXT`: what stands before and after the first such byte.
-fn split_bytes(alloc: Global, rest: &[Text]) -> Result<Text, Trouble> {
+pub(crate) fn split_bytes(alloc: Global, rest: &[Text]) -> Result<Text, Trouble> {
     let (at, text) = two(rest)?;
     two_lines_or_none(alloc, split_at_byte(text.bytes(), byte(at)?))
 }
 
 // `split last BYTE TEXT`: what stands before the last byte, where it is this one.
-fn split_last(alloc: Global, rest: &[Text]) -> Result<Text, Trouble> {
+pub(crate) fn split_last(alloc: Global, rest: &[Text]) -> Result<Text, Trouble> {
     let (at, text) = two(rest)?;
     line_or_none(alloc, before_last(text.bytes(), byte(at)?))
 }
 
 // `split text BYTE TEXT`: the same of text, at a byte of ASCII.
-fn split_text(alloc: Global, rest: &[Text]) -> Result<Text, Trouble> {
+pub(crate) fn split_text(alloc: Global, rest: &[Text]) -> Result<Text, Trouble> {
     let (at, text) = two(rest)?;
     let at = byte(at)?;
     if at >= 128 {
@@ -69,7 +43,7 @@ fn split_text(alloc: Global, rest: &[Text]) -> Result<Text, Trouble> {
 }
 
 // `line next TEXT`: the first line, and the text after it where a newline ends it.
-fn first_line(alloc: Global, rest: &[Text]) -> Result<Text, Trouble> {
+pub(crate) fn first_line(alloc: Global, rest: &[Text]) -> Result<Text, Trouble> {
     match next_line(one(rest)?.bytes()) {
         (line, None) => bytes_line(alloc, line),
         (line, Some(after)) => two_lines(alloc, line, after),
@@ -77,24 +51,28 @@ fn first_line(alloc: Global, rest: &[Text]) -> Result<Text, Trouble> {
 }
 
 // `line text TEXT`: the first line of a text whose last line may lack its newline, and the text after it.
-fn first_text_line(alloc: Global, rest: &[Text]) -> Result<Text, Trouble> {
+pub(crate) fn first_text_line(alloc: Global, rest: &[Text]) -> Result<Text, Trouble> {
     two_lines_or_none(alloc, next_text_line(one(rest)?.bytes()))
 }
 
 // `line begins TEXT PREFIX`: whether the text begins so.
-fn begins(alloc: Global, rest: &[Text]) -> Result<Text, Trouble> {
+pub(crate) fn begins(alloc: Global, rest: &[Text]) -> Result<Text, Trouble> {
     let (text, prefix) = two(rest)?;
     yes_or_no(alloc, begins_with(text.bytes(), prefix.bytes()))
 }
 
 // `line strip LINE`: the line without one carriage return at its end.
-fn strip(alloc: Global, rest: &[Text]) -> Result<Text, Trouble> {
+pub(crate) fn strip(alloc: Global, rest: &[Text]) -> Result<Text, Trouble> {
     bytes_line(alloc, strip_carriage_return(one(rest)?.bytes()))
 }
 
 // `blanks trim TEXT`, `blanks bytes|first|last BYTES`: the text, and bytes, without the blanks at both ends, and bytes
 // without those that they begin with and those at their end.
-fn without_blanks(alloc: Global, asked: &[u8], rest: &[Text]) -> Result<Option<Text>, Trouble> {
+pub(crate) fn without_blanks(
+    alloc: Global,
+    asked: &[u8],
+    rest: &[Text],
+) -> Result<Option<Text>, Trouble> {
     let text = one(rest)?;
     match asked {
         b"trim" => Ok(Some(bytes_line(alloc, trimmed_str(string(text)?).as_bytes())?)),
@@ -106,19 +84,23 @@ fn without_blanks(alloc: Global, asked: &[u8], rest: &[Text]) -> Result<Option<T
 }
 
 // `word next TEXT`: the first word, and the text after it.
-fn first_word(alloc: Global, rest: &[Text]) -> Result<Text, Trouble> {
+pub(crate) fn first_word(alloc: Global, rest: &[Text]) -> Result<Text, Trouble> {
     two_lines_or_none(alloc, next_word(one(rest)?.bytes()))
 }
 
 // `word has TEXT WORD`: whether it is a word of the text.
-fn has(alloc: Global, rest: &[Text]) -> Result<Text, Trouble> {
+pub(crate) fn has(alloc: Global, rest: &[Text]) -> Result<Text, Trouble> {
     let (text, word) = two(rest)?;
     yes_or_no(alloc, has_word(text.bytes(), word.bytes()))
 }
 
 // `plain bytes|text|tabs BYTES`: whether no byte is a control byte, whether they are plain text, and whether they are one
 // in which tabs may stand.
-fn is_plain_as(alloc: Global, asked: &[u8], rest: &[Text]) -> Result<Option<Text>, Trouble> {
+pub(crate) fn is_plain_as(
+    alloc: Global,
+    asked: &[u8],
+    rest: &[Text],
+) -> Result<Option<Text>, Trouble> {
     let bytes = one(rest)?.bytes();
     match asked {
         b"bytes" => Ok(Some(yes_or_no(alloc, is_plain(bytes))?)),

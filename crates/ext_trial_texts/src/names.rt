@@ -5,28 +5,8 @@ use ext_text::{Name, NameErr, Names, Text};
 use std::alloc::Global;
 use std::hash::{Hash, Hasher};
 
-/// What a word of this file writes.
-///
-/// # Errors
-/// `Unreadable` where the arguments are no arguments of the word, and `OutOfMemory`.
-pub(crate) fn reply(
-    alloc: Global,
-    word: &str,
-    asked: &[u8],
-    rest: &[Text],
-) -> Result<Option<Text>, Trouble> {
-    match (word, asked) {
-        ("name", b"read") => Ok(Some(read(alloc, rest)?)),
-        ("list", b"of") => Ok(Some(list(alloc, rest)?)),
-        ("bytes", b"join") => Ok(Some(join(alloc, rest)?)),
-        ("bytes", b"compare") => Ok(Some(compare(alloc, rest)?)),
-        ("hash", _) => hash(alloc, asked, rest),
-        _ => Ok(None),
-    }
-}
-
 // `name read BYTES`: the name of these bytes, by its copy.
-fn read(alloc: Global, rest: &[Text]) -> Result<Text, Trouble> {
+pub(crate) fn read(alloc: Global, rest: &[Text]) -> Result<Text, Trouble> {
     match Name::read(alloc, one(rest)?.bytes()) {
         Ok(name) => copied(alloc, &name),
         Err(NameErr::BadName) => line_of(alloc, "bad name"),
@@ -45,7 +25,7 @@ fn copied(alloc: Global, name: &Name) -> Result<Text, Trouble> {
 }
 
 // `list of NAME..`: the names of a list, by their indexes, and how many it says that it has.
-fn list(alloc: Global, rest: &[Text]) -> Result<Text, Trouble> {
+pub(crate) fn list(alloc: Global, rest: &[Text]) -> Result<Text, Trouble> {
     let names = Names::from_vec(names_of(alloc, rest)?.into_vec());
     let mut text = items(alloc, &names)?;
     if names.is_empty() {
@@ -78,13 +58,13 @@ fn items(alloc: Global, names: &Names) -> Result<Text, Trouble> {
 }
 
 // `bytes join PART..`: a line of a copy of the parts, one after another.
-fn join(alloc: Global, rest: &[Text]) -> Result<Text, Trouble> {
+pub(crate) fn join(alloc: Global, rest: &[Text]) -> Result<Text, Trouble> {
     let copy = concatenated(alloc, rest)?.copy()?;
     bytes_line(alloc, copy.into_vec().as_slice())
 }
 
 // `bytes compare TEXT TEXT`: the order of two texts.
-fn compare(alloc: Global, rest: &[Text]) -> Result<Text, Trouble> {
+pub(crate) fn compare(alloc: Global, rest: &[Text]) -> Result<Text, Trouble> {
     let (first, second) = two(rest)?;
     let mut text = Text::from_bytes(alloc, order_word(first.cmp(second)).as_bytes())?;
     if *first == *second {
@@ -121,7 +101,7 @@ fn hash_of<T: Hash>(value: &T) -> u64 {
 }
 
 // `hash name|path|bytes TEXT` and `hash path-and-bytes TEXT`: whether two values are hashed alike.
-fn hash(alloc: Global, asked: &[u8], rest: &[Text]) -> Result<Option<Text>, Trouble> {
+pub(crate) fn hash(alloc: Global, asked: &[u8], rest: &[Text]) -> Result<Option<Text>, Trouble> {
     match asked {
         b"name" => Ok(Some(alike(alloc, name_hashes(alloc, one(rest)?)?)?)),
         b"path" => Ok(Some(alike(alloc, path_hashes(alloc, one(rest)?)?)?)),

@@ -8,29 +8,6 @@ use ext_lines::{
 use ext_text::Text;
 use std::alloc::Global;
 
-/// What a word of this file writes.
-///
-/// # Errors
-/// `Unreadable` where the arguments are no arguments of the word, and `OutOfMemory`.
-pub(crate) fn reply(
-    alloc: Global,
-    word: &str,
-    asked: &[u8],
-    rest: &[Text],
-) -> Result<Option<Text>, Trouble> {
-    match (word, asked) {
-        ("decimal", b"read") => Ok(Some(from_decimal(alloc, rest)?)),
-        ("decimal", b"write") => Ok(Some(to_decimal(alloc, rest)?)),
-        ("octal", b"read") => Ok(Some(from_octal(alloc, rest)?)),
-        ("octal", b"write") => Ok(Some(to_octal(alloc, rest)?)),
-        ("five", b"read") => Ok(Some(from_five(alloc, rest)?)),
-        ("five", b"write") => Ok(Some(to_five(alloc, rest)?)),
-        ("hexadecimal", b"read") => Ok(Some(from_hexadecimal(alloc, rest)?)),
-        ("hexadecimal", b"write") => Ok(Some(to_hexadecimal(alloc, rest)?)),
-        _ => Ok(None),
-    }
-}
-
 // A line of a number, or of `none`.
 fn number_or_none(alloc: Global, number: Option<u64>) -> Result<Text, Trouble> {
     match number {
@@ -40,44 +17,44 @@ fn number_or_none(alloc: Global, number: Option<u64>) -> Result<Text, Trouble> {
 }
 
 // `decimal read TEXT MOST`: the number that a text writes in decimal digits.
-fn from_decimal(alloc: Global, rest: &[Text]) -> Result<Text, Trouble> {
+pub(crate) fn from_decimal(alloc: Global, rest: &[Text]) -> Result<Text, Trouble> {
     let (text, most) = two(rest)?;
     number_or_none(alloc, read_decimal(text.bytes(), number(most, u64::MAX)?))
 }
 
 // `decimal write NUMBER`: its decimal digits.
-fn to_decimal(alloc: Global, rest: &[Text]) -> Result<Text, Trouble> {
+pub(crate) fn to_decimal(alloc: Global, rest: &[Text]) -> Result<Text, Trouble> {
     let mut digits = Vec::new(alloc);
     append_decimal(&mut digits, number(one(rest)?, u64::MAX)?)?;
     bytes_line(alloc, digits.as_slice())
 }
 
 // `octal read TEXT MOST`: the number that a text writes in octal digits, itself in decimal ones.
-fn from_octal(alloc: Global, rest: &[Text]) -> Result<Text, Trouble> {
+pub(crate) fn from_octal(alloc: Global, rest: &[Text]) -> Result<Text, Trouble> {
     let (text, most) = two(rest)?;
     number_or_none(alloc, read_octal(text.bytes(), number(most, u64::MAX)?))
 }
 
 // `octal write NUMBER`: its octal digits.
-fn to_octal(alloc: Global, rest: &[Text]) -> Result<Text, Trouble> {
+pub(crate) fn to_octal(alloc: Global, rest: &[Text]) -> Result<Text, Trouble> {
     let mut digits = Vec::new(alloc);
     append_octal(&mut digits, number(one(rest)?, u64::MAX)?)?;
     bytes_line(alloc, digits.as_slice())
 }
 
 // `five read TEXT`: the number that a text writes in five hexadecimal digits, itself in decimal ones.
-fn from_five(alloc: Global, rest: &[Text]) -> Result<Text, Trouble> {
+pub(crate) fn from_five(alloc: Global, rest: &[Text]) -> Result<Text, Trouble> {
     number_or_none(alloc, read_five_digits(one(rest)?.bytes()).map(u64::from))
 }
 
 // `five write NUMBER`: its five hexadecimal digits.
-fn to_five(alloc: Global, rest: &[Text]) -> Result<Text, Trouble> {
+pub(crate) fn to_five(alloc: Global, rest: &[Text]) -> Result<Text, Trouble> {
     let number = number(one(rest)?, 1_048_575)?;
     bytes_line(alloc, &five_digits(number as u32))
 }
 
 // `hexadecimal read TEXT`: the 32 bytes that a text writes, as they are.
-fn from_hexadecimal(alloc: Global, rest: &[Text]) -> Result<Text, Trouble> {
+pub(crate) fn from_hexadecimal(alloc: Global, rest: &[Text]) -> Result<Text, Trouble> {
     match read_hex_digits(one(rest)?.bytes()) {
         Some(bytes) => bytes_line(alloc, &bytes),
         None => line_of(alloc, "none"),
@@ -85,7 +62,7 @@ fn from_hexadecimal(alloc: Global, rest: &[Text]) -> Result<Text, Trouble> {
 }
 
 // `hexadecimal write BYTES`: the digits of 32 bytes.
-fn to_hexadecimal(alloc: Global, rest: &[Text]) -> Result<Text, Trouble> {
+pub(crate) fn to_hexadecimal(alloc: Global, rest: &[Text]) -> Result<Text, Trouble> {
     match <[u8; 32]>::try_from(one(rest)?.bytes()) {
         Ok(bytes) => bytes_line(alloc, &hex_digits(&bytes)),
         Err(_) => Err(Trouble::Unreadable("32 bytes are wanted")),

@@ -6,28 +6,8 @@ use ext_case::{
 use ext_text::{Path, PathErr, SortedPaths, Text};
 use std::alloc::Global;
 
-/// What the word writes.
-///
-/// # Errors
-/// `Unreadable` where the arguments are no arguments of the word, and `OutOfMemory`.
-pub(crate) fn reply(alloc: Global, asked: &[u8], rest: &[Text]) -> Result<Option<Text>, Trouble> {
-    match asked {
-        b"read" => Ok(Some(read(alloc, rest)?)),
-        b"root" => Ok(Some(root(alloc, rest)?)),
-        b"child" => Ok(Some(child(alloc, rest)?)),
-        b"join" => Ok(Some(join(alloc, rest)?)),
-        b"parent" => Ok(Some(parent(alloc, rest)?)),
-        b"prefix" => Ok(Some(prefix(alloc, rest)?)),
-        b"compare" => Ok(Some(compare(alloc, rest)?)),
-        b"absolute" => Ok(Some(absolute(alloc, rest)?)),
-        b"sorted" => Ok(Some(sorted(alloc, rest)?)),
-        b"among" => Ok(Some(among(alloc, rest)?)),
-        _ => Ok(None),
-    }
-}
-
 // `path read TEXT`: how many names the path of a text has.
-fn read(alloc: Global, rest: &[Text]) -> Result<Text, Trouble> {
+pub(crate) fn read(alloc: Global, rest: &[Text]) -> Result<Text, Trouble> {
     match Path::read(alloc, one(rest)?.bytes()) {
         Ok(path) => depth(alloc, &path),
         Err(refusal) => line_of(alloc, path_refusal(refusal)?),
@@ -40,20 +20,20 @@ fn depth(alloc: Global, path: &Path) -> Result<Text, Trouble> {
 }
 
 // `path root`: how many names the path of no names has.
-fn root(alloc: Global, rest: &[Text]) -> Result<Text, Trouble> {
+pub(crate) fn root(alloc: Global, rest: &[Text]) -> Result<Text, Trouble> {
     none(rest)?;
     depth(alloc, &Path::root(alloc))
 }
 
 // `path child PATH NAME`: the path of a name below a path.
-fn child(alloc: Global, rest: &[Text]) -> Result<Text, Trouble> {
+pub(crate) fn child(alloc: Global, rest: &[Text]) -> Result<Text, Trouble> {
     let (above, below) = two(rest)?;
     let above = path(alloc, above)?;
     longer(alloc, above.child(&name(alloc, below)?))
 }
 
 // `path join PATH PATH`: the second path below the first.
-fn join(alloc: Global, rest: &[Text]) -> Result<Text, Trouble> {
+pub(crate) fn join(alloc: Global, rest: &[Text]) -> Result<Text, Trouble> {
     let (above, below) = two(rest)?;
     let above = path(alloc, above)?;
     longer(alloc, above.join(&path(alloc, below)?))
@@ -68,20 +48,20 @@ fn longer(alloc: Global, path: Result<Path, PathErr>) -> Result<Text, Trouble> {
 }
 
 // `path parent PATH`: all names but the last.
-fn parent(alloc: Global, rest: &[Text]) -> Result<Text, Trouble> {
+pub(crate) fn parent(alloc: Global, rest: &[Text]) -> Result<Text, Trouble> {
     let path = path(alloc, one(rest)?)?;
     names_line(alloc, &path.parent())
 }
 
 // `path prefix PATH COUNT`: the path of the first names.
-fn prefix(alloc: Global, rest: &[Text]) -> Result<Text, Trouble> {
+pub(crate) fn prefix(alloc: Global, rest: &[Text]) -> Result<Text, Trouble> {
     let (text, count) = two(rest)?;
     let path = path(alloc, text)?;
     path_line(alloc, &path.prefix(size(count)?)?)
 }
 
 // `path compare PATH PATH`: their order, and which relations hold.
-fn compare(alloc: Global, rest: &[Text]) -> Result<Text, Trouble> {
+pub(crate) fn compare(alloc: Global, rest: &[Text]) -> Result<Text, Trouble> {
     let (first, second) = two(rest)?;
     let first = path(alloc, first)?;
     let second = path(alloc, second)?;
@@ -101,7 +81,7 @@ fn relations(alloc: Global, path: &Path, other: &Path) -> Result<Text, Trouble> 
 }
 
 // `path absolute PATH`: the path as it is written for a reader.
-fn absolute(alloc: Global, rest: &[Text]) -> Result<Text, Trouble> {
+pub(crate) fn absolute(alloc: Global, rest: &[Text]) -> Result<Text, Trouble> {
     let mut text = Vec::new(alloc);
     path(alloc, one(rest)?)?.append_absolute(&mut text)?;
     text.push(b'\n')?;
@@ -109,7 +89,7 @@ fn absolute(alloc: Global, rest: &[Text]) -> Result<Text, Trouble> {
 }
 
 // `path sorted PATH..`: the paths in path order, each once, each on a line.
-fn sorted(alloc: Global, rest: &[Text]) -> Result<Text, Trouble> {
+pub(crate) fn sorted(alloc: Global, rest: &[Text]) -> Result<Text, Trouble> {
     let mut text = Text::new(alloc);
     for path in sorted_paths(alloc, rest)?.into_vec() {
         append_path(alloc, &mut text, &path)?;
@@ -120,7 +100,7 @@ fn sorted(alloc: Global, rest: &[Text]) -> Result<Text, Trouble> {
 
 // `path among PATH PATH..`: whether the first path is one of the others, is covered by one, has one at or below it, and is
 // related to one.
-fn among(alloc: Global, rest: &[Text]) -> Result<Text, Trouble> {
+pub(crate) fn among(alloc: Global, rest: &[Text]) -> Result<Text, Trouble> {
     let (first, others) = one_and_more(rest)?;
     let first = path(alloc, first)?;
     let paths = sorted_paths(alloc, others)?;

@@ -12,18 +12,13 @@ use std::alloc::Global;
 ///
 /// # Errors
 /// `Unreadable` where there are more arguments.
-pub(crate) fn reply(alloc: Global, asked: &[u8], rest: &[Text]) -> Result<Option<Text>, Trouble> {
-    match asked {
-        b"texts" => {
-            none(rest)?;
-            of_texts();
-            of_files();
-            of_trees();
-            of_layers();
-            Ok(Some(Text::new(alloc)))
-        }
-        _ => Ok(None),
-    }
+pub(crate) fn texts(alloc: Global, rest: &[Text]) -> Result<Text, Trouble> {
+    none(rest)?;
+    of_texts();
+    of_files();
+    of_trees();
+    of_layers();
+    Ok(Text::new(alloc))
 }
 
 // Those of numbers and paths as text.
@@ -62,6 +57,7 @@ fn of_layers() {
     ext_layer::laws::one_layered_tree::<Stamp>();
     ext_layer::laws::entries_are_of_layers::<Stamp>();
     ext_layer::laws::nothing_hides::<Stamp>();
+    ext_layer::laws::a_lower_equal_layer_shows_nothing::<Stamp>();
     ext_layer::laws::layered_has_text();
     ext_walk::laws::ends_at_no_link::<Stamp>();
     ext_walk::laws::one_end::<Stamp>();

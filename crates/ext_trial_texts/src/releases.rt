@@ -6,29 +6,8 @@ use ext_release::{Release, ReleaseErr, read_release};
 use ext_text::{Arch, Class, Extension, Lines, Scope, Text};
 use std::alloc::Global;
 
-/// What a word of this file writes.
-///
-/// # Errors
-/// `Unreadable` where the arguments are no arguments of the word, and `OutOfMemory`.
-pub(crate) fn reply(
-    alloc: Global,
-    word: &str,
-    asked: &[u8],
-    rest: &[Text],
-) -> Result<Option<Text>, Trouble> {
-    match (word, asked) {
-        ("release", b"read") => Ok(Some(read(alloc, rest)?)),
-        ("release", b"value") => Ok(Some(value(alloc, rest)?)),
-        ("release", b"words") => Ok(Some(words(alloc, rest)?)),
-        ("release", b"has") => Ok(Some(has(alloc, rest)?)),
-        ("verdict", b"of") => Ok(Some(verdict(alloc, rest, false)?)),
-        ("verdict", b"forced") => Ok(Some(verdict(alloc, rest, true)?)),
-        _ => Ok(None),
-    }
-}
-
 // `release read FILE`: `sound`, or the first faulty line.
-fn read(alloc: Global, rest: &[Text]) -> Result<Text, Trouble> {
+pub(crate) fn read(alloc: Global, rest: &[Text]) -> Result<Text, Trouble> {
     match read_release(alloc, one(rest)?.bytes()) {
         Ok(_release) => line_of(alloc, "sound"),
         Err(ReleaseErr::BadRelease { line }) => fault_line(alloc, line),
@@ -46,7 +25,7 @@ fn release(alloc: Global, file: &Text) -> Result<Release, Trouble> {
 }
 
 // `release value FILE KEY`: the value of a key.
-fn value(alloc: Global, rest: &[Text]) -> Result<Text, Trouble> {
+pub(crate) fn value(alloc: Global, rest: &[Text]) -> Result<Text, Trouble> {
     let (file, key) = two(rest)?;
     let release = release(alloc, file)?;
     match release.value(string(key)?) {
@@ -56,7 +35,7 @@ fn value(alloc: Global, rest: &[Text]) -> Result<Text, Trouble> {
 }
 
 // `release words FILE KEY`: a line of each word of a key's value.
-fn words(alloc: Global, rest: &[Text]) -> Result<Text, Trouble> {
+pub(crate) fn words(alloc: Global, rest: &[Text]) -> Result<Text, Trouble> {
     let (file, key) = two(rest)?;
     let words = release(alloc, file)?.words(string(key)?)?;
     lines(alloc, &words)
@@ -72,14 +51,14 @@ fn lines(alloc: Global, words: &Lines) -> Result<Text, Trouble> {
 }
 
 // `release has FILE KEY WORD`: whether it is a word of the key's value.
-fn has(alloc: Global, rest: &[Text]) -> Result<Text, Trouble> {
+pub(crate) fn has(alloc: Global, rest: &[Text]) -> Result<Text, Trouble> {
     let (file, key, word) = three(rest)?;
     let release = release(alloc, file)?;
     yes_or_no(alloc, release.has_word(string(key)?, string(word)?))
 }
 
 // `verdict of|forced CLASS SCOPE ARCH HOST EXTENSION`: the verdict on the extension of that release file.
-fn verdict(alloc: Global, rest: &[Text], force: bool) -> Result<Text, Trouble> {
+pub(crate) fn verdict(alloc: Global, rest: &[Text], force: bool) -> Result<Text, Trouble> {
     let (class, scope, arch, host, extension) = five(rest)?;
     let (class, scope, arch) = (extension_of(class)?, scope_of(scope)?, arch_of(arch)?);
     let host = release(alloc, host)?;

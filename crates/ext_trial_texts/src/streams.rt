@@ -10,26 +10,6 @@ use ext_io::{
 use ext_text::Text;
 use std::alloc::Global;
 
-/// What a word of this file writes.
-///
-/// # Errors
-/// `Unreadable` where the arguments are no arguments of the word, and `OutOfMemory`.
-pub(crate) fn reply(
-    alloc: Global,
-    word: &str,
-    asked: &[u8],
-    rest: &[Text],
-) -> Result<Option<Text>, Trouble> {
-    match (word, asked) {
-        ("source", b"read") => Ok(Some(read_source(alloc, rest)?)),
-        ("sink", b"write") => Ok(Some(write_sink(alloc, rest)?)),
-        ("reader", b"read") => Ok(Some(read_reader(alloc, rest)?)),
-        ("writer", b"write") => Ok(Some(write_writer(alloc, rest)?)),
-        ("writer", b"vector") => Ok(Some(write_vector(alloc, rest)?)),
-        _ => Ok(None),
-    }
-}
-
 // The calls of these numbers.
 fn calls(alloc: Global, rest: &[Text]) -> Result<Calls, Trouble> {
     let mut calls = Calls::new(alloc);
@@ -52,7 +32,7 @@ fn piece_of(argument: &Text) -> Result<usize, Trouble>
 
 // `source read TEXT PIECE MOST CALL..`: what is read of a source of the text, at most so many bytes a call and so many in
 // all, where these calls fail; and then what a second reading finds.
-fn read_source(alloc: Global, rest: &[Text]) -> Result<Text, Trouble> {
+pub(crate) fn read_source(alloc: Global, rest: &[Text]) -> Result<Text, Trouble> {
     let [text, piece, most, fails @ ..] = rest else {
         return Err(Trouble::Unreadable("a text, a piece and a limit are wanted"));
     };
@@ -81,7 +61,7 @@ fn unread(refusal: ReadErr) -> Result<&'static str, Trouble> {
 
 // `sink write TEXT PIECE CALL..`: what comes of writing the text to a sink that takes at most so many bytes a call, where
 // these calls fail; and then what was written.
-fn write_sink(alloc: Global, rest: &[Text]) -> Result<Text, Trouble> {
+pub(crate) fn write_sink(alloc: Global, rest: &[Text]) -> Result<Text, Trouble> {
     let [text, piece, fails @ ..] = rest else {
         return Err(Trouble::Unreadable("a text and a piece are wanted"));
     };
@@ -113,7 +93,7 @@ fn outcome_word(outcome: Result<(), Failed>) -> &'static str {
 
 // `reader read INTERRUPTS COUNT MOST`: how many bytes are read of a reader of std that is interrupted so many times and
 // then gives so many bytes once, at most so many in all.
-fn read_reader(alloc: Global, rest: &[Text]) -> Result<Text, Trouble> {
+pub(crate) fn read_reader(alloc: Global, rest: &[Text]) -> Result<Text, Trouble> {
     let (interrupts, count, most) = three(rest)?;
     let device = Device::new(small(interrupts)?, size(count)?, true);
     match read_to_end(alloc, &mut StdSource::new(device), small(most)? as usize) {
@@ -124,7 +104,7 @@ fn read_reader(alloc: Global, rest: &[Text]) -> Result<Text, Trouble> {
 
 // `writer write INTERRUPTS COUNT FLUSHES TEXT`: what comes of writing the text to a writer of std that is interrupted so
 // many times, takes so many bytes at each write, and is flushed or fails to be.
-fn write_writer(alloc: Global, rest: &[Text]) -> Result<Text, Trouble> {
+pub(crate) fn write_writer(alloc: Global, rest: &[Text]) -> Result<Text, Trouble> {
     let (interrupts, count, flushes, text) = four(rest)?;
     let device = Device::new(small(interrupts)?, size(count)?, flag(flushes)?);
     let outcome = write_all(&mut StdSink::new(device), text.bytes());
@@ -132,7 +112,7 @@ fn write_writer(alloc: Global, rest: &[Text]) -> Result<Text, Trouble> {
 }
 
 // `writer vector TEXT`: what comes of writing the text to a vector, and then what was written.
-fn write_vector(alloc: Global, rest: &[Text]) -> Result<Text, Trouble> {
+pub(crate) fn write_vector(alloc: Global, rest: &[Text]) -> Result<Text, Trouble> {
     let mut written = Vec::new(alloc);
     let outcome = write_all(&mut StdSink::new(&mut written), one(rest)?.bytes());
     with_written(alloc, outcome, written.as_slice())

@@ -6,26 +6,9 @@ use ext_text::{Mode, Path, Text};
 use ext_tree::{Entry, Stamp, TreeTextErr, append_line, entry_of_line, read_tree, read_trees};
 use std::alloc::Global;
 
-/// What a word of this file writes.
-///
-/// # Errors
-/// `Unreadable` where the arguments are no arguments of the word, and `OutOfMemory`.
-pub(crate) fn reply(
-    alloc: Global,
-    word: &str,
-    asked: &[u8],
-    rest: &[Text],
-) -> Result<Option<Text>, Trouble> {
-    match (word, asked) {
-        ("entry", b"read") => Ok(Some(read_entry(alloc, rest)?)),
-        ("trees", b"read") => Ok(Some(read_sequence(alloc, rest)?)),
-        _ => Ok(None),
-    }
-}
-
 // `entry read WORD..`: the entry of the line of these words, a space between each two: its path, what it is, and its
 // line again.
-fn read_entry(alloc: Global, rest: &[Text]) -> Result<Text, Trouble> {
+pub(crate) fn read_entry(alloc: Global, rest: &[Text]) -> Result<Text, Trouble> {
     let line = joined(alloc, rest)?;
     match entry_of_line::<Stamp>(alloc, line.bytes())? {
         None => line_of(alloc, "no entry"),
@@ -100,7 +83,7 @@ pub(crate) fn read_one(alloc: Global, rest: &[Text]) -> Result<Text, Trouble> {
 }
 
 // `trees read PART..`: how many trees a sequence has, or its first faulty line.
-fn read_sequence(alloc: Global, rest: &[Text]) -> Result<Text, Trouble> {
+pub(crate) fn read_sequence(alloc: Global, rest: &[Text]) -> Result<Text, Trouble> {
     match read_trees(alloc, concatenated(alloc, rest)?.bytes()) {
         Ok(trees) => count_line(alloc, "trees", trees.as_slice().len() as u64),
         Err(refusal) => refused(alloc, refusal),

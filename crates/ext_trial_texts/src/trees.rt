@@ -13,34 +13,28 @@ use std::alloc::Global;
 /// # Errors
 /// `Unreadable` where the arguments are no arguments of the word, and `OutOfMemory`.
 pub(crate) fn reply(alloc: Global, asked: &[u8], rest: &[Text]) -> Result<Option<Text>, Trouble> {
-    match asked {
-        b"read" => Ok(Some(read_one(alloc, rest)?)),
-        b"new" => Ok(Some(new(alloc, rest)?)),
-        b"write" => Ok(Some(write(alloc, rest)?)),
-        b"entries" => Ok(Some(entries(alloc, rest)?)),
-        b"copies" => Ok(Some(copies(alloc, rest)?)),
-        b"count" => Ok(Some(count(alloc, rest)?)),
-        b"at" => Ok(Some(at(alloc, rest)?)),
-        b"has" => Ok(Some(has(alloc, rest)?)),
-        _ => reply_of_parts(alloc, asked, rest),
-    }
-}
-
-// The same for what asks for parts of trees and changes them.
-fn reply_of_parts(alloc: Global, asked: &[u8], rest: &[Text]) -> Result<Option<Text>, Trouble> {
-    match asked {
-        b"insert" => Ok(Some(insert(alloc, rest)?)),
-        b"graft" => Ok(Some(graft(alloc, rest)?)),
-        b"cut" => Ok(Some(cut(alloc, rest)?)),
-        b"cut-all" => Ok(Some(cut_all(alloc, rest)?)),
-        b"part" => Ok(Some(part(alloc, rest)?)),
-        b"below" => Ok(Some(below(alloc, rest)?)),
-        b"named" => Ok(Some(named(alloc, rest)?)),
-        b"after" => Ok(Some(after_of(alloc, rest)?)),
-        b"child" => Ok(Some(child(alloc, rest)?)),
-        b"directory" => Ok(Some(is_directory(alloc, rest)?)),
-        _ => Ok(None),
-    }
+    let text = match asked {
+        b"read" => read_one(alloc, rest)?,
+        b"new" => new(alloc, rest)?,
+        b"write" => write(alloc, rest)?,
+        b"entries" => entries(alloc, rest)?,
+        b"copies" => copies(alloc, rest)?,
+        b"count" => count(alloc, rest)?,
+        b"at" => at(alloc, rest)?,
+        b"has" => has(alloc, rest)?,
+        b"insert" => insert(alloc, rest)?,
+        b"graft" => graft(alloc, rest)?,
+        b"cut" => cut(alloc, rest)?,
+        b"cut-all" => cut_all(alloc, rest)?,
+        b"part" => part(alloc, rest)?,
+        b"below" => below(alloc, rest)?,
+        b"named" => named(alloc, rest)?,
+        b"after" => after_of(alloc, rest)?,
+        b"child" => child(alloc, rest)?,
+        b"directory" => is_directory(alloc, rest)?,
+        _ => return Ok(None),
+    };
+    Ok(Some(text))
 }
 
 // `tree new`: the text of a tree without entries.

@@ -9,37 +9,14 @@ use std::alloc::Global;
 // A mode has so many octal digits at most.
 const MOST_DIGITS: usize = 4;
 
-/// What a word of this file writes.
-///
-/// # Errors
-/// `Unreadable` where the arguments are no arguments of the word, and `OutOfMemory`.
-pub(crate) fn reply(
-    alloc: Global,
-    word: &str,
-    asked: &[u8],
-    rest: &[Text],
-) -> Result<Option<Text>, Trouble> {
-    match (word, asked) {
-        ("digest", b"of") => Ok(Some(digest_of(alloc, rest)?)),
-        ("digest", b"read") => Ok(Some(read_digest(alloc, rest)?)),
-        ("mode", b"new") => Ok(Some(new_mode(alloc, rest)?)),
-        ("arch", b"read") => Ok(Some(read_arch(alloc, rest)?)),
-        ("scope", b"read") => Ok(Some(read_scope(alloc, rest)?)),
-        ("class", b"read") => Ok(Some(read_class(alloc, rest)?)),
-        ("memory", b"same") => Ok(Some(is_same(alloc, rest)?)),
-        ("memory", b"tree") => Ok(Some(of_tree(alloc, rest)?)),
-        _ => Ok(None),
-    }
-}
-
 // `digest of BYTES`: the digits of the digest of these bytes.
-fn digest_of(alloc: Global, rest: &[Text]) -> Result<Text, Trouble> {
+pub(crate) fn digest_of(alloc: Global, rest: &[Text]) -> Result<Text, Trouble> {
     let digest = Digest::of(one(rest)?.bytes());
     bytes_line(alloc, &digest.digits())
 }
 
 // `digest read TEXT`: the digits of the digest that a text writes.
-fn read_digest(alloc: Global, rest: &[Text]) -> Result<Text, Trouble> {
+pub(crate) fn read_digest(alloc: Global, rest: &[Text]) -> Result<Text, Trouble> {
     match Digest::read(one(rest)?.bytes()) {
         Some(digest) => bytes_line(alloc, &digest.digits()),
         None => line_of(alloc, "none"),
@@ -47,7 +24,7 @@ fn read_digest(alloc: Global, rest: &[Text]) -> Result<Text, Trouble> {
 }
 
 // `mode new BITS`: the mode of these bits, which are octal digits.
-fn new_mode(alloc: Global, rest: &[Text]) -> Result<Text, Trouble> {
+pub(crate) fn new_mode(alloc: Global, rest: &[Text]) -> Result<Text, Trouble> {
     match read_octal(one(rest)?.bytes(), 65_535) {
         None => Err(Trouble::Unreadable("not an octal number below 200000")),
         Some(bits) => mode_line(alloc, Mode::new(bits as u16)),
@@ -65,7 +42,7 @@ fn mode_line(alloc: Global, mode: Option<Mode>) -> Result<Text, Trouble> {
 }
 
 // `arch read TEXT`: the architecture of this name, as the program's source calls it, and its name.
-fn read_arch(alloc: Global, rest: &[Text]) -> Result<Text, Trouble> {
+pub(crate) fn read_arch(alloc: Global, rest: &[Text]) -> Result<Text, Trouble> {
     match Arch::read(one(rest)?.bytes()) {
         Some(arch) => kind_line(format!(in alloc; "{arch:?}")?, arch.name()),
         None => line_of(alloc, "none"),
@@ -73,7 +50,7 @@ fn read_arch(alloc: Global, rest: &[Text]) -> Result<Text, Trouble> {
 }
 
 // `scope read TEXT`: the scope of this name, in the same way.
-fn read_scope(alloc: Global, rest: &[Text]) -> Result<Text, Trouble> {
+pub(crate) fn read_scope(alloc: Global, rest: &[Text]) -> Result<Text, Trouble> {
     match Scope::read(one(rest)?.bytes()) {
         Some(scope) => kind_line(format!(in alloc; "{scope:?}")?, scope.name()),
         None => line_of(alloc, "none"),
@@ -81,7 +58,7 @@ fn read_scope(alloc: Global, rest: &[Text]) -> Result<Text, Trouble> {
 }
 
 // `class read TEXT`: the class of this name, in the same way.
-fn read_class(alloc: Global, rest: &[Text]) -> Result<Text, Trouble> {
+pub(crate) fn read_class(alloc: Global, rest: &[Text]) -> Result<Text, Trouble> {
     match Class::read(one(rest)?.bytes()) {
         Some(class) => kind_line(format!(in alloc; "{class:?}")?, class.name()),
         None => line_of(alloc, "none"),
@@ -97,13 +74,13 @@ fn kind_line(kind: String, name: &str) -> Result<Text, Trouble> {
 }
 
 // `memory same`: whether two refusals for want of memory are equal.
-fn is_same(alloc: Global, rest: &[Text]) -> Result<Text, Trouble> {
+pub(crate) fn is_same(alloc: Global, rest: &[Text]) -> Result<Text, Trouble> {
     none(rest)?;
     yes_or_no(alloc, OutOfMemory == OutOfMemory)
 }
 
 // `memory tree`: whether a tree refuses for want of memory where memory was wanting.
-fn of_tree(alloc: Global, rest: &[Text]) -> Result<Text, Trouble> {
+pub(crate) fn of_tree(alloc: Global, rest: &[Text]) -> Result<Text, Trouble> {
     none(rest)?;
     yes_or_no(alloc, TreeErr::from(OutOfMemory) == TreeErr::OutOfMemory)
 }

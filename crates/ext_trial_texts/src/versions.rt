@@ -7,35 +7,25 @@ use ext_vers::{Version, compare, is_version, order};
 use std::alloc::Global;
 use std::cmp::Ordering;
 
-/// What the word writes.
-///
-/// # Errors
-/// `Unreadable` where the arguments are no arguments of the word, and `OutOfMemory`.
-pub(crate) fn reply(alloc: Global, asked: &[u8], rest: &[Text]) -> Result<Option<Text>, Trouble> {
-    match asked {
-        b"is" => Ok(Some(yes_or_no(alloc, is_version(one(rest)?.bytes()))?)),
-        b"compare" => Ok(Some(by_tokens(alloc, rest)?)),
-        b"order" => Ok(Some(by_bytes_too(alloc, rest)?)),
-        b"ascending" => Ok(Some(ascending(alloc, rest)?)),
-        b"sorted" => Ok(Some(sorted(alloc, rest)?)),
-        _ => Ok(None),
-    }
+// `version is TEXT`: whether a text is a version.
+pub(crate) fn is(alloc: Global, rest: &[Text]) -> Result<Text, Trouble> {
+    yes_or_no(alloc, is_version(one(rest)?.bytes()))
 }
 
 // `version compare TEXT TEXT`: their order by tokens.
-fn by_tokens(alloc: Global, rest: &[Text]) -> Result<Text, Trouble> {
+pub(crate) fn by_tokens(alloc: Global, rest: &[Text]) -> Result<Text, Trouble> {
     let (first, second) = two(rest)?;
     line_of(alloc, order_word(compare(first.bytes(), second.bytes())))
 }
 
 // `version order TEXT TEXT`: the same, equal ones by their bytes.
-fn by_bytes_too(alloc: Global, rest: &[Text]) -> Result<Text, Trouble> {
+pub(crate) fn by_bytes_too(alloc: Global, rest: &[Text]) -> Result<Text, Trouble> {
     let (first, second) = two(rest)?;
     line_of(alloc, order_word(order(first.bytes(), second.bytes())))
 }
 
 // `version sorted TEXT..`: the texts in the order of versions, each once, each on a line.
-fn sorted(alloc: Global, rest: &[Text]) -> Result<Text, Trouble> {
+pub(crate) fn sorted(alloc: Global, rest: &[Text]) -> Result<Text, Trouble> {
     let mut versions = Vec::new(alloc);
     for argument in rest {
         versions.push(Version::new(argument.copy()?))?;
@@ -56,7 +46,7 @@ fn lines_of(alloc: Global, versions: Vec<Version>) -> Result<Text, Trouble> {
 
 // `version ascending RUNGS..`: whether the texts of each line are below those of each later line, and those of one line,
 // parted by `=`, are equal: by tokens, and where they are equal in their bytes' order.
-fn ascending(alloc: Global, rest: &[Text]) -> Result<Text, Trouble> {
+pub(crate) fn ascending(alloc: Global, rest: &[Text]) -> Result<Text, Trouble> {
     let rungs = rungs(alloc, rest)?;
     match first_wrong(rungs.as_slice()) {
         None => line_of(alloc, "yes"),

@@ -6,19 +6,6 @@ use ext_tree::{Stamp, Tree};
 use ext_walk::{end_of_path, end_of_text, resolve};
 use std::alloc::Global;
 
-/// What the word writes.
-///
-/// # Errors
-/// `Unreadable` where the arguments are no arguments of the word, and `OutOfMemory`.
-pub(crate) fn reply(alloc: Global, asked: &[u8], rest: &[Text]) -> Result<Option<Text>, Trouble> {
-    match asked {
-        b"text" => Ok(Some(along_text(alloc, rest)?)),
-        b"path" => Ok(Some(along_path(alloc, rest)?)),
-        b"resolve" => Ok(Some(from_root(alloc, rest)?)),
-        _ => Ok(None),
-    }
-}
-
 // The path of an end, or `none`.
 fn end_line(alloc: Global, end: Option<PathRef>) -> Result<Text, Trouble> {
     match end {
@@ -28,7 +15,7 @@ fn end_line(alloc: Global, end: Option<PathRef>) -> Result<Text, Trouble> {
 }
 
 // `walk text TREE IMAGE TEXT`: where the walk along a text's parts ends, inside the image at a path.
-fn along_text(alloc: Global, rest: &[Text]) -> Result<Text, Trouble> {
+pub(crate) fn along_text(alloc: Global, rest: &[Text]) -> Result<Text, Trouble> {
     let (host, image, text) = three(rest)?;
     let host = tree(alloc, host)?;
     let image = path(alloc, image)?;
@@ -44,7 +31,7 @@ fn text_end(alloc: Global, host: &Tree<Stamp>, image: &Path, text: &Text) -> Res
 }
 
 // `walk path TREE IMAGE PATH`: where the walk along a path's names ends, inside the image at a path.
-fn along_path(alloc: Global, rest: &[Text]) -> Result<Text, Trouble> {
+pub(crate) fn along_path(alloc: Global, rest: &[Text]) -> Result<Text, Trouble> {
     let (host, image, along) = three(rest)?;
     let host = tree(alloc, host)?;
     let image = path(alloc, image)?;
@@ -56,7 +43,7 @@ fn along_path(alloc: Global, rest: &[Text]) -> Result<Text, Trouble> {
 }
 
 // `walk resolve TREE PATH`: where the walk along a path from the root ends.
-fn from_root(alloc: Global, rest: &[Text]) -> Result<Text, Trouble> {
+pub(crate) fn from_root(alloc: Global, rest: &[Text]) -> Result<Text, Trouble> {
     let (host, along) = two(rest)?;
     let host = tree(alloc, host)?;
     match resolve(alloc, &host, &path(alloc, along)?)? {

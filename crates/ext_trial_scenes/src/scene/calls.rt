@@ -1,15 +1,14 @@
 // Calls of the disk of a scene, and what a stop would leave of it.
 use super::Scene;
 use crate::acts::Act;
-use crate::disk_calls::call_text;
 use crate::ends::prepared;
 use crate::every::depot_of;
-use crate::looking::whole_text;
 use crate::words::words_of;
 use ext_case::Trouble;
 use ext_disk::Pick;
 use ext_io::Calls;
 use ext_text::Text;
+use ext_trial_disks::{call_text, whole_text};
 use std::alloc::Global;
 
 impl Scene {

@@ -1,10 +1,10 @@
 // Commands and changes over the devices of a scene.
 use super::Scene;
 use crate::acts::{Act, act_on};
-use crate::outcome::Outcome;
 use crate::streams::run_over;
 use ext_case::Trouble;
 use ext_text::Words;
+use ext_trial_disks::Outcome;
 use std::alloc::Global;
 use std::mem;
 

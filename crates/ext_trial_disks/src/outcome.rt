@@ -2,7 +2,6 @@
 use ext_case::{Trouble, append_number, append_str};
 use ext_host::Damage;
 use ext_text::Text;
-use ext_top::{BadStore, Status};
 use ext_tree::Stamp;
 use std::alloc::Global;
 
@@ -17,42 +16,13 @@ pub struct Outcome {
 
 impl Outcome {
     /// Whether both ended so, and wrote so.
-    pub(crate) fn is_same(&self, other: &Outcome) -> bool {
+    pub fn is_same(&self, other: &Outcome) -> bool {
         self.status.bytes() == other.status.bytes() && self.reply.bytes() == other.reply.bytes()
     }
 
     /// Whether it ended with this status, which tells nothing beside its number.
-    pub(crate) fn is_status(&self, status: &str) -> bool {
+    pub fn is_status(&self, status: &str) -> bool {
         self.status.bytes() == status.as_bytes()
-    }
-}
-
-/// A status as a statement states it: its number, of words that are no command with the place of the fault, and of a bad
-/// store with what is wrong.
-///
-/// # Errors
-/// `OutOfMemory`.
-pub(crate) fn status_text(alloc: Global, status: &Status) -> Result<Text, Trouble> {
-    let mut text = Text::new(alloc);
-    append_number(alloc, &mut text, u64::from(status.number()))?;
-    match status {
-        Status::Usage { place } => append_field(alloc, &mut text, *place)?,
-        Status::BadStore(bad) => append_bad_store(alloc, &mut text, bad)?,
-        _ => {}
-    }
-    Ok(text)
-}
-
-fn append_bad_store(alloc: Global, text: &mut Text, bad: &BadStore) -> Result<(), Trouble> {
-    match bad {
-        BadStore::Broken { line } => {
-            append_str(text, " broken")?;
-            append_field(alloc, text, *line)
-        }
-        BadStore::Damaged(damage) => {
-            append_str(text, " ")?;
-            append_damage(alloc, text, damage)
-        }
     }
 }
 
@@ -60,11 +30,7 @@ fn append_bad_store(alloc: Global, text: &mut Text, bad: &BadStore) -> Result<()
 ///
 /// # Errors
 /// `OutOfMemory`.
-pub(crate) fn append_damage(
-    alloc: Global,
-    text: &mut Text,
-    damage: &Damage,
-) -> Result<(), Trouble> {
+pub fn append_damage(alloc: Global, text: &mut Text, damage: &Damage) -> Result<(), Trouble> {
     append_str(text, "damaged")?;
     append_field(alloc, text, u64::from(damage.home.generation))?;
     append_field(alloc, text, u64::from(damage.home.file))?;
@@ -90,7 +56,7 @@ pub(crate) fn append_stamp(alloc: Global, text: &mut Text, stamp: &Stamp) -> Res
 ///
 /// # Errors
 /// `OutOfMemory`.
-pub(crate) fn append_field(alloc: Global, text: &mut Text, number: u64) -> Result<(), Trouble> {
+pub fn append_field(alloc: Global, text: &mut Text, number: u64) -> Result<(), Trouble> {
     append_str(text, " ")?;
     append_number(alloc, text, number)
 }

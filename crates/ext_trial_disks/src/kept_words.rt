@@ -38,7 +38,7 @@ fn sized(alloc: Global, word: &str, size: u64) -> Result<Text, Trouble> {
 ///
 /// # Errors
 /// `Unreadable` where something stands at the path, and `OutOfMemory`.
-pub(crate) fn copy(
+pub fn copy(
     alloc: Global,
     disk: &mut MemoryDisk,
     depot: &mut MemoryDepot,
@@ -100,7 +100,7 @@ fn home(generation: &Text, number: &Text) -> Result<Home, Trouble>
 ///
 /// # Errors
 /// `Unreadable` where there is no such file, and `OutOfMemory`.
-pub(crate) fn compare(
+pub fn compare(
     alloc: Global,
     disk: &mut MemoryDisk,
     depot: &mut MemoryDepot,
@@ -133,11 +133,7 @@ fn compare_err(alloc: Global, refused: &CompareErr) -> Result<Text, Trouble> {
 ///
 /// # Errors
 /// `Unreadable` where there is no such file, and `OutOfMemory`.
-pub(crate) fn give(
-    alloc: Global,
-    disk: &mut MemoryDisk,
-    arguments: &[Text],
-) -> Result<Text, Trouble> {
+pub fn give(alloc: Global, disk: &mut MemoryDisk, arguments: &[Text]) -> Result<Text, Trouble> {
     let (generation, number, bytes) = three(arguments)?;
     let held = Held::kept(listed(bytes)?, home(generation, number)?);
     let mut text = Text::new(alloc);
@@ -182,7 +178,7 @@ fn append_verified(text: &mut Text, verified: Result<(), ShelfErr>) -> Result<()
 ///
 /// # Errors
 /// `Unreadable` where there is no such file or no such place, and `OutOfMemory`.
-pub(crate) fn give_piece(
+pub fn give_piece(
     alloc: Global,
     disk: &mut MemoryDisk,
     arguments: &[Text],

@@ -2,8 +2,8 @@ use Rattle.std.proofs.Common.{◌∙◌, sym, ap}
 use Rattle.std.proofs.lemmas.Bool.{false≢true}
 use Rattle.std.specs.Ordering.{is_eq}
 use Rattle.ext_text.proofs.ForCallers.{tied_path}
-use Rattle.ext_trial_scenes.proofs.DiskCallsLemmas.{can_rename}
-use Rattle.ext_trial_scenes.proofs.disk_calls.may_rename.Goals as goal
+use Rattle.ext_trial_disks.proofs.DiskCallsLemmas.{can_rename}
+use Rattle.ext_trial_disks.proofs.disk_calls.may_rename.Goals as goal
 
 pub returns-then-is_file_kind : goal.returns-then-is_file_kind
 returns-then-is_file_kind g c = λ free.

@@ -65,7 +65,7 @@ pub(crate) fn is_free<D: Disk>(
 ///
 /// # Errors
 /// `Unreadable` where something does, or the disk fails, and `OutOfMemory`.
-pub(crate) fn put_folder(alloc: Global, disk: &mut MemoryDisk, at: &Text) -> Result<(), Trouble> {
+pub fn put_folder(alloc: Global, disk: &mut MemoryDisk, at: &Text) -> Result<(), Trouble> {
     let (dir, name) = cut(alloc, at.bytes())?;
     let path = below(&dir, &name)?;
     placed(folder_where_free(disk, &dir, &name, &path))
@@ -99,7 +99,7 @@ fn placed(outcome: Result<bool, Failed>) -> Result<(), Trouble> {
 ///
 /// # Errors
 /// `Unreadable` where something does, or the disk fails, and `OutOfMemory`.
-pub(crate) fn put_file(
+pub fn put_file(
     alloc: Global,
     disk: &mut MemoryDisk,
     at: &Text,
@@ -130,7 +130,7 @@ fn file_where_free<D: Disk>(
 ///
 /// # Errors
 /// `Unreadable` where something stands at one of them, or the disk fails, and `OutOfMemory`.
-pub(crate) fn put_files(
+pub fn put_files(
     alloc: Global,
     disk: &mut MemoryDisk,
     dir: &Text,
@@ -169,7 +169,7 @@ fn empty_where_free<D: Disk>(
 ///
 /// # Errors
 /// `Unreadable` where the disk fails, and `OutOfMemory`.
-pub(crate) fn sync(alloc: Global, disk: &mut MemoryDisk, dir: &Text) -> Result<(), Trouble> {
+pub fn sync(alloc: Global, disk: &mut MemoryDisk, dir: &Text) -> Result<(), Trouble> {
     let dir = path(alloc, dir)?;
     told(sync_there(disk, &dir))
 }

@@ -18,7 +18,7 @@ use std::alloc::Global;
 ///
 /// # Errors
 /// `Unreadable` where they are none, and `OutOfMemory`.
-pub(crate) fn change_of(alloc: Global, arguments: &[Text]) -> Result<Change, Trouble> {
+pub fn change_of(alloc: Global, arguments: &[Text]) -> Result<Change, Trouble> {
     let (kind, rest) = one_and_more(arguments)?;
     match string(kind)? {
         "keep" => {
@@ -82,7 +82,7 @@ fn files_of(alloc: Global, arguments: &[Text]) -> Result<Vec<(Path, Text)>, Trou
 ///
 /// # Errors
 /// `Unreadable` where the change makes no plan, and `OutOfMemory`.
-pub(crate) fn carry_change(
+pub fn carry_change(
     alloc: Global,
     disk: &mut MemoryDisk,
     depot: &mut MemoryDepot,
@@ -117,7 +117,7 @@ fn number_of(refused: &StoreErr) -> &'static str {
 ///
 /// # Errors
 /// `OutOfMemory`.
-pub(crate) fn refusal_text(alloc: Global, refused: &StoreErr) -> Result<Text, Trouble> {
+pub fn refusal_text(alloc: Global, refused: &StoreErr) -> Result<Text, Trouble> {
     let mut text = Text::new(alloc);
     append_refusal(alloc, &mut text, refused)?;
     append_line(&mut text, b"")?;
@@ -174,7 +174,7 @@ fn append_file_refusal(alloc: Global, text: &mut Text, refused: &StoreErr) -> Re
 ///
 /// # Errors
 /// `OutOfMemory`.
-pub(crate) fn standing_text(alloc: Global, disk: &mut MemoryDisk) -> Result<Text, Trouble> {
+pub fn standing_text(alloc: Global, disk: &mut MemoryDisk) -> Result<Text, Trouble> {
     match stands_for(alloc, disk) {
         Ok(found) => found_text(alloc, &found),
         Err(refused) => refusal_text(alloc, &refused),

@@ -11,11 +11,7 @@ use std::alloc::Global;
 ///
 /// # Errors
 /// `Unreadable` where it is no path, and `OutOfMemory`.
-pub(crate) fn size_text(
-    alloc: Global,
-    depot: &mut MemoryDepot,
-    at: &Text,
-) -> Result<Text, Trouble> {
+pub fn size_text(alloc: Global, depot: &mut MemoryDepot, at: &Text) -> Result<Text, Trouble> {
     match depot.size(&path(alloc, at)?) {
         Ok(Some(size)) => number_line(alloc, size),
         Ok(None) => line_of(alloc, "nothing"),
@@ -27,7 +23,7 @@ pub(crate) fn size_text(
 ///
 /// # Errors
 /// `Unreadable` where the arguments are others or there is no room, and `OutOfMemory`.
-pub(crate) fn read_text(
+pub fn read_text(
     alloc: Global,
     depot: &mut MemoryDepot,
     arguments: &[Text],

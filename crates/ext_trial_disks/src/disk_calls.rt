@@ -23,7 +23,7 @@ use std::alloc::Global;
 ///
 /// # Errors
 /// `Unreadable` where it is no call, and `OutOfMemory`.
-pub(crate) fn call_text(
+pub fn call_text(
     alloc: Global,
     disk: &mut MemoryDisk,
     arguments: &[Text],

@@ -15,7 +15,7 @@ use std::collections::BTreeSet;
 ///
 /// # Errors
 /// `OutOfMemory`.
-pub(crate) fn current_text(alloc: Global, arguments: &[Text]) -> Result<Text, Trouble> {
+pub fn current_text(alloc: Global, arguments: &[Text]) -> Result<Text, Trouble> {
     match read_current(one(arguments)?.bytes()) {
         Some(generation) => number_line(alloc, u64::from(generation)),
         None => line_of(alloc, "none"),
@@ -26,7 +26,7 @@ pub(crate) fn current_text(alloc: Global, arguments: &[Text]) -> Result<Text, Tr
 ///
 /// # Errors
 /// `Unreadable` where there is no such file, and `OutOfMemory`.
-pub(crate) fn paths_text(alloc: Global, arguments: &[Text]) -> Result<Text, Trouble> {
+pub fn paths_text(alloc: Global, arguments: &[Text]) -> Result<Text, Trouble> {
     let (generation, file) = two(arguments)?;
     let (generation, file) = (small(generation)?, small(file)?);
     let mut text = Text::new(alloc);
@@ -60,7 +60,7 @@ fn needed_of(alloc: Global, arguments: &[Text]) -> Result<BTreeSet<u32>, Trouble
 ///
 /// # Errors
 /// `Unreadable` where these are none, and `OutOfMemory`.
-pub(crate) fn left_over_text(alloc: Global, arguments: &[Text]) -> Result<Text, Trouble> {
+pub fn left_over_text(alloc: Global, arguments: &[Text]) -> Result<Text, Trouble> {
     let (name, needed) = one_and_more(arguments)?;
     let needed = needed_of(alloc, needed)?;
     line_of(
@@ -77,11 +77,7 @@ pub(crate) fn left_over_text(alloc: Global, arguments: &[Text]) -> Result<Text, 
 ///
 /// # Errors
 /// `Unreadable` where these are none, and `OutOfMemory`.
-pub(crate) fn clean(
-    alloc: Global,
-    disk: &mut MemoryDisk,
-    arguments: &[Text],
-) -> Result<Text, Trouble> {
+pub fn clean(alloc: Global, disk: &mut MemoryDisk, arguments: &[Text]) -> Result<Text, Trouble> {
     let needed = needed_of(alloc, arguments)?;
     match remove_left_overs(alloc, disk, &needed) {
         Ok(()) => Ok(Text::new(alloc)),

@@ -18,7 +18,7 @@ const MOST_SHOWN: usize = 65_536;
 ///
 /// # Errors
 /// `Unreadable` where the disk fails, and `OutOfMemory`.
-pub(crate) fn kind_text(alloc: Global, disk: &mut MemoryDisk, at: &Text) -> Result<Text, Trouble> {
+pub fn kind_text(alloc: Global, disk: &mut MemoryDisk, at: &Text) -> Result<Text, Trouble> {
     let kind = told(disk.kind(&path(alloc, at)?))?;
     let mut text = Text::new(alloc);
     append_kind(alloc, &mut text, kind)?;
@@ -48,7 +48,7 @@ pub(crate) fn append_kind(
 ///
 /// # Errors
 /// `OutOfMemory`.
-pub(crate) fn file_text(
+pub fn file_text(
     alloc: Global,
     disk: &mut MemoryDisk,
     at: &Text,
@@ -67,7 +67,7 @@ pub(crate) fn file_text(
 ///
 /// # Errors
 /// `Unreadable` where the disk fails or there is too much on it, and `OutOfMemory`.
-pub(crate) fn whole_text(alloc: Global, disk: &mut MemoryDisk) -> Result<Text, Trouble> {
+pub fn whole_text(alloc: Global, disk: &mut MemoryDisk) -> Result<Text, Trouble> {
     let mut text = Text::new(alloc);
     let mut left = Vec::new(alloc);
     left.push(store_folder(alloc))?;
@@ -139,7 +139,7 @@ fn append_file(
 ///
 /// # Errors
 /// `OutOfMemory`.
-pub(crate) fn calls_text(alloc: Global, disk: &MemoryDisk, count: u64) -> Result<Text, Trouble> {
+pub fn calls_text(alloc: Global, disk: &MemoryDisk, count: u64) -> Result<Text, Trouble> {
     let mut text = Text::new(alloc);
     let first = disk.calls().saturating_sub(count);
     for index in first..=disk.calls() {
@@ -182,7 +182,7 @@ pub(crate) fn name_of(op: DiskOp) -> &'static str {
 ///
 /// # Errors
 /// `Unreadable` where it is no path, and `OutOfMemory`.
-pub(crate) fn sizes_text(
+pub fn sizes_text(
     alloc: Global,
     disk: &MemoryDisk,
     op: DiskOp,
@@ -213,7 +213,7 @@ fn append_size(alloc: Global, text: &mut Text, size: u64) -> Result<(), Trouble>
 }
 
 /// The most bytes of one call of the disk.
-pub(crate) fn most_bytes(disk: &MemoryDisk) -> u64 {
+pub fn most_bytes(disk: &MemoryDisk) -> u64 {
     let mut most = 0;
     for index in 0..disk.calls() {
         if let Some(call) = disk.call(index) {
