@@ -5,6 +5,7 @@ use Rattle.std.specs.List.{All, Any}
 use Rattle.std.specs.List.Sorted.{IsPermutation, IsSortedByKey}
 use Rattle.std.specs.Str.{bytes_eq}
 use Rattle.ext_lines.specs.ByteOrder.{bytes_cmp}
+use Rattle.ext_lines.specs.Prefix.{IsPrefix}
 use Rattle.ext_sums.specs.declared.merging.Numbered.{Numbered}
 use Rattle.ext_sums.specs.declared.merging.Standing.{Standing}
 use Rattle.ext_sums.specs.declared.merging.Standing.TheVariants.{New, Same, Other}
@@ -38,6 +39,10 @@ entries_in ns = map numbered_entry ns
 abbrev pub AreNumbered : ℕ → List Numbered → Type 0
 AreNumbered number [] = Unit {0}
 AreNumbered number (n ∷ ns) = (n.line ≡ number) × AreNumbered (suc number) ns
+
+-- each name begins with the prefix
+abbrev pub BeginWith : List ℕ → List Numbered → Type 0
+BeginWith prefix ns = All (λ n. IsPrefix prefix n.listed.name) ns
 
 -- in the order of their names
 abbrev pub AreByName : List Numbered → Type 0

@@ -8,6 +8,7 @@
 mod entry;
 mod laws;
 mod merging;
+mod prefix;
 mod reading;
 mod sums;
 

@@ -1,9 +1,10 @@
 // Entries that come line by line, put in the order of their names, each name once.
-ghost use Rattle.std.specs.Prelude.{◌≡◌, ◌-◌, length, slice_get, IfOk};
+ghost use Rattle.std.specs.Prelude.{◌≡◌, ◌-◌, drop, length, slice_get, IfOk};
 ghost use Rattle.ext_lines.specs.ByteOrder.{bytes_cmp};
 ghost use Rattle.ext_sums.specs.Merging.{AreByName, AreSortedFrom, IsMerge, least, same_or_other, standing_of};
 ghost use Rattle.ext_sums.specs.Sums.{entries_of};
 
+use crate::prefix::common_prefix;
 use crate::sums::Listed;
 use ext_lines::{OutOfMemory, allocated};
 use std::alloc::Global;
@@ -33,40 +34,29 @@ enum Standing {
     Other,
 }
 
-// The lines in the order of their names, those of one name in their own order. Lines that are in order take one look.
+// The lines in the order of their names, those of one name in their own order. Lines that are in order take one look. Many
+// names of a manifest begin alike, so what all begin with is read once, and not in each comparison.
 pub(crate) fn sorted(lines: Vec<Numbered>) -> Result<Vec<Numbered>, OutOfMemory>
     ensures { IfOk result (λ sorted. AreSortedFrom lines.items sorted.items) }
 {
+    let count = common_prefix(lines.as_slice()).len();
     let mut sorted = lines;
-    allocated(sorted.sort_by(|a, b| by_name(a, b)))?;
+    allocated(sorted.sort_by(|a, b| by_rest(a, b, count)))?;
     Ok(sorted)
 }
 
-// The order of two lines by their names.
-fn by_name(a: &Numbered, b: &Numbered) -> Ordering
-    ensures { result ≡ bytes_cmp a.now.listed.name b.now.listed.name }
+// The order of two lines by what follows so many first bytes of their names.
+fn by_rest(a: &Numbered, b: &Numbered, count: usize) -> Ordering
+    ensures { result ≡ bytes_cmp (drop count a.now.listed.name) (drop count b.now.listed.name) }
 {
-    by_bytes(a.listed.name.bytes(), b.listed.name.bytes())
+    rest_of(a, count).cmp(rest_of(b, count))
 }
 
-// The byte order of two names. Many names of a manifest begin alike, so eight bytes that are equal are passed at once.
-fn by_bytes(a: &[u8], b: &[u8]) -> Ordering
-    ensures { result ≡ bytes_cmp a.now b.now }
+// What follows so many first bytes of a name; nothing, where it has no more.
+fn rest_of(line: &Numbered, count: usize) -> &[u8]
+    ensures { result.now ≡ drop count line.now.listed.name }
 {
-    let mut x = a;
-    let mut y = b;
-    'strides: loop {
-        match (x.split_first_chunk::<8>(), y.split_first_chunk::<8>()) {
-            (Some((eight, more)), Some((other, others))) => {
-                if eight != other {
-                    return x.cmp(y);
-                }
-                x = more;
-                y = others;
-            }
-            _ => return x.cmp(y),
-        }
-    }
+    line.listed.name.bytes().get(count..).unwrap_or(&[])
 }
 
 // Each name once, and the first line that conflicts. What a name has is what its first line says: the last name so far is
