@@ -10,7 +10,7 @@ use Rattle.ext_cmd.specs.Words.{AreChosen, IsCommand, IsOptionalPath, IsWellForm
 use Rattle.ext_cmd.specs.declared.command.Chosen.{Chosen}
 use Rattle.ext_cmd.specs.declared.command.Chosen.TheVariants as chosen
 use Rattle.ext_cmd.specs.declared.command.Command.{Command}
-use Rattle.ext_cmd.specs.declared.command.Command.TheVariants.{Init, ImportFs, Remove, Sysext, Confext, Tree, Cat, Compare, Check, Layer, Migrate}
+use Rattle.ext_cmd.specs.declared.command.Command.TheVariants.{Init, ImportFs, Remove, Sysext, Confext, Tree, Cat, Compare, Check, Layer, Migrate, Batch, Sample}
 use Rattle.ext_cmd.specs.declared.command.ViewCommand.{ViewCommand}
 use Rattle.ext_cmd.specs.declared.command.ViewCommand.TheVariants as views
 use Rattle.ext_cmd.specs.declared.keyword.Keyword.{Keyword}
@@ -55,6 +55,8 @@ keyword_of text =
     else if bytes_eq text (keyword_text keywords.Check) then Some keywords.Check
     else if bytes_eq text (keyword_text keywords.Layer) then Some keywords.Layer
     else if bytes_eq text (keyword_text keywords.Migrate) then Some keywords.Migrate
+    else if bytes_eq text (keyword_text keywords.Batch) then Some keywords.Batch
+    else if bytes_eq text (keyword_text keywords.Sample) then Some keywords.Sample
     else None
 
 keyword_back : (k : Keyword) → keyword_of (keyword_text k) ≡ Some k
@@ -69,6 +71,8 @@ keyword_back keywords.Compare = refl
 keyword_back keywords.Check = refl
 keyword_back keywords.Layer = refl
 keyword_back keywords.Migrate = refl
+keyword_back keywords.Batch = refl
+keyword_back keywords.Sample = refl
 
 pub one_keyword : (k l : Keyword) → keyword_text k ≡ keyword_text l → k ≡ l
 one_keyword k l same =
@@ -124,6 +128,8 @@ heard (Compare a b) well = (keywords.Compare, refl, (tt, (tt, tt)))
 heard Check well = (keywords.Check, refl, tt)
 heard Layer well = (keywords.Layer, refl, tt)
 heard Migrate well = (keywords.Migrate, refl, tt)
+heard Batch well = (keywords.Batch, refl, tt)
+heard (Sample images) well = (keywords.Sample, refl, (record { value = images; is = well; same = refl }, tt))
 
 -- the words that a verb takes are those of a view command
 record View (words : List (List ℕ)) : Type 0 where
@@ -161,7 +167,7 @@ chosen_said (word ∷ next ∷ []) takes =
     record { hierarchies = chosen.Both takes.0 others.value; are = (takes.1, others.is.hierarchies, others.is.apart); same = cc (takes.2, others.same) }
 chosen_said (word ∷ next ∷ last ∷ more) takes = absurd takes.3.1
 
-said : (keyword : Keyword) (more : List (List ℕ)) → Takes keyword more → IsCommand (keyword_text keyword ∷ more)
+pub said : (keyword : Keyword) (more : List (List ℕ)) → Takes keyword more → IsCommand (keyword_text keyword ∷ more)
 said keywords.Init [] takes = absurd takes
 said keywords.Init (word ∷ []) takes = absurd takes.1
 said keywords.Init (word ∷ next ∷ more) takes =
@@ -201,8 +207,13 @@ said keywords.Layer [] takes = record { command = Layer; well_formed = tt; same 
 said keywords.Layer (word ∷ more) takes = absurd takes
 said keywords.Migrate [] takes = record { command = Migrate; well_formed = tt; same = refl }
 said keywords.Migrate (word ∷ more) takes = absurd takes
+said keywords.Batch [] takes = record { command = Batch; well_formed = tt; same = refl }
+said keywords.Batch (word ∷ more) takes = absurd takes
+said keywords.Sample [] takes = absurd takes
+said keywords.Sample (word ∷ []) takes = record { command = Sample takes.0.value; well_formed = takes.0.is; same = ap (λ (w : List ℕ). codes "sample" ∷ w ∷ []) takes.0.same }
+said keywords.Sample (word ∷ next ∷ more) takes = absurd takes.1
 
-command_heard : (words : List (List ℕ)) → IsCommand words → Chooses keyword_text Takes words
+pub command_heard : (words : List (List ℕ)) → IsCommand words → Chooses keyword_text Takes words
 command_heard words is = subst (Chooses keyword_text Takes) (sym is.same) (heard is.command is.well_formed)
 
 command_said : (words : List (List ℕ)) → Chooses keyword_text Takes words → IsCommand words

@@ -7,4 +7,5 @@ pub mod FreshLemmas
 pub mod ChosenLemmas
 pub mod OneFaultLemmas
 pub mod OneCommandLemmas
+pub mod LineLemmas
 pub mod ForCallers

@@ -1,7 +1,8 @@
 -- Words are those of one command.
-use Rattle.std.proofs.Common.{◌≡◌, ℕ, true, false, List, [], ◌∷◌, refl, sym, ap, ◌∙◌, subst, if◌then◌else◌, inl, inr}
-use Rattle.std.specs.Prelude.{◌⊎◌, Option, Some, None, Result, Ok, Err}
+use Rattle.std.proofs.Common.{◌≡◌, ℕ, true, false, List, [], ◌∷◌, refl, sym, ap, ◌∙◌, subst, arith, if◌then◌else◌, inl, inr}
+use Rattle.std.specs.Prelude.{◌⊎◌, decimal, Option, Some, None, Result, Ok, Err}
 use Rattle.std.specs.Str.{bytes_eq}
+use Rattle.std.proofs.lemmas.Fmt.{decimal_injective}
 use Rattle.ext_text.specs.Absolute.{absolute}
 use Rattle.ext_text.specs.Arch.{arch_name}
 use Rattle.ext_text.specs.declared.arch.Arch.{Arch}
@@ -14,11 +15,11 @@ use Rattle.ext_text.proofs.ForCallers.{path_injective}
 use Rattle.ext_cmd.specs.Keyword.{keyword_text}
 use Rattle.ext_cmd.specs.Reading.{ReadsWords}
 use Rattle.ext_cmd.specs.Resource.{IsResource}
-use Rattle.ext_cmd.specs.Words.{AreChosen, IsBelowRoot, IsCommand, IsOptionalPath, IsWellFormed, chosen_words, command_words, optional_words, path_words, view_words}
+use Rattle.ext_cmd.specs.Words.{AreChosen, IsBelowRoot, IsCommand, IsImages, IsOptionalPath, IsWellFormed, chosen_words, command_words, optional_words, path_words, view_words}
 use Rattle.ext_cmd.specs.declared.command.Chosen.{Chosen}
 use Rattle.ext_cmd.specs.declared.command.Chosen.TheVariants as chosen
 use Rattle.ext_cmd.specs.declared.command.Command.{Command}
-use Rattle.ext_cmd.specs.declared.command.Command.TheVariants.{Init, ImportFs, Remove, Sysext, Confext, Tree, Cat, Compare, Check, Layer, Migrate}
+use Rattle.ext_cmd.specs.declared.command.Command.TheVariants.{Init, ImportFs, Remove, Sysext, Confext, Tree, Cat, Compare, Check, Layer, Migrate, Batch, Sample}
 use Rattle.ext_cmd.specs.declared.command.ViewCommand.{ViewCommand}
 use Rattle.ext_cmd.specs.declared.command.ViewCommand.TheVariants as views
 use Rattle.ext_cmd.specs.declared.keyword.Keyword.{Keyword}
@@ -138,6 +139,8 @@ Gives keywords.Compare more c = (a : List ℕ) × (b : List ℕ) × (more ≡ a 
 Gives keywords.Check more c = c ≡ Check
 Gives keywords.Layer more c = c ≡ Layer
 Gives keywords.Migrate more c = c ≡ Migrate
+Gives keywords.Batch more c = c ≡ Batch
+Gives keywords.Sample more c = (n : ℕ) × IsImages n × (more ≡ decimal n ∷ []) × (c ≡ Sample n)
 
 record Given (c : Command) (words : List (List ℕ)) : Type 0 where
   pub keyword : Keyword
@@ -157,6 +160,8 @@ given (Compare a b) well = record { keyword = keywords.Compare; more = a ∷ b �
 given Check well = record { keyword = keywords.Check; more = []; same = refl; gives = refl }
 given Layer well = record { keyword = keywords.Layer; more = []; same = refl; gives = refl }
 given Migrate well = record { keyword = keywords.Migrate; more = []; same = refl; gives = refl }
+given Batch well = record { keyword = keywords.Batch; more = []; same = refl; gives = refl }
+given (Sample n) well = record { keyword = keywords.Sample; more = decimal n ∷ []; same = refl; gives = (n, well, refl, refl) }
 
 one_given : (k : Keyword) (more : List (List ℕ)) (c d : Command) → Gives k more c → Gives k more d → c ≡ d
 one_given keywords.Init more c d (a, s, h, are, is, c_is) (b, t, g, also, was, d_is) =
@@ -185,6 +190,11 @@ one_given keywords.Compare more c d (a, b, is, c_is) (x, y, was, d_is) = cc
 one_given keywords.Check more c d c_is d_is = c_is ∙ sym d_is
 one_given keywords.Layer more c d c_is d_is = c_is ∙ sym d_is
 one_given keywords.Migrate more c d c_is d_is = c_is ∙ sym d_is
+one_given keywords.Batch more c d c_is d_is = c_is ∙ sym d_is
+one_given keywords.Sample more c d (m, few, is, c_is) (n, also, was, d_is) =
+    let words = sym is ∙ was in
+    let same : m ≡ n = decimal_injective m n (omega (arith, few.1)) (omega (arith, also.1)) (cc) in
+    cc
 
 -- words are those of one command
 pub one_command : (c d : Command) → IsWellFormed c → IsWellFormed d → command_words c ≡ command_words d → c ≡ d

@@ -1,6 +1,6 @@
 -- Words of arguments: that there are some, and what they are words of.
 use Rattle.std.proofs.Common.{◌≡◌, ◌≢◌, ℕ, ◌<◌, ◌≤◌, Bool, true, ◌&&◌, List, [], ◌∷◌, length, refl, arith, codes}
-use Rattle.std.specs.Prelude.{nat_lt}
+use Rattle.std.specs.Prelude.{decimal, nat_lt}
 use Rattle.std.specs.List.{list_all}
 use Rattle.std.proofs.lemmas.Bool.{and_parts, ltb-true}
 use Rattle.std.proofs.lemmas.List.Elements.{All-weaker}
@@ -15,7 +15,7 @@ use Rattle.ext_text.specs.declared.path.PathErr.{PathErr}
 use Rattle.ext_text.specs.declared.path.PathErr.TheVariants as paths
 use Rattle.ext_text.proofs.ForCallers.{no_path, path_not_empty}
 use Rattle.ext_cmd.specs.Fault.{BeginsWords}
-use Rattle.ext_cmd.specs.Grammar.{Any, HasNoMore, IsBelowRootWord, IsPathWord, IsResourceWord, Spells, Then}
+use Rattle.ext_cmd.specs.Grammar.{Any, HasNoMore, IsBelowRootWord, IsImagesWord, IsPathWord, IsResourceWord, Spells, Then}
 use Rattle.ext_cmd.specs.Reading.{RefusesWord, usage_of}
 use Rattle.ext_cmd.specs.Resource.{IsResource}
 use Rattle.ext_cmd.specs.Words.{IsBelowRoot}
@@ -72,6 +72,9 @@ some_import = record {
   more = path_text (codes "a" ∷ []) ∷ absolute [] ∷ [];
   whole = (record { value = codes "a" ∷ []; is = a_resource; same = refl }, (record { value = []; is = root; same = refl }, tt));
 }
+
+pub some_images : BeginsWords (Then IsImagesWord HasNoMore) []
+some_images = record { more = decimal 1 ∷ []; whole = (record { value = 1; is = (omega arith, omega arith); same = refl }, tt) }
 
 pub some_texts : BeginsWords (Then Any (Then Any HasNoMore)) []
 some_texts = record { more = [] ∷ [] ∷ []; whole = (tt, (tt, tt)) }

@@ -1,5 +1,5 @@
 -- The words after each keyword, part by part: which word may stand where. These grammars are those of the printed commands.
-use Rattle.std.specs.Prelude.{◌≡◌, ◌≢◌, ℕ, List, [], ◌∷◌, codes}
+use Rattle.std.specs.Prelude.{◌≡◌, ◌≢◌, ℕ, List, [], ◌∷◌, codes, decimal}
 use Rattle.ext_text.specs.Absolute.{absolute}
 use Rattle.ext_text.specs.Arch.{arch_name}
 use Rattle.ext_text.specs.Path.{IsPath, path_text}
@@ -10,10 +10,10 @@ use Rattle.ext_text.specs.declared.scope.Scope.TheVariants.{Portable}
 use Rattle.ext_host.specs.Host.{default_hierarchies}
 use Rattle.ext_cmd.specs.Keyword.{verb_text}
 use Rattle.ext_cmd.specs.Resource.{IsResource}
-use Rattle.ext_cmd.specs.Words.{AreDisjoint, IsBelowRoot, IsHierarchyList, hierarchies_word}
+use Rattle.ext_cmd.specs.Words.{AreDisjoint, IsBelowRoot, IsHierarchyList, IsImages, hierarchies_word}
 use Rattle.ext_cmd.specs.declared.keyword.Keyword.{Keyword}
 use Rattle.ext_cmd.specs.declared.keyword.Keyword.TheVariants.{Init, ImportFs, Remove, Sysext, Confext}
-use Rattle.ext_cmd.specs.declared.keyword.Keyword.TheVariants.{Tree, Cat, Compare, Check, Layer, Migrate}
+use Rattle.ext_cmd.specs.declared.keyword.Keyword.TheVariants.{Tree, Cat, Compare, Check, Layer, Migrate, Batch, Sample}
 use Rattle.ext_cmd.specs.declared.keyword.Verb.{Verb}
 use Rattle.ext_cmd.specs.declared.keyword.Verb.TheVariants as verbs
 
@@ -50,6 +50,10 @@ IsPathWord = Spells absolute IsPath
 -- a path of the host that is not its root
 abbrev pub IsBelowRootWord : List ℕ → Type 0
 IsBelowRootWord = Spells absolute IsBelowRoot
+
+-- how many images a sample has
+abbrev pub IsImagesWord : List ℕ → Type 0
+IsImagesWord = Spells decimal IsImages
 
 -- no word more
 abbrev pub HasNoMore : List (List ℕ) → Type 0
@@ -111,3 +115,5 @@ Takes Compare = Then Any (Then Any HasNoMore)
 Takes Check = HasNoMore
 Takes Layer = HasNoMore
 Takes Migrate = HasNoMore
+Takes Batch = HasNoMore
+Takes Sample = Then IsImagesWord HasNoMore

@@ -3,7 +3,7 @@
 use Rattle.std.specs.Prelude.{◌≡◌, ◌≢◌, ℕ, List, codes, Option, Some, None}
 use Rattle.ext_cmd.specs.declared.keyword.Keyword.{Keyword}
 use Rattle.ext_cmd.specs.declared.keyword.Keyword.TheVariants.{Init, ImportFs, Remove, Sysext, Confext}
-use Rattle.ext_cmd.specs.declared.keyword.Keyword.TheVariants.{Tree, Cat, Compare, Check, Layer, Migrate}
+use Rattle.ext_cmd.specs.declared.keyword.Keyword.TheVariants.{Tree, Cat, Compare, Check, Layer, Migrate, Batch, Sample}
 use Rattle.ext_cmd.specs.declared.keyword.Verb.{Verb}
 use Rattle.ext_cmd.specs.declared.keyword.Verb.TheVariants as verbs
 
@@ -20,6 +20,8 @@ keyword_text Compare = codes "compare"
 keyword_text Check = codes "check"
 keyword_text Layer = codes "layer"
 keyword_text Migrate = codes "migrate"
+keyword_text Batch = codes "batch"
+keyword_text Sample = codes "sample"
 
 -- what reading a text gives: the keyword of this text, or that it is none
 abbrev pub ReadsKeyword : List ℕ → Option Keyword → Type 0

@@ -4,6 +4,7 @@ pub mod Words
 pub mod Keyword
 pub mod Grammar
 pub mod Reading
+pub mod Line
 pub mod Replies
 pub mod Refusals
 pub mod Laws

@@ -4,13 +4,15 @@ use Rattle.std.specs.Prelude.{ℕ, List, ◌++◌, length, codes, decimal}
 use Rattle.std.specs.List.{flat_map}
 use Rattle.std.specs.declared.cmp.Ordering.{Ordering}
 use Rattle.std.specs.declared.cmp.Ordering.TheVariants as orders
+use Rattle.hex.specs.Hex.{encode_lower}
 use Rattle.ext_text.specs.Absolute.{absolute}
+use Rattle.ext_text.specs.declared.digest.Digest.{Digest}
 use Rattle.ext_match.specs.declared.verdict.Verdict.{Verdict}
 use Rattle.ext_match.specs.declared.verdict.Verdict.TheVariants.{Fits, Scope, Architecture, NoId, Id, Level, Version}
 use Rattle.ext_find.specs.declared.found.BreakWhy.{BreakWhy}
 use Rattle.ext_find.specs.declared.found.BreakWhy.TheVariants.{NotDirectory, HasOsRelease, NoRelease}
 use Rattle.ext_cmd.specs.declared.answer.Answer.{Answer}
-use Rattle.ext_cmd.specs.declared.answer.Answer.TheVariants.{Done, Unchanged, Merged, Unmerged, Found, Tree, Order, Checked}
+use Rattle.ext_cmd.specs.declared.answer.Answer.TheVariants.{Done, Unchanged, Merged, Unmerged, Found, Tree, Order, Checked, Sample}
 use Rattle.ext_cmd.specs.declared.answer.Item.{Item}
 use Rattle.ext_cmd.specs.declared.answer.ItemKind.{ItemKind}
 use Rattle.ext_cmd.specs.declared.answer.ItemKind.TheVariants.{Image, Masked, Raw, Broken, BadRelease}
@@ -53,6 +55,12 @@ order_word orders.Less = codes "less"
 order_word orders.Equal = codes "equal"
 order_word orders.Greater = codes "greater"
 
+-- the lines of what a made host comes to
+abbrev pub sample_text : ℕ → ℕ → ℕ → Digest → List ℕ
+sample_text entries files bytes digest =
+    lined (codes "entries " ++ decimal entries) ++ lined (codes "files " ++ decimal files) ++ lined (codes "bytes " ++ decimal bytes)
+    ++ lined (codes "sha256 " ++ encode_lower digest.0)
+
 -- the text of an answer
 abbrev pub answer_text : Answer → List ℕ
 answer_text Done = lined (codes "done")
@@ -63,3 +71,4 @@ answer_text (Found items) = flat_map item_line items
 answer_text (Tree text) = text
 answer_text (Order order) = lined (order_word order)
 answer_text (Checked files bytes) = lined (codes "ok " ++ decimal files ++ codes " " ++ decimal bytes)
+answer_text (Sample entries files bytes digest) = sample_text entries files bytes digest

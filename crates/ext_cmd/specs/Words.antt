@@ -12,10 +12,13 @@
 --     check
 --     layer
 --     migrate
+--     batch
+--     sample N
 --
 -- ABS is a path after a `/`, ABS1 one other than the root; RES is a resource; TEXT is any word. SCOPE is `system` or
--- `initrd`. HIERS is 1 to 16 names with a `/` before each and a `:` between each two.
-use Rattle.std.specs.Prelude.{◌≡◌, ◌≢◌, ℕ, ◌<◌, ◌≤◌, Bool, true, false, List, [], ◌∷◌, length, map, codes, Option, Some, None}
+-- `initrd`. HIERS is 1 to 16 names with a `/` before each and a `:` between each two. N is 1 to 500, in decimal digits
+-- without a leading zero.
+use Rattle.std.specs.Prelude.{◌≡◌, ◌≢◌, ℕ, ◌<◌, ◌≤◌, Bool, true, false, List, [], ◌∷◌, length, map, codes, decimal, Option, Some, None}
 use Rattle.std.specs.List.{AllByRecursion, join_with_byte}
 use Rattle.ext_lines.specs.Split.{Lacks}
 use Rattle.ext_text.specs.Absolute.{absolute}
@@ -30,7 +33,7 @@ use Rattle.ext_cmd.specs.Fault.{IsFault}
 use Rattle.ext_cmd.specs.Resource.{IsResource}
 use Rattle.ext_cmd.specs.declared.command.Command.{Command}
 use Rattle.ext_cmd.specs.declared.command.Command.TheVariants.{Init, ImportFs, Remove, Sysext, Confext}
-use Rattle.ext_cmd.specs.declared.command.Command.TheVariants.{Tree, Cat, Compare, Check, Layer, Migrate}
+use Rattle.ext_cmd.specs.declared.command.Command.TheVariants.{Tree, Cat, Compare, Check, Layer, Migrate, Batch, Sample}
 use Rattle.ext_cmd.specs.declared.command.ViewCommand.{ViewCommand}
 use Rattle.ext_cmd.specs.declared.command.ViewCommand.TheVariants as views
 use Rattle.ext_cmd.specs.declared.command.Chosen.{Chosen}
@@ -126,11 +129,21 @@ command_words (Compare a b) = codes "compare" ∷ a ∷ b ∷ []
 command_words Check = codes "check" ∷ []
 command_words Layer = codes "layer" ∷ []
 command_words Migrate = codes "migrate" ∷ []
+command_words Batch = codes "batch" ∷ []
+command_words (Sample images) = codes "sample" ∷ decimal images ∷ []
 
 -- no path, or one of the host
 abbrev pub IsOptionalPath : Option (List (List ℕ)) → Type 0
 IsOptionalPath None = Unit {0}
 IsOptionalPath (Some path) = IsPath path
+
+-- the most images that a sample has
+abbrev pub most_sample_images : ℕ
+most_sample_images = 500
+
+-- how many images a sample may have
+abbrev pub IsImages : ℕ → Type 0
+IsImages images = (1 ≤ images) × (images ≤ most_sample_images)
 
 -- the arguments are what the grammar allows
 abbrev pub IsWellFormed : Command → Type 0
@@ -145,6 +158,8 @@ IsWellFormed (Compare a b) = Unit {0}
 IsWellFormed Check = Unit {0}
 IsWellFormed Layer = Unit {0}
 IsWellFormed Migrate = Unit {0}
+IsWellFormed Batch = Unit {0}
+IsWellFormed (Sample images) = IsImages images
 
 -- the words are a command
 pub record IsCommand (words : List (List ℕ)) : Type 0 where

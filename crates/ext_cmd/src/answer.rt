@@ -1,7 +1,7 @@
 // Answers.
 use ext_find::BreakWhy;
 use ext_match::Verdict;
-use ext_text::{ListOf, Name, Names, Path, Text};
+use ext_text::{Digest, ListOf, Name, Names, Path, Text};
 use std::cmp::Ordering;
 
 /// What a command that is done replies. The bytes of a file, which `cat` replies, are no answer: they are written as they
@@ -28,6 +28,17 @@ pub enum Answer {
         files: u64,
         /// Their bytes.
         bytes: u64,
+    },
+    /// `entries N`, `files N`, `bytes N` and `sha256 HEX`, each on a line of its own: to `sample`.
+    Sample {
+        /// How many entries the made host's tree has.
+        entries: u64,
+        /// How many of them are files.
+        files: u64,
+        /// The bytes of its files.
+        bytes: u64,
+        /// The digest of its text.
+        digest: Digest,
     },
 }
 

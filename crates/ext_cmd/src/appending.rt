@@ -1,10 +1,11 @@
 // Parts of lines, each added at the end of a text. Where memory runs out, some of them have been added.
 ghost use Rattle.std.specs.Prelude.{◌≡◌, ◌++◌, decimal, OnOk};
+ghost use Rattle.hex.specs.Hex.{encode_lower};
 ghost use Rattle.ext_cmd.specs.Replies.{lined};
 ghost use Rattle.ext_cmd.specs.Refusals.{stamp_words};
 
 use ext_lines::append_decimal;
-use ext_text::OutOfMemory;
+use ext_text::{Digest, OutOfMemory};
 use ext_tree::Stamp;
 
 // Words.
@@ -25,6 +26,33 @@ pub(crate) fn append_numbered(
 {
     append_words(text, words)?;
     append_decimal(text, number)
+}
+
+// Words and a number, as a line.
+pub(crate) fn append_numbered_line(
+    text: &mut Vec<u8>,
+    words: &str,
+    number: u64,
+) -> Result<(), OutOfMemory>
+    ensures { OnOk result (text.new.items ≡ text.old.items ++ lined (words.now ++ decimal number)) }
+{
+    append_numbered(text, words, number)?;
+    text.push(b'\n')?;
+    Ok(())
+}
+
+// Words and a digest, as a line.
+pub(crate) fn append_digest(
+    text: &mut Vec<u8>,
+    words: &str,
+    digest: &Digest,
+) -> Result<(), OutOfMemory>
+    ensures { OnOk result (text.new.items ≡ text.old.items ++ lined (words.now ++ encode_lower digest.now.0)) }
+{
+    append_words(text, words)?;
+    text.extend_from_slice(&digest.digits())?;
+    text.push(b'\n')?;
+    Ok(())
 }
 
 // A line and its newline.

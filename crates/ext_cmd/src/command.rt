@@ -48,6 +48,13 @@ pub enum Command {
     Layer,
     /// `migrate`: the store in the newest form of its text.
     Migrate,
+    /// `batch`: the commands of the source's lines, one after another.
+    Batch,
+    /// `sample N`: what a made host with so many images comes to.
+    Sample {
+        /// How many images it has: 1 to 500.
+        images: u32,
+    },
 }
 
 /// What is done with the extensions of a class; systemd-sysext(8).

@@ -26,6 +26,10 @@ pub(crate) enum Keyword {
     Layer,
     /// `migrate`.
     Migrate,
+    /// `batch`.
+    Batch,
+    /// `sample`.
+    Sample,
 }
 
 impl Keyword {
@@ -45,6 +49,8 @@ impl Keyword {
             b"check" => Some(Keyword::Check),
             b"layer" => Some(Keyword::Layer),
             b"migrate" => Some(Keyword::Migrate),
+            b"batch" => Some(Keyword::Batch),
+            b"sample" => Some(Keyword::Sample),
             _ => None,
         }
     }

@@ -1,9 +1,9 @@
 //! Commands: their words, what they answer, and why they are refused.
 //!
 //! A [`Command`] is the words that it was given in. [`read_words`] gives the command that words are, or the place of their
-//! first fault. An [`Answer`] and a [`Refusal`] are what a command replies, and [`answer_text`] and [`refusal_text`] print
-//! them. All three are defined by printing: what the words of each command are, and what the lines of each answer and of
-//! each refusal are. The crate that carries commands out stands on this one.
+//! first fault; [`read_line`] does so for a line of a batch. An [`Answer`] and a [`Refusal`] are what a command replies, and
+//! [`answer_text`] and [`refusal_text`] print them. All three are defined by printing: what the words of each command are,
+//! and what the lines of each answer and of each refusal are. The crate that carries commands out stands on this one.
 #![tactic(auto)]
 
 mod answer;
@@ -13,6 +13,7 @@ mod command;
 mod hierarchies;
 mod keyword;
 pub mod laws;
+mod line;
 mod readers;
 mod refusal;
 mod replies;
@@ -22,6 +23,7 @@ mod words;
 
 pub use answer::{Answer, Item, ItemKind, Items};
 pub use command::{Chosen, Command, ViewCommand};
+pub use line::read_line;
 pub use refusal::{Refusal, number, refusal_text};
 pub use replies::answer_text;
 pub use resource::Resource;

@@ -6,8 +6,8 @@ ghost use Rattle.ext_cmd.specs.Reading.{ReadsAfter, ReadsRest};
 ghost use Rattle.ext_cmd.specs.declared.keyword.Keyword.TheVariants as keywords;
 
 use crate::arguments::{
-    next, no_more, read_arch, read_last_below_root, read_last_path, read_path, read_resource,
-    read_scope,
+    next, no_more, read_arch, read_images, read_last_below_root, read_last_path, read_path,
+    read_resource, read_scope,
 };
 use crate::command::Command;
 use crate::hierarchies::read_chosen;
@@ -145,4 +145,26 @@ pub(crate) fn read_migrate(more: &[Text]) -> Result<Command, CmdErr>
 {
     no_more(more, 2)?;
     Ok(Command::Migrate)
+}
+
+// `batch`.
+pub(crate) fn read_batch(more: &[Text]) -> Result<Command, CmdErr>
+    ensures { ReadsAfter keywords.Batch more.now result }
+{
+    no_more(more, 2)?;
+    Ok(Command::Batch)
+}
+
+// `sample N`.
+pub(crate) fn read_sample(more: &[Text]) -> Result<Command, CmdErr>
+    ensures { ReadsAfter keywords.Sample more.now result }
+{
+    match next(more) {
+        None => Err(CmdErr::Usage { place: 2 }),
+        Some((word, more)) => {
+            let images = read_images(word, 2)?;
+            no_more(more, 3)?;
+            Ok(Command::Sample { images })
+        }
+    }
 }

@@ -3,15 +3,17 @@ ghost use Rattle.std.specs.Prelude.{◌≡◌, ◌++◌, codes, decimal, length,
 ghost use Rattle.std.specs.List.{flat_map};
 ghost use Rattle.ext_text.specs.Absolute.{absolute};
 ghost use Rattle.ext_cmd.specs.Replies.{answer_text, item_line, kind_words, lined, order_word, verdict_word, why_word};
-ghost use Rattle.ext_cmd.specs.declared.answer.Answer.TheVariants.{Checked};
+ghost use Rattle.ext_cmd.specs.declared.answer.Answer.TheVariants.{Checked, Sample};
 ghost use Rattle.ext_cmd.specs.declared.answer.ItemKind.TheVariants.{BadRelease, Broken, Image};
 
 use crate::answer::{Answer, Item, ItemKind};
-use crate::appending::{append_line, append_numbered, append_words};
+use crate::appending::{
+    append_digest, append_line, append_numbered, append_numbered_line, append_words,
+};
 use ext_find::BreakWhy;
 use ext_lines::append_decimal;
 use ext_match::Verdict;
-use ext_text::{Name, OutOfMemory, Path, Text};
+use ext_text::{Digest, Name, OutOfMemory, Path, Text};
 use std::alloc::Global;
 use std::cmp::Ordering;
 
@@ -32,6 +34,12 @@ pub fn answer_text(alloc: Global, answer: Answer) -> Result<Text, OutOfMemory>
         Answer::Tree(text) => Ok(text),
         Answer::Order(order) => line_of(alloc, order_word(order)),
         Answer::Checked { files, bytes } => checked_text(alloc, files, bytes),
+        Answer::Sample {
+            entries,
+            files,
+            bytes,
+            digest,
+        } => sample_text(alloc, entries, files, bytes, &digest),
     }
 }
 
@@ -181,5 +189,23 @@ fn checked_text(alloc: Global, files: u64, bytes: u64) -> Result<Text, OutOfMemo
     text.push(b' ')?;
     append_decimal(&mut text, bytes)?;
     text.push(b'\n')?;
+    Ok(Text::from_vec(text))
+}
+
+// What a made host comes to, each number on a line of its own.
+fn sample_text(
+    alloc: Global,
+    entries: u64,
+    files: u64,
+    bytes: u64,
+    digest: &Digest,
+) -> Result<Text, OutOfMemory>
+    ensures { IfOk result (λ text. text ≡ answer_text (Sample entries files bytes digest.now)) }
+{
+    let mut text = Vec::new(alloc);
+    append_numbered_line(&mut text, "entries ", entries)?;
+    append_numbered_line(&mut text, "files ", files)?;
+    append_numbered_line(&mut text, "bytes ", bytes)?;
+    append_digest(&mut text, "sha256 ", digest)?;
     Ok(Text::from_vec(text))
 }

@@ -6,8 +6,8 @@ use crate::arguments::next;
 use crate::command::Command;
 use crate::keyword::Keyword;
 use crate::readers::{
-    read_cat, read_check, read_compare, read_confext, read_import, read_init, read_layer,
-    read_migrate, read_remove, read_sysext, read_tree,
+    read_batch, read_cat, read_check, read_compare, read_confext, read_import, read_init,
+    read_layer, read_migrate, read_remove, read_sample, read_sysext, read_tree,
 };
 use ext_text::{OutOfMemory, Text, Words};
 use std::alloc::Global;
@@ -64,7 +64,7 @@ fn read_from(alloc: Global, word: &[u8], more: &[Text]) -> Result<Command, CmdEr
 }
 
 // The command of a keyword and the words after it.
-fn read_after(alloc: Global, keyword: Keyword, more: &[Text]) -> Result<Command, CmdErr>
+pub(crate) fn read_after(alloc: Global, keyword: Keyword, more: &[Text]) -> Result<Command, CmdErr>
     ensures { ReadsAfter keyword more.now result }
 {
     match keyword {
@@ -79,5 +79,7 @@ fn read_after(alloc: Global, keyword: Keyword, more: &[Text]) -> Result<Command,
         Keyword::Check => read_check(more),
         Keyword::Layer => read_layer(more),
         Keyword::Migrate => read_migrate(more),
+        Keyword::Batch => read_batch(more),
+        Keyword::Sample => read_sample(more),
     }
 }

@@ -22,7 +22,7 @@ use Rattle.ext_view.specs.declared.outcome.Merge.{Merge}
 use Rattle.ext_view.specs.declared.surveyed.SurveyItem.{SurveyItem}
 use Rattle.ext_view.specs.declared.surveyed.SurveyKind.{SurveyKind}
 use Rattle.ext_cmd.specs.declared.command.Command.{Command}
-use Rattle.ext_cmd.specs.declared.command.Command.TheVariants.{Init, ImportFs, Remove, Sysext, Confext, Tree, Cat, Compare, Check, Layer, Migrate}
+use Rattle.ext_cmd.specs.declared.command.Command.TheVariants.{Init, ImportFs, Remove, Sysext, Confext, Tree, Cat, Compare, Check, Layer, Migrate, Batch, Sample}
 use Rattle.ext_cmd.specs.declared.command.ViewCommand.{ViewCommand}
 use Rattle.ext_cmd.specs.declared.command.ViewCommand.TheVariants as views
 use Rattle.ext_cmd.specs.declared.refusal.Refusal.{Refusal}
@@ -165,4 +165,6 @@ module _ (host : Host) (told other : HeldFile → Told) (alike : TellAlike host 
   wants_alike newest files (Compare a b) intent wants = wants
   wants_alike newest files Check intent wants = wants
   wants_alike newest files Layer intent wants = wants
+  wants_alike newest files Batch intent wants = wants
+  wants_alike newest files (Sample images) intent wants = wants
   wants_alike newest files Migrate intent wants = wants

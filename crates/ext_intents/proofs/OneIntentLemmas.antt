@@ -3,7 +3,7 @@ use Rattle.std.proofs.Common.{◌≡◌, Some, None, sym, ◌∙◌}
 use Rattle.ext_text.specs.declared.extension.Extension.TheVariants as extensions
 use Rattle.ext_depot.specs.Depot.{Files}
 use Rattle.ext_cmd.specs.declared.command.Command.{Command}
-use Rattle.ext_cmd.specs.declared.command.Command.TheVariants.{Init, ImportFs, Remove, Sysext, Confext, Tree, Cat, Compare, Check, Layer, Migrate}
+use Rattle.ext_cmd.specs.declared.command.Command.TheVariants.{Init, ImportFs, Remove, Sysext, Confext, Tree, Cat, Compare, Check, Layer, Migrate, Batch, Sample}
 use Rattle.ext_intents.specs.Intents.{Seen}
 use Rattle.ext_intents.specs.Laws.{IsToldSeen, OneIntent}
 use Rattle.ext_intents.specs.Step.{WantsFirst, WantsOf}
@@ -23,6 +23,8 @@ first_once (Cat path) a b x y = x ∙ sym y
 first_once (Compare v w) a b x y = x ∙ sym y
 first_once Check a b x y = x ∙ sym y
 first_once Layer a b x y = absurd x
+first_once Batch a b x y = absurd x
+first_once (Sample images) a b x y = absurd x
 first_once Migrate a b x y = x ∙ sym y
 
 seen_once : TextLaws → SurveyLaws → (seen : Seen) (files : Files) (command : Command) (a b : Intent) → IsToldSeen seen → WantsOf seen (Some files) command a → WantsOf seen (Some files) command b → a ≡ b
@@ -36,6 +38,8 @@ seen_once texts surveys seen files (Cat path) a b is x y = x ∙ sym y
 seen_once texts surveys seen files (Compare v w) a b is x y = x ∙ sym y
 seen_once texts surveys seen files Check a b is x y = x ∙ sym y
 seen_once texts surveys seen files Layer a b is x y = absurd x
+seen_once texts surveys seen files Batch a b is x y = absurd x
+seen_once texts surveys seen files (Sample images) a b is x y = absurd x
 seen_once texts surveys seen files Migrate a b is x y = x ∙ sym y
 
 pub one_intent : TextLaws → SurveyLaws → OneIntent

@@ -19,7 +19,7 @@ use Rattle.ext_host.specs.declared.host.Host.{Host}
 use Rattle.ext_host.specs.ReadOnly.{is_read_only}
 use Rattle.ext_cmd.specs.Words.{IsWellFormed}
 use Rattle.ext_cmd.specs.declared.command.Command.{Command}
-use Rattle.ext_cmd.specs.declared.command.Command.TheVariants.{Init, ImportFs, Remove, Sysext, Confext, Tree, Cat, Compare, Check, Layer, Migrate}
+use Rattle.ext_cmd.specs.declared.command.Command.TheVariants.{Init, ImportFs, Remove, Sysext, Confext, Tree, Cat, Compare, Check, Layer, Migrate, Batch, Sample}
 use Rattle.ext_cmd.specs.declared.answer.Answer.TheVariants as answers
 use Rattle.ext_cmd.specs.declared.answer.Answer.TheVariants.{Done, Unchanged}
 use Rattle.ext_cmd.specs.declared.refusal.Refusal.TheVariants.{NoEntry, NotDirectory, ReadOnly}
@@ -118,6 +118,8 @@ wants_fit coming seen files (Cat path) intent valid is = fit_of coming (Some see
 wants_fit coming seen files (Compare a b) intent valid is = fit_of coming (Some seen.host) _ intent is tt
 wants_fit coming seen files Check intent valid is = fit_of coming (Some seen.host) _ intent is refl
 wants_fit coming seen files Layer intent valid is = absurd is
+wants_fit coming seen files Batch intent valid is = absurd is
+wants_fit coming seen files (Sample images) intent valid is = absurd is
 wants_fit coming seen files Migrate intent valid is = fit_of coming (Some seen.host) _ intent is (migrate_fits coming seen.host seen.newest valid)
 
 -- where there is none
@@ -132,4 +134,6 @@ first_wants_fit coming (Cat path) intent formed is = fit_of coming None _ intent
 first_wants_fit coming (Compare a b) intent formed is = fit_of coming None _ intent is tt
 first_wants_fit coming Check intent formed is = fit_of coming None _ intent is tt
 first_wants_fit coming Layer intent formed is = absurd is
+first_wants_fit coming Batch intent formed is = absurd is
+first_wants_fit coming (Sample images) intent formed is = absurd is
 first_wants_fit coming Migrate intent formed is = fit_of coming None _ intent is tt

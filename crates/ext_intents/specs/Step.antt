@@ -8,7 +8,7 @@ use Rattle.ext_host.specs.Held.{HeldFile}
 use Rattle.ext_host.specs.Shelf.{Told}
 use Rattle.ext_host.specs.declared.host.Host.{Host}
 use Rattle.ext_cmd.specs.declared.command.Command.{Command}
-use Rattle.ext_cmd.specs.declared.command.Command.TheVariants.{Init, ImportFs, Remove, Sysext, Confext, Tree, Cat, Compare, Check, Layer, Migrate}
+use Rattle.ext_cmd.specs.declared.command.Command.TheVariants.{Init, ImportFs, Remove, Sysext, Confext, Tree, Cat, Compare, Check, Layer, Migrate, Batch, Sample}
 use Rattle.ext_cmd.specs.declared.refusal.Refusal.TheVariants.{NoStore, StoreExists}
 use Rattle.ext_intents.specs.Cat.{cat_intent}
 use Rattle.ext_intents.specs.Compare.{compare_intent}
@@ -35,6 +35,8 @@ WantsOf seen files (Compare a b) intent = intent ≡ compare_intent a b
 WantsOf seen files Check intent = intent ≡ Checks
 WantsOf seen files Layer intent = ⊥
 WantsOf seen files Migrate intent = intent ≡ migrate_intent seen.host seen.newest
+WantsOf seen files Batch intent = ⊥
+WantsOf seen files (Sample images) intent = ⊥
 
 -- of each file of the host both tell one thing
 abbrev pub TellAlike : Host → (HeldFile → Told) → (HeldFile → Told) → Type 0
@@ -45,6 +47,8 @@ abbrev pub WantsFirst : Command → Intent → Type 0
 WantsFirst (Init arch scope hierarchies) intent = InitWants arch scope hierarchies intent
 WantsFirst (Compare a b) intent = intent ≡ compare_intent a b
 WantsFirst Layer intent = ⊥
+WantsFirst Batch intent = ⊥
+WantsFirst (Sample images) intent = ⊥
 WantsFirst _ intent = intent ≡ Refuses NoStore
 
 -- what a command wants
@@ -52,13 +56,10 @@ abbrev pub Wants : Option Seen → Option Files → Command → Intent → Type 
 Wants None files command intent = WantsFirst command intent
 Wants (Some seen) files command intent = WantsOf seen files command intent
 
--- a command that may be carried out over a store, or where there is none: each but `layer`, which reads a source
-abbrev pub is_line : Command → Bool
-is_line Layer = false
-is_line _ = true
-
--- a command of a store: `compare` and `layer` look at none
+-- one command over a store: `compare`, `layer` and `sample` look at none, and `batch` is the commands of its lines
 abbrev pub is_of_store : Command → Bool
 is_of_store (Compare a b) = false
 is_of_store Layer = false
+is_of_store Batch = false
+is_of_store (Sample images) = false
 is_of_store _ = true

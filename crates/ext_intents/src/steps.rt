@@ -1,10 +1,11 @@
-// The steps of all commands that may be carried out over a store.
+// The steps of all commands that may be carried out over a store: those that may stand in a line of a batch.
 ghost use Rattle.std.specs.Prelude.{◌≤◌, IsTrue, IfOk, IfErr};
 ghost use Rattle.ext_depot.specs.Depot.{IsKept};
+ghost use Rattle.ext_cmd.specs.Line.{may_be_line};
 ghost use Rattle.ext_host.specs.Valid.{IsValidHost};
 ghost use Rattle.ext_host.specs.Planning.{ServesHost};
 ghost use Rattle.ext_intents.specs.Causes.{IsStepFile, StepCause};
-ghost use Rattle.ext_intents.specs.Step.{WantsFirst, WantsOf, is_line};
+ghost use Rattle.ext_intents.specs.Step.{WantsFirst, WantsOf};
 
 use crate::cat::cat_step;
 use crate::compare::compare_step;
@@ -27,7 +28,7 @@ use std::alloc::Global;
 /// # Errors
 /// Out of memory alone.
 pub fn first_step(alloc: Global, command: &Command) -> Result<Intent, OutOfMemory>
-    requires { IsTrue (is_line command.now) }
+    requires { IsTrue (may_be_line command.now) }
     ensures { IfOk result (WantsFirst command.now) }
 {
     match command {
@@ -37,7 +38,7 @@ pub fn first_step(alloc: Global, command: &Command) -> Result<Intent, OutOfMemor
             hierarchies,
         } => init_step(alloc, *arch, *scope, hierarchies),
         Command::Compare(a, b) => Ok(compare_step(a.bytes(), b.bytes())),
-        Command::Layer => unreachable!(),
+        Command::Layer | Command::Batch | Command::Sample { .. } => unreachable!(),
         _ => Ok(Intent::Refuses(Refusal::NoStore)),
     }
 }
@@ -58,7 +59,7 @@ pub fn step<P: Depot, H: Shelf>(
     depot: &mut P,
     shelf: &mut H,
 ) -> Result<Intent, PlanErr>
-    requires line { IsTrue (is_line command.now) }
+    requires line { IsTrue (may_be_line command.now) }
     requires valid { IsValidHost host.now }
     requires serves { ServesHost (H.serves shelf.old) host.now }
     ensures wants { IfOk result (WantsOf (record { host = host.now; newest = newest; told = H.told shelf.old })
@@ -80,6 +81,6 @@ pub fn step<P: Depot, H: Shelf>(
         Command::Check => Ok(Intent::Checks),
         Command::Migrate => Ok(migrate_step(host, newest)?),
         Command::Compare(first, second) => Ok(compare_step(first.bytes(), second.bytes())),
-        Command::Layer => unreachable!(),
+        Command::Layer | Command::Batch | Command::Sample { .. } => unreachable!(),
     }
 }

@@ -1,5 +1,5 @@
 // A word is carried out.
-use crate::commands::words;
+use crate::commands::{batch_line, words};
 use crate::held::held;
 use crate::hosts::host;
 use crate::indexes::index;
@@ -37,6 +37,7 @@ fn answer_on(alloc: Global, subject: Subject, arguments: &[Text]) -> Result<Text
         Subject::Record => record(alloc, arguments),
         Subject::Index => index(alloc, arguments),
         Subject::Words => words(alloc, arguments),
+        Subject::BatchLine => batch_line(alloc, arguments),
         Subject::Reply => reply(alloc, arguments),
         Subject::Refusal => refusal(alloc, arguments),
     }

@@ -1,6 +1,6 @@
 // The words of commands.
-use ext_case::{Trouble, append_number, append_path, append_str};
-use ext_cmd::{Chosen, CmdErr, Command, ViewCommand, read_words};
+use ext_case::{Trouble, append_number, append_path, append_str, one};
+use ext_cmd::{Chosen, CmdErr, Command, ViewCommand, read_line, read_words};
 use ext_text::{Names, Path, Text, Words};
 use std::alloc::Global;
 
@@ -10,14 +10,41 @@ use std::alloc::Global;
 /// `OutOfMemory`.
 pub(crate) fn words(alloc: Global, arguments: &[Text]) -> Result<Text, Trouble> {
     let words = words_of(alloc, arguments)?;
-    let mut text = Text::new(alloc);
     match read_words(alloc, &words) {
-        Ok(command) => append_command(alloc, &mut text, &command)?,
-        Err(CmdErr::Usage { place }) => append_usage(alloc, &mut text, place)?,
-        Err(CmdErr::OutOfMemory) => return Err(Trouble::OutOfMemory),
+        Ok(command) => command_line(alloc, &command),
+        Err(refusal) => usage_line(alloc, refusal),
     }
+}
+
+/// What `batch-line TEXT` writes: the command of that line of a batch, nothing where it counts for nothing, or `usage PLACE`.
+///
+/// # Errors
+/// `Unreadable` where the arguments are not one text, and `OutOfMemory`.
+pub(crate) fn batch_line(alloc: Global, arguments: &[Text]) -> Result<Text, Trouble> {
+    match read_line(alloc, one(arguments)?.bytes()) {
+        Ok(Some(command)) => command_line(alloc, &command),
+        Ok(None) => Ok(Text::new(alloc)),
+        Err(refusal) => usage_line(alloc, refusal),
+    }
+}
+
+fn command_line(alloc: Global, command: &Command) -> Result<Text, Trouble> {
+    let mut text = Text::new(alloc);
+    append_command(alloc, &mut text, command)?;
     text.append(b"\n")?;
     Ok(text)
+}
+
+fn usage_line(alloc: Global, refusal: CmdErr) -> Result<Text, Trouble> {
+    match refusal {
+        CmdErr::OutOfMemory => Err(Trouble::OutOfMemory),
+        CmdErr::Usage { place } => {
+            let mut text = Text::new(alloc);
+            append_usage(alloc, &mut text, place)?;
+            text.append(b"\n")?;
+            Ok(text)
+        }
+    }
 }
 
 fn words_of(alloc: Global, arguments: &[Text]) -> Result<Words, Trouble> {
@@ -58,6 +85,11 @@ fn append_command(alloc: Global, text: &mut Text, command: &Command) -> Result<(
         Command::Check => append_str(text, "Check"),
         Command::Layer => append_str(text, "Layer"),
         Command::Migrate => append_str(text, "Migrate"),
+        Command::Batch => append_str(text, "Batch"),
+        Command::Sample { images } => {
+            append_str(text, "Sample ")?;
+            append_number(alloc, text, u64::from(*images))
+        }
     }
 }
 

@@ -10,6 +10,8 @@ pub(crate) fn call_laws() {
     ext_find::laws::there_is_one_found_list::<Stamp>();
     ext_cmd::laws::words_are_of_one_command();
     ext_cmd::laws::words_have_one_first_fault();
+    ext_cmd::laws::a_line_gives_one_thing();
+    ext_cmd::laws::a_line_has_one_first_fault();
 }
 
 fn call_laws_of_hosts() {

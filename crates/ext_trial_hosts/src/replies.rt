@@ -1,6 +1,6 @@
 // Answers and their texts.
 use crate::items::items;
-use ext_case::{Trouble, name, none, number, one, one_and_more, two};
+use ext_case::{Trouble, digest, four, name, none, number, one, one_and_more, two};
 use ext_cmd::{Answer, answer_text};
 use ext_text::{Names, Text};
 use std::alloc::Global;
@@ -35,13 +35,15 @@ fn plain_answer(word: &[u8]) -> Option<Answer> {
     }
 }
 
-// An answer that tells more: `merged NAME..`, `found ITEM..`, `tree TEXT`, `checked FILES BYTES`.
+// An answer that tells more: `merged NAME..`, `found ITEM..`, `tree TEXT`, `checked FILES BYTES`,
+// `sample ENTRIES FILES BYTES DIGEST`.
 fn full_answer(alloc: Global, word: &[u8], rest: &[Text]) -> Result<Answer, Trouble> {
     match word {
         b"merged" => Ok(Answer::Merged(names_of(alloc, rest)?)),
         b"found" => Ok(Answer::Found(items(alloc, rest)?)),
         b"tree" => Ok(Answer::Tree(one(rest)?.copy()?)),
         b"checked" => checked(rest),
+        b"sample" => sample(rest),
         _ => Err(Trouble::Unreadable("no such answer")),
     }
 }
@@ -59,5 +61,15 @@ fn checked(arguments: &[Text]) -> Result<Answer, Trouble> {
     Ok(Answer::Checked {
         files: number(files, u64::MAX)?,
         bytes: number(bytes, u64::MAX)?,
+    })
+}
+
+fn sample(arguments: &[Text]) -> Result<Answer, Trouble> {
+    let (entries, files, bytes, sum) = four(arguments)?;
+    Ok(Answer::Sample {
+        entries: number(entries, u64::MAX)?,
+        files: number(files, u64::MAX)?,
+        bytes: number(bytes, u64::MAX)?,
+        digest: digest(sum)?,
     })
 }

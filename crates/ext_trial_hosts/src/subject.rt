@@ -19,6 +19,8 @@ pub(crate) enum Subject {
     Index,
     /// `words`: the words of a command.
     Words,
+    /// `batch-line`: the words of a command in a line of a batch.
+    BatchLine,
     /// `reply`: the text of an answer.
     Reply,
     /// `refusal`: the number and the line of a refusal.
@@ -37,6 +39,7 @@ impl Subject {
             "record" => Some(Subject::Record),
             "index" => Some(Subject::Index),
             "words" => Some(Subject::Words),
+            "batch-line" => Some(Subject::BatchLine),
             "reply" => Some(Subject::Reply),
             "refusal" => Some(Subject::Refusal),
             _ => None,
