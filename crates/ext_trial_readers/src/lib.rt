@@ -8,6 +8,7 @@
 mod ini;
 mod manifests;
 mod pattern;
+mod transfers;
 
 use ext_case::Trouble;
 use ext_text::Text;
@@ -42,6 +43,9 @@ fn reply(alloc: Global, word: &str, asked: &[u8], rest: &[Text]) -> Result<Optio
         ("sums", b"digest") => manifests::digest(alloc, rest)?,
         ("sums", b"from") => manifests::from_name(alloc, rest)?,
         ("sums", b"laws") => manifests::laws(alloc, rest)?,
+        ("transfer", b"read") => transfers::read(alloc, rest)?,
+        ("transfer", b"on") => transfers::on_host(alloc, rest)?,
+        ("transfer", b"laws") => transfers::laws(alloc, rest)?,
         _ => return Ok(None),
     };
     Ok(Some(text))

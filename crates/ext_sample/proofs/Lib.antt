@@ -1,0 +1,6 @@
+mod NamesLemmas
+mod SampleLemmas
+mod LookupLemmas
+mod TreeLemmas
+mod DepotLemmas
+mod LawsLemmas

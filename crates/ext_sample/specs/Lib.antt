@@ -1,0 +1,4 @@
+pub mod Made
+pub mod Sample
+pub mod Making
+pub mod Laws

@@ -1,0 +1,6 @@
+pub mod TestLemmas
+pub mod PathLemmas
+pub mod ExpandLemmas
+pub mod NumberLemmas
+pub mod BoundsLemmas
+pub mod LawsLemmas

@@ -1,0 +1,11 @@
+pub mod Fault
+pub mod Specifiers
+pub mod Meaning
+pub mod Choices
+pub mod Paths
+pub mod Numbers
+pub mod Versions
+pub mod Patterns
+pub mod Transfer
+pub mod Bounds
+pub mod Laws
