@@ -1,6 +1,6 @@
 -- Commands that look at no store come to one outcome, and write it.
-use Rattle.std.proofs.Common.{◌≡◌, ◌<◌, ◌≤◌, ℕ, List, length, sym, ap, ◌∙◌, subst, arith, inl, inr}
-use Rattle.std.specs.Prelude.{◌⊎◌, reverse, None}
+use Rattle.std.proofs.Common.{◌≡◌, ◌<◌, ◌≤◌, ℕ, List, length, refl, sym, ap, ◌∙◌, subst, arith, inl, inr}
+use Rattle.std.specs.Prelude.{◌≢◌, ◌⊎◌, reverse, None}
 use Rattle.ext_text.specs.declared.which.Which.TheVariants as limits
 use Rattle.ext_tree.specs.FirstFault.{AtLeastOne}
 use Rattle.ext_tree.specs.Laws.{OneListOfSequence, NoFaultInSequence, OneFirstFault}
@@ -13,7 +13,7 @@ use Rattle.ext_gen.specs.Store.{none}
 use Rattle.ext_cmd.specs.Replies.{answer_text}
 use Rattle.ext_cmd.specs.declared.answer.Answer.TheVariants.{Order, Tree}
 use Rattle.ext_cmd.specs.declared.command.Command.{Command}
-use Rattle.ext_cmd.specs.declared.command.Command.TheVariants.{Compare, Layer}
+use Rattle.ext_cmd.specs.declared.command.Command.TheVariants.{Compare, Layer, Sample}
 use Rattle.ext_cmd.specs.declared.refusal.Refusal.TheVariants.{BadTree, Limit}
 use Rattle.ext_intents.specs.Layer.{LayersWant, LayerWants}
 use Rattle.ext_intents.specs.declared.intent.Intent.{Intent}
@@ -60,14 +60,15 @@ one_said (Shows held) a b one two = absurd one
 one_said (Refuses refusal) a b one two = one ∙ sym two
 
 -- and a command wants one intent
-one_wanted : (below : Below) (command : Command) (bytes : List ℕ) (a b : Intent) → AloneWants command bytes a → AloneWants command bytes b → a ≡ b
-one_wanted below (Compare x y) bytes a b wants also = wants ∙ sym also
-one_wanted below Layer bytes a b wants also = one_of_source below bytes a b wants also
-one_wanted below _ bytes a b wants also = absurd wants
+one_wanted : (below : Below) (command : Command) (bytes : List ℕ) (a b : Intent) → ((images : ℕ) → command ≢ Sample images) → AloneWants command bytes a → AloneWants command bytes b → a ≡ b
+one_wanted below (Compare x y) bytes a b unmade wants also = wants ∙ sym also
+one_wanted below Layer bytes a b unmade wants also = one_of_source below bytes a b wants also
+one_wanted below (Sample images) bytes a b unmade wants also = absurd (unmade images refl)
+one_wanted below _ bytes a b unmade wants also = absurd wants
 
-pub one_reply : (below : Below) (command : Command) (bytes : List ℕ) (a b : Outcome) → ComesAlone command bytes a → ComesAlone command bytes b → a ≡ b
-one_reply below command bytes a b one two =
-    one_said two.intent a b (subst (λ intent. Says intent a) (one_wanted below command bytes one.intent two.intent one.wants two.wants) one.says) two.says
+pub one_reply : (below : Below) (command : Command) (bytes : List ℕ) (a b : Outcome) → ((images : ℕ) → command ≢ Sample images) → ComesAlone command bytes a → ComesAlone command bytes b → a ≡ b
+one_reply below command bytes a b unmade one two =
+    one_said two.intent a b (subst (λ intent. Says intent a) (one_wanted below command bytes one.intent two.intent unmade one.wants two.wants) one.says) two.says
 
 pub compare_is_done : (a b bytes : List ℕ) (outcome : Outcome) → ComesAlone (Compare a b) bytes outcome → outcome ≡ gives none (answer_text (Order (version_cmp a b)))
 compare_is_done a b bytes outcome comes = subst (λ intent. Says intent outcome) comes.wants comes.says

@@ -14,27 +14,21 @@ use Rattle.ext_store_files.specs.Names.{IsGeneration, current_path, generation_n
 use Rattle.ext_store_files.proofs.ForCallers.{told_map, told_same, told_then}
 use Rattle.ext_store_files.specs.declared.fault.StoreFault.TheVariants as store_faults
 use Rattle.ext_gen.specs.Opened.{Generation}
-use Rattle.ext_gen.specs.Opening.{KeepsNow}
 use Rattle.ext_gen.specs.Preparing.{coming_number, is_needed, most_files}
 use Rattle.ext_gen.specs.PreparingPaths.{ChangesAt, IsComing, gone, made, stays}
 use Rattle.ext_gen.specs.PreparingPaths as paths
 use Rattle.ext_gen.specs.Store.{Points}
 use Rattle.ext_gen.proofs.ForCallers.{before_needed, needed_not_left}
 use Rattle.ext_cmd.specs.declared.refusal.Refusal.{Refusal}
-use Rattle.ext_top.specs.Alone.{status_of_refusal}
 use Rattle.ext_top.specs.Applying.{IsShownReply, PointsAs}
 use Rattle.ext_top.specs.Lines.{LineLeavesCurrent, stop_of_apply}
 use Rattle.ext_top.specs.Replying.{WritesReply, WritesText}
-use Rattle.ext_top.specs.Running.{RunLeavesCurrent, result_of_line, status_of, status_of_stop}
 use Rattle.ext_top.specs.Working.{KeepsCurrent, LeavesCurrent, refused_by}
 use Rattle.ext_top.specs.declared.applied.Applied.{Applied}
 use Rattle.ext_top.specs.declared.applied.Reply.{Reply}
 use Rattle.ext_top.specs.declared.applied.Reply.TheVariants.{Text, File, Refused}
 use Rattle.ext_top.specs.declared.apply_err.ApplyErr.{ApplyErr}
 use Rattle.ext_top.specs.declared.apply_err.ApplyErr.TheVariants as apply_errors
-use Rattle.ext_top.specs.declared.lines.Written.{Written}
-use Rattle.ext_top.specs.declared.status.Status.{Status}
-use Rattle.ext_top.specs.declared.status.Status.TheVariants as statuses
 use Rattle.ext_top.specs.declared.stop.Stop.{Stop}
 use Rattle.ext_top.specs.declared.stop.Stop.TheVariants as stops
 use Rattle.ext_top.proofs.PreparedLemmas.{Works}
@@ -184,58 +178,3 @@ written_current opened reply refusal old mid new rests same leaves =
 
 pub written_points : (opened : Option Generation) (mid new : DiskState) → Rests mid new → PointsAs mid opened → PointsAs new opened
 written_points opened mid new rests points = subst (λ t. IfSome t (λ (d : Told). Points (now d.places) opened)) (sym rests.told) points
-
--- of a run
-refused_leaves : (refusal : Option Refusal) (c d : Told) → IfSome refusal (λ refusal. KeepsCurrent c d) → RunLeavesCurrent (status_of_refusal refusal) c d
-refused_leaves None c d leaves = tt
-refused_leaves (Some refusal) c d leaves = leaves
-
-done_current : (written : Written) (x y : Option Told) → BothTold (LineLeavesCurrent (Ok written)) x y → BothTold (RunLeavesCurrent (status_of_refusal written.refusal)) x y
-done_current written x y leaves = told_map (LineLeavesCurrent (Ok written)) (RunLeavesCurrent (status_of_refusal written.refusal)) (λ c d leaves. refused_leaves written.refusal c d leaves) x y leaves
-
-stopped_leaves : (stop : Stop) (c d : Told) → LineLeavesCurrent (Err stop) c d → RunLeavesCurrent (status_of_stop stop) c d
-stopped_leaves stops.WriteFault c d leaves = tt
-stopped_leaves stops.DiskFault c d leaves = tt
-stopped_leaves stops.DepotFault c d leaves = leaves
-stopped_leaves stops.OutOfMemory c d leaves = leaves
-stopped_leaves (stops.BadStore why) c d leaves = leaves
-stopped_leaves stops.Unfinished c d leaves = leaves
-
-stopped_current : (stop : Stop) (x y : Option Told) → BothTold (LineLeavesCurrent (Err stop)) x y → BothTold (RunLeavesCurrent (status_of_stop stop)) x y
-stopped_current stop x y leaves = told_map (LineLeavesCurrent (Err stop)) (RunLeavesCurrent (status_of_stop stop)) (λ c d leaves. stopped_leaves stop c d leaves) x y leaves
-
-pub line_current : (result : Result Written Stop) (x y : Option Told) → BothTold (LineLeavesCurrent result) x y → BothTold (RunLeavesCurrent (status_of false (result_of_line result))) x y
-line_current (Ok written) x y leaves = done_current written x y leaves
-line_current (Err stop) x y leaves = stopped_current stop x y leaves
-
-run_leaves : (status : Status) (c d : Told) → KeepsCurrent c d → RunLeavesCurrent status c d
-run_leaves statuses.Done c d keeps = tt
-run_leaves (statuses.Refused refusal) c d keeps = keeps
-run_leaves (statuses.Usage place) c d keeps = keeps
-run_leaves statuses.ReadFault c d keeps = keeps
-run_leaves statuses.WriteFault c d keeps = tt
-run_leaves statuses.DiskFault c d keeps = tt
-run_leaves statuses.DepotFault c d keeps = keeps
-run_leaves statuses.OutOfMemory c d keeps = keeps
-run_leaves (statuses.BadStore why) c d keeps = keeps
-run_leaves statuses.Unfinished c d keeps = keeps
-run_leaves statuses.TooLong c d keeps = keeps
-
-leaves_through : (status : Status) (c d e : Told) → KeepsNow c d → RunLeavesCurrent status d e → RunLeavesCurrent status c e
-leaves_through statuses.Done c d e keeps leaves = tt
-leaves_through (statuses.Refused refusal) c d e keeps leaves = leaves ∙ keeps.now current_path refl
-leaves_through (statuses.Usage place) c d e keeps leaves = leaves ∙ keeps.now current_path refl
-leaves_through statuses.ReadFault c d e keeps leaves = leaves ∙ keeps.now current_path refl
-leaves_through statuses.WriteFault c d e keeps leaves = tt
-leaves_through statuses.DiskFault c d e keeps leaves = tt
-leaves_through statuses.DepotFault c d e keeps leaves = leaves ∙ keeps.now current_path refl
-leaves_through statuses.OutOfMemory c d e keeps leaves = leaves ∙ keeps.now current_path refl
-leaves_through (statuses.BadStore why) c d e keeps leaves = leaves ∙ keeps.now current_path refl
-leaves_through statuses.Unfinished c d e keeps leaves = leaves ∙ keeps.now current_path refl
-leaves_through statuses.TooLong c d e keeps leaves = leaves ∙ keeps.now current_path refl
-
-pub opened_current : (status : Status) (x y z : Option Told) → BothTold KeepsNow x y → BothTold (RunLeavesCurrent status) y z → BothTold (RunLeavesCurrent status) x z
-opened_current status x y z keeps leaves = told_then KeepsNow (RunLeavesCurrent status) (RunLeavesCurrent status) (leaves_through status) x y z keeps leaves
-
-pub closed_current : (status : Status) (x y : Option Told) → BothTold KeepsNow x y → BothTold (RunLeavesCurrent status) x y
-closed_current status x y keeps = told_map KeepsNow (RunLeavesCurrent status) (λ c d keeps. run_leaves status c d (keeps.now current_path refl)) x y keeps

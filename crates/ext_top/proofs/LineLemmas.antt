@@ -45,7 +45,8 @@ pub adds_nothing : (k : Option (List ℕ)) → Appends k k []
 adds_nothing None = tt
 adds_nothing (Some xs) = sym (append-nil xs)
 
-same_sink : (k l : SinkState) → l ≡ k → Appends k.written l.written []
+-- a sink that is left alone
+pub same_sink : (k l : SinkState) → l ≡ k → Appends k.written l.written []
 same_sink k l same = subst (λ (m : SinkState). Appends k.written m.written []) (sym same) (adds_nothing k.written)
 
 stopped : (s : State) (files : Option Files) (command : Command) (k : SinkState) (e : Places) (stop : Stop) (standing : Standing) → StopsWith stop s files (does command) standing [] → StandsAs standing e
@@ -203,7 +204,7 @@ pub written_line : (files : Option Files) (command : Command) (from : Option Gen
 written_line files command from k l old mid new opened reply result rests writes applies =
     written_told files command from k l mid opened reply result old.told mid.told new.told refl rests.told writes applies
 
-rose_from : (a b c : ℕ) → a ≤ b → Rose b c → Rose a c
+pub rose_from : (a b c : ℕ) → a ≤ b → Rose b c → Rose a c
 rose_from a b c le (inl more) = inl (omega arith)
 rose_from a b c le (inr most) = inr most
 

@@ -15,7 +15,7 @@ use Rattle.ext_top.proofs.LineLemmas.{adds_nothing}
 abbrev pub WritesFirst : shelf.Told → ℕ → ℕ → SinkState → SinkState → Type 0
 WritesFirst told size at k l = (bytes : List ℕ) → told ≡ stored bytes → length bytes ≡ size → Appends k.written l.written (take at bytes)
 
-appends_then : (k l m : Option (List ℕ)) (xs ys : List ℕ) → Appends k l xs → Appends l m ys → Appends k m (xs ++ ys)
+pub appends_then : (k l m : Option (List ℕ)) (xs ys : List ℕ) → Appends k l xs → Appends l m ys → Appends k m (xs ++ ys)
 appends_then None l m xs ys one two = tt
 appends_then (Some k) None m xs ys one two = absurd one
 appends_then (Some k) (Some l) None xs ys one two = absurd two

@@ -1,5 +1,5 @@
 -- How a run ends: a command that looks at no store writes what it says; and the words are a command, which ran so.
-use Rattle.std.proofs.Common.{◌≡◌, ◌≤◌, ◌+◌, ℕ, Bool, true, false, List, inl, inr, Option, Some, None, refl, sym, subst, arith}
+use Rattle.std.proofs.Common.{◌≡◌, ◌≤◌, ◌+◌, ℕ, Bool, true, false, List, [], inl, inr, Option, Some, None, refl, sym, subst, arith}
 use Rattle.std.specs.Prelude.{reverse}
 use Rattle.std.specs.Io.KnownBytes.{Appends}
 use Rattle.ext_io.specs.SourceState.{SourceState}
@@ -14,12 +14,18 @@ use Rattle.ext_cmd.specs.declared.answer.Answer.{Answer}
 use Rattle.ext_cmd.specs.declared.command.Command.{Command}
 use Rattle.ext_cmd.specs.declared.refusal.Refusal.{Refusal}
 use Rattle.ext_intents.specs.Layer.{LayersWant, LayerWants}
-use Rattle.ext_intents.specs.Step.{is_of_store}
+use Rattle.ext_io.specs.Whole.{Stopped}
+use Rattle.ext_io.specs.declared.whole.ReadErr.{ReadErr}
+use Rattle.ext_io.specs.declared.whole.ReadErr.TheVariants as reads
+use Rattle.ext_cmd.specs.declared.command.Command.TheVariants.{Layer, Sample}
 use Rattle.ext_intents.specs.declared.intent.Intent.{Intent}
 use Rattle.ext_intents.specs.declared.intent.Intent.TheVariants.{Answers, Refuses}
 use Rattle.ext_top.specs.Alone.{AloneWants, IsAlone, reads_source, status_of_refusal}
 use Rattle.ext_top.specs.Machine.{Outcome, gives, refuses, refusal_of, reply_of}
-use Rattle.ext_top.specs.Running.{CameTo, Devices, EndsAlone, Runs, RunsKind, TakesAll, TakesSome, WritesIntent, WritesLast, WritesOutcome, most_source, streams}
+use Rattle.ext_top.specs.Batch.{most_source}
+use Rattle.ext_top.specs.Devices.{DeviceStates, streams}
+use Rattle.ext_top.specs.Running.{CameTo, EndsAlone, Kind, Runs, RunsKind, TakesAll, TakesSome, WritesIntent, WritesLast, WritesOutcome, alone, run_kind, one_line, source_lines, status_of_read}
+use Rattle.ext_top.specs.Sampling.{WritesSample}
 use Rattle.ext_top.specs.declared.status.Status.{Status}
 use Rattle.ext_top.specs.declared.status.Status.TheVariants.{Done, Refused, Usage, ReadFault, WriteFault, DiskFault, DepotFault, OutOfMemory, BadStore, Unfinished, TooLong}
 
@@ -72,14 +78,32 @@ pub intent_ends : (command : Command) (bytes : List ℕ) (s s' : SourceState) (k
 intent_ends command bytes s s' k k' intent status takes wants (outcome, says, writes) =
     outcome_ends command s s' k k' outcome status (record { bytes = bytes; takes = takes; comes = record { intent = intent; wants = wants; says = says } }) writes
 
-no_usage : (of_store : Bool) (command : Command) (old new : Devices) (place : ℕ) → ¬ RunsKind of_store command old new (Usage place)
-no_usage true command old new place runs = runs.store.cause
-no_usage false command old new place runs = runs.ends
+-- what a sample writes is its end
+pub sample_ends : (images : ℕ) (s : SourceState) (k k' : SinkState) (status : Status) → WritesSample images k k' status → EndsAlone (Sample images) (streams s k) (streams s k') status
+sample_ends images s k k' status (inl (intent, wants, writes)) = intent_ends (Sample images) [] s s k k' intent status (refl, refl) wants writes
+sample_ends images s k k' status (inr (starved, same)) = subst (EndsAlone (Sample images) (streams s k) (streams s k')) (sym starved) (record { source = refl; sink = same })
 
-pub command_runs : (words : List (List ℕ)) (command : Command) (old new : Devices) (status : Status) → IsWellFormed command → words ≡ command_words command → RunsKind (is_of_store command) command old new status → Runs words old new status
+-- a source that was not read whole
+pub layer_unread : (error : ReadErr) (s s' : SourceState) (k : SinkState) → Stopped s s' most_source error → EndsAlone Layer (streams s k) (streams s' k) (status_of_read error)
+layer_unread reads.OutOfMemory s s' k stopped = record { source = stopped; sink = refl }
+layer_unread reads.Failed s s' k stopped = (refl, record { source = stopped.0; sink = refl }, stopped.1)
+layer_unread reads.TooLong s s' k stopped = (refl, record { source = stopped; sink = refl })
+
+read_no_usage : (error : ReadErr) (place : ℕ) → ¬ (Usage place ≡ status_of_read error)
+read_no_usage reads.OutOfMemory place is = cc
+read_no_usage reads.Failed place is = cc
+read_no_usage reads.TooLong place is = cc
+
+no_usage : (kind : Kind) (command : Command) (old new : DeviceStates) (place : ℕ) → ¬ RunsKind kind command old new (Usage place)
+no_usage alone command old new place runs = runs.ends
+no_usage source_lines command old new place (inl read) = read.runs.runs.blames
+no_usage source_lines command old new place (inr short) = read_no_usage short.error place short.status_is
+no_usage one_line command old new place runs = runs.runs.blames
+
+pub command_runs : (words : List (List ℕ)) (command : Command) (old new : DeviceStates) (status : Status) → IsWellFormed command → words ≡ command_words command → RunsKind (run_kind command) command old new status → Runs words old new status
 command_runs words command old new Done formed same runs = record { command = command; well_formed = formed; same = same; runs = runs }
 command_runs words command old new (Refused refusal) formed same runs = record { command = command; well_formed = formed; same = same; runs = runs }
-command_runs words command old new (Usage place) formed same runs = absurd (no_usage (is_of_store command) command old new place runs)
+command_runs words command old new (Usage place) formed same runs = absurd (no_usage (run_kind command) command old new place runs)
 command_runs words command old new ReadFault formed same runs = record { command = command; well_formed = formed; same = same; runs = runs }
 command_runs words command old new WriteFault formed same runs = record { command = command; well_formed = formed; same = same; runs = runs }
 command_runs words command old new DiskFault formed same runs = record { command = command; well_formed = formed; same = same; runs = runs }

@@ -53,7 +53,8 @@ keeps_stays d e keeps = let few = keeps.appended in record { now = λ p. keeps.n
 pub stays_told : (x y : Option Told) → BothTold KeepsNow x y → BothTold StaysTold x y
 stays_told x y keeps = told_map KeepsNow StaysTold keeps_stays x y keeps
 
-stays_since : (c d e : Told) → KeepsNow c d → StaysTold d e → StaysTold c e
+-- and so it is of what stays afterwards
+pub stays_since : (c d e : Told) → KeepsNow c d → StaysTold d e → StaysTold c e
 stays_since c d e keeps still =
     let few = keeps.appended in
     let more = still.appended in

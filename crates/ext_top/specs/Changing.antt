@@ -3,10 +3,10 @@ use Rattle.std.specs.Prelude.{◌≡◌, ℕ, Bool, true, false, List}
 use Rattle.ext_disk.specs.Disk.{BothTold}
 use Rattle.ext_cmd.specs.Words.{IsWellFormed, command_words}
 use Rattle.ext_cmd.specs.declared.command.Command.{Command}
-use Rattle.ext_cmd.specs.declared.command.Command.TheVariants.{Init, ImportFs, Remove, Sysext, Confext, Tree, Cat, Compare, Check, Layer, Migrate}
+use Rattle.ext_cmd.specs.declared.command.Command.TheVariants.{Init, ImportFs, Remove, Sysext, Confext, Tree, Cat, Compare, Check, Layer, Migrate, Batch, Sample}
 use Rattle.ext_cmd.specs.declared.command.ViewCommand.{ViewCommand}
 use Rattle.ext_cmd.specs.declared.command.ViewCommand.TheVariants as views
-use Rattle.ext_top.specs.Running.{Devices}
+use Rattle.ext_top.specs.Devices.{DeviceStates}
 use Rattle.ext_top.specs.Working.{StaysTold}
 
 -- a command on extensions that may want another host
@@ -17,7 +17,7 @@ may_view_change (views.Merge force) = true
 may_view_change views.Unmerge = true
 may_view_change (views.Refresh force) = true
 
--- a command that may want another host
+-- a command that may want another host; a batch may, whatever its lines
 abbrev pub may_change : Command → Bool
 may_change (Init arch scope hierarchies) = true
 may_change (ImportFs resource path) = true
@@ -30,9 +30,11 @@ may_change (Compare a b) = false
 may_change Check = false
 may_change Layer = false
 may_change Migrate = true
+may_change Batch = true
+may_change (Sample images) = false
 
 -- where the words are those of a command that may change nothing, nothing is made, removed or appended, whatever the disk has
-abbrev pub StaysUnlessChanging : List (List ℕ) → Devices → Devices → Type 0
+abbrev pub StaysUnlessChanging : List (List ℕ) → DeviceStates → DeviceStates → Type 0
 StaysUnlessChanging words old new =
     (command : Command) → IsWellFormed command → words ≡ command_words command → may_change command ≡ false
     → BothTold StaysTold old.disk.told new.disk.told

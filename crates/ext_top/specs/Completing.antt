@@ -1,15 +1,21 @@
--- Completeness: where nothing fails, and the store is sound, a command is done or refused, or there was too little memory.
-use Rattle.std.specs.Prelude.{◌≡◌, ℕ, ◌≤◌, Bool, true, false, List, length, Some}
+-- Where nothing fails, a run is answered: with the replies of the machine, or with its refusal, or for want of memory.
+use Rattle.std.specs.Prelude.{◌≡◌, ℕ, ◌≤◌, ◌⊎◌, Bool, true, false, List, [], ◌∷◌, length, Option, Some, Ok}
 use Rattle.ext_text.specs.Causes.{Rose}
 use Rattle.ext_io.specs.SourceState.{SourceState}
-use Rattle.ext_depot.specs.Depot.{DepotState}
-use Rattle.ext_disk.specs.Disk.{DiskState, Told}
+use Rattle.ext_disk.specs.Disk.{Told}
+use Rattle.ext_gen.specs.Opened.{Generation}
 use Rattle.ext_gen.specs.Sound.{IsSound}
 use Rattle.ext_cmd.specs.Words.{IsWellFormed, command_words}
 use Rattle.ext_cmd.specs.declared.command.Command.{Command}
-use Rattle.ext_intents.specs.Step.{is_of_store}
 use Rattle.ext_top.specs.Alone.{reads_source}
-use Rattle.ext_top.specs.Running.{Devices, HasTooManyLeftOversNow, OpenedWithin, most_source}
+use Rattle.ext_top.specs.Applying.{HasTooManyLeftOvers}
+use Rattle.ext_top.specs.Batch.{AreFirstLines, most_source}
+use Rattle.ext_top.specs.Chain.{LineRunsOn, OpensStore, WantsAt}
+use Rattle.ext_top.specs.Devices.{DeviceStates, StoreSide, store_side_of}
+use Rattle.ext_top.specs.Exits.{Line, does, unread, wrong}
+use Rattle.ext_top.specs.Running.{Kind, alone, run_kind, one_line, source_lines}
+use Rattle.ext_top.specs.Working.{WantsWithin}
+use Rattle.ext_top.specs.declared.lines.Written.{Written}
 use Rattle.ext_top.specs.declared.status.Status.{Status}
 use Rattle.ext_top.specs.declared.status.Status.TheVariants.{Done, Refused, Usage, ReadFault, WriteFault, DiskFault, DepotFault, OutOfMemory, BadStore, Unfinished, TooLong}
 
@@ -18,17 +24,42 @@ abbrev pub TellsWithin : Bool → SourceState → Type 0
 TellsWithin true source = (bytes : List ℕ) × (source.left ≡ Some bytes) × (length bytes ≤ most_source)
 TellsWithin false source = Unit {0}
 
--- more left-overs stand there than one command removes, and the command wants a host that passes no limit of a store
-abbrev pub MeetsTooMany : Command → DiskState → DepotState → Told → Type 0
-MeetsTooMany command disk depot d = HasTooManyLeftOversNow d × OpenedWithin command disk depot
+-- more left-overs stand there than one command removes, and the line's command wants a host that passes no limit of a store
+abbrev pub MeetsTooMany : Line → Option Generation → StoreSide → Type 0
+MeetsTooMany (does command) opened side = HasTooManyLeftOvers opened side.disk × WantsWithin (WantsAt command opened side) opened
+MeetsTooMany (wrong place) opened side = ⊥
+MeetsTooMany unread opened side = ⊥
 
--- the disk tells a sound store, in whose folder the command doesn't meet too many left-overs, where it is looked at
-abbrev pub TellsSound : Bool → Command → DiskState → DepotState → Type 0
-TellsSound true command disk depot = (d : Told) × (disk.told ≡ Some d) × IsSound d.places × ¬ MeetsTooMany command disk depot d
-TellsSound false command disk depot = Unit {0}
+-- the first of the lines does, or a later one does, once those above it have run
+abbrev pub LinesMeetTooMany : List Line → Option Generation → StoreSide → Type 0
+LinesMeetTooMany [] opened side = ⊥
+LinesMeetTooMany (line ∷ lines) opened side =
+    MeetsTooMany line opened side
+    ⊎ ((written : Written) × (mid : StoreSide) × LineRunsOn line opened side (Ok written) mid × LinesMeetTooMany lines written.opened mid)
+
+-- and so it is when the store is opened first
+abbrev pub OpensToTooMany : List Line → StoreSide → Type 0
+OpensToTooMany lines side = (opened : Option Generation) × (start : StoreSide) × OpensStore opened side start × LinesMeetTooMany lines opened start
+
+-- the disk tells a sound store
+abbrev pub TellsSound : StoreSide → Type 0
+TellsSound side = (d : Told) × (side.disk.told ≡ Some d) × IsSound d.places
+
+-- the lines of a source, from the first on
+abbrev pub AreLinesOf : SourceState → List Line → Type 0
+AreLinesOf source lines = (bytes : List ℕ) × (others : List (List ℕ)) × (source.left ≡ Some bytes) × AreFirstLines bytes lines others
+
+-- what the devices tell that nothing but want of memory may stop a run: a source that is read is within its limit; and where a
+-- store is looked at, it is a sound one, and no line of the run meets too many left-overs
+abbrev pub TellsFit : Kind → Command → DeviceStates → Type 0
+TellsFit alone command old = TellsWithin (reads_source command) old.source
+TellsFit source_lines command old =
+    TellsWithin true old.source × TellsSound (store_side_of old)
+    × ((lines : List Line) → AreLinesOf old.source lines → ¬ OpensToTooMany lines (store_side_of old))
+TellsFit one_line command old = TellsSound (store_side_of old) × ¬ OpensToTooMany (does command ∷ []) (store_side_of old)
 
 -- no count of faults rose
-pub record NoneRose (old new : Devices) : Type 0 where
+pub record NoneRose (old new : DeviceStates) : Type 0 where
   pub source : ¬ Rose old.source.faults new.source.faults
   pub sink : ¬ Rose old.sink.faults new.sink.faults
   pub disk : ¬ Rose old.disk.faults new.disk.faults
@@ -49,8 +80,7 @@ IsAnswered Unfinished = ⊥
 IsAnswered TooLong = ⊥
 
 -- what is said of each status then holds of one of these three
-abbrev pub Completes : List (List ℕ) → Devices → Devices → Status → Type 0
+abbrev pub Completes : List (List ℕ) → DeviceStates → DeviceStates → Status → Type 0
 Completes words old new status =
-    (command : Command) → IsWellFormed command → words ≡ command_words command → TellsWithin (reads_source command) old.source
-    → TellsSound (is_of_store command) command old.disk old.depot
+    (command : Command) → IsWellFormed command → words ≡ command_words command → TellsFit (run_kind command) command old
     → NoneRose old new → IsAnswered status

@@ -1,6 +1,6 @@
 -- How a run over a store ends, by the machine: a run of a list of lines, of which one command is a list of one. It goes on
--- from line to line while each is done or refused; where a line stops it, the table below says, for each reason, for which
--- state the store stands then and which part of the line's reply was written. No command is named here.
+-- from line to line while each is done or refused. Where a line stops it, the table below says for each reason for which
+-- state the store stands then, and which part of the line's reply was written. No command is named here.
 use Rattle.std.specs.Prelude.{◌≡◌, ℕ, ◌<◌, ◌⊎◌, List, [], ◌∷◌, ◌++◌, length, codes, decimal, Option, Result, Ok, Err}
 use Rattle.ext_disk.specs.Disk.{Places}
 use Rattle.ext_depot.specs.Depot.{Files}
@@ -13,19 +13,21 @@ use Rattle.ext_top.specs.Machine.{Outcome, gives, shows, Step, refusal_of, reply
 use Rattle.ext_top.specs.declared.stop.Stop.{Stop}
 use Rattle.ext_top.specs.declared.stop.Stop.TheVariants.{WriteFault, DiskFault, DepotFault, OutOfMemory, BadStore, Unfinished}
 
--- a command, or words that are none, with the place of their first fault
+-- a command; or words that are none, with the place of their first fault; or words that found no memory to be read
 pub data Line : Type 0 where
   does : Command → Line
   wrong : ℕ → Line
+  unread : Line
 
 -- the reply to words outside the grammar
 abbrev pub usage_line : ℕ → List ℕ
 usage_line place = lined (codes "usage " ++ decimal place)
 
--- the outcome of a line: the step of its command, or nothing but that reply
+-- the outcome of a line: the step of its command, or nothing but that reply; a line that was not read has none
 abbrev pub LineComes : State → Option Files → Line → Outcome → Type 0
 LineComes s files (does command) outcome = Step s files command outcome
 LineComes s files (wrong place) outcome = outcome ≡ gives s (usage_line place)
+LineComes s files unread outcome = ⊥
 
 -- for which state a disk stands: durably for one, or for one of two
 pub data Standing : Type 0 where
@@ -76,11 +78,11 @@ StopsWith (BadStore why) s files line standing part = ⊥
 StopsWith Unfinished s files line standing part = IsUndone s standing part
 
 -- how the lines end from a state on: the result, for which state the store stands then, and the bytes that were written. A
--- result that is no stop is the refusal of the last line, if it was refused.
+-- result that is no stop is the refusal of the last line, if it was refused. No line is looked at after one that stops.
 abbrev pub EndsLines : Option Refusal → State → Option Files → List Line → Result (Option Refusal) Stop → Standing → List ℕ → Type 0
 EndsLines last s files [] result standing bytes = (result ≡ Ok last) × (standing ≡ durable s) × (bytes ≡ [])
 EndsLines last s files (line ∷ lines) result standing bytes =
-    ((stop : Stop) × (result ≡ Err stop) × StopsWith stop s files line standing bytes)
+    ((stop : Stop) × (result ≡ Err stop) × (lines ≡ []) × StopsWith stop s files line standing bytes)
     ⊎ ((outcome : Outcome) × (more : List ℕ) × LineComes s files line outcome × (bytes ≡ reply_of outcome ++ more)
     × EndsLines (refusal_of outcome) (state_after s outcome) files lines result standing more)
 

@@ -6,8 +6,14 @@ pub mod Applying
 pub mod Working
 pub mod Replying
 pub mod Lines
+pub mod Devices
+pub mod Batch
+pub mod Chain
+pub mod Sample
 pub mod Alone
 pub mod Running
+pub mod Sampling
 pub mod Completing
 pub mod Changing
+pub mod Untouched
 pub mod Laws

@@ -15,6 +15,7 @@ use Rattle.ext_store_files.specs.HeldFiles.{body_told}
 use Rattle.ext_store_files.specs.Fault.{fault_of_shelf}
 use Rattle.ext_cmd.specs.Refusals.{refusal_line}
 use Rattle.ext_cmd.specs.declared.refusal.Refusal.{Refusal}
+use Rattle.ext_top.specs.Exits.{usage_line}
 use Rattle.ext_top.specs.declared.applied.Reply.{Reply}
 use Rattle.ext_top.specs.declared.applied.Reply.TheVariants.{Text, File, Refused}
 use Rattle.ext_top.specs.declared.bad_store.BadStore.TheVariants.{Broken, Damaged}
@@ -104,6 +105,16 @@ WritesReply (Refused refusal) disk k l result = WritesRefusal refusal k l result
 -- the file is kept at the home, and what stands there is too short
 abbrev pub IsHeldDamage : DiskState → HeldFile → Damage → Type 0
 IsHeldDamage disk held damage = IsKeptAs held damage.home damage.listed × IsFound damage.listed (body_told disk held.body) damage.found
+
+-- the reply to words outside the grammar; where there was no memory for it, nothing was written
+abbrev pub WritesUsage : {T : Type 0} → ℕ → SinkState → SinkState → Result T Stop → Type 0
+WritesUsage place k l (Ok done) = Appends k.written l.written (usage_line place)
+WritesUsage place k l (Err WriteFault) = AppendsProperPrefix k l (usage_line place) × Rose k.faults l.faults
+WritesUsage place k l (Err DiskFault) = ⊥
+WritesUsage place k l (Err DepotFault) = ⊥
+WritesUsage place k l (Err OutOfMemory) = l ≡ k
+WritesUsage place k l (Err (BadStore why)) = ⊥
+WritesUsage place k l (Err Unfinished) = ⊥
 
 -- which fault may be blamed for a file
 abbrev pub FileCause : HeldFile → SinkState → SinkState → DiskState → DiskState → Stop → Type 0

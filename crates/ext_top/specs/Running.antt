@@ -1,87 +1,32 @@
 -- How a run ends, by its status: what it took from the source, what it wrote, what the store stands for, at the end and after a
 -- stop at any moment, and which fault it may blame.
-use Rattle.std.specs.Prelude.{◌≡◌, ℕ, ◌+◌, ◌≤◌, ◌⊎◌, Bool, true, false, IsTrue, List, [], ◌∷◌, length, Option, Some, None, IfSome, Result, Ok, Err}
+use Rattle.std.specs.Prelude.{◌≡◌, ℕ, ◌+◌, ◌≤◌, ◌⊎◌, Bool, true, false, IsTrue, List, [], ◌∷◌, length, Option, Some, None, Result}
 use Rattle.std.specs.Io.KnownBytes.{Appends}
 use Rattle.ext_text.specs.Causes.{Rose}
 use Rattle.ext_io.specs.SourceState.{SourceState}
 use Rattle.ext_io.specs.SinkState.{SinkState}
-use Rattle.ext_io.specs.Whole.{ReadsAll, Took, AppendsProperPrefix}
-use Rattle.ext_disk.specs.Disk.{DiskState, Told, BothTold, now}
+use Rattle.ext_io.specs.Whole.{ReadsAll, Stopped, Took, AppendsProperPrefix}
+use Rattle.ext_io.specs.declared.whole.ReadErr.{ReadErr}
+use Rattle.ext_io.specs.declared.whole.ReadErr.TheVariants as reads
+use Rattle.ext_disk.specs.Disk.{Told, BothTold, now}
 use Rattle.ext_disk.specs.Since.{Follows}
-use Rattle.ext_depot.specs.Depot.{DepotState, Files, IsKept}
-use Rattle.ext_host.specs.Shelf.{IsFound}
-use Rattle.ext_host.specs.declared.damage.Damage.{Damage}
-use Rattle.ext_store_files.specs.HeldFiles.{node_told}
-use Rattle.ext_store_files.specs.Names.{home_path}
-use Rattle.ext_store_files.specs.Removal.{MoreThan}
-use Rattle.ext_store_files.specs.declared.fault.StoreFault.TheVariants as store_faults
-use Rattle.ext_store_files.specs.LeftOvers.{most_left_overs}
-use Rattle.ext_homes.specs.Giving.{lists_kept, trees_before}
-use Rattle.ext_gen.specs.Broken.{IsBroken}
-use Rattle.ext_gen.specs.Opened.{Generation}
-use Rattle.ext_gen.specs.Preparing.{host_before, is_left}
-use Rattle.ext_gen.specs.Store.{State, generation_in, Points, Stands}
+use Rattle.ext_depot.specs.Depot.{Files, IsKept}
+use Rattle.ext_gen.specs.Store.{State, Stands}
 use Rattle.ext_gen.specs.Sound.{IsDurably, IsMember, IsSound, StandsSince}
-use Rattle.ext_gen.specs.declared.errors.StoreErr.{StoreErr}
-use Rattle.ext_gen.specs.declared.errors.StoreErr.TheVariants as store_errors
 use Rattle.ext_cmd.specs.Words.{IsUsage, IsWellFormed, command_words}
 use Rattle.ext_cmd.specs.declared.command.Command.{Command}
+use Rattle.ext_cmd.specs.declared.command.Command.TheVariants.{Batch, Compare, Layer, Sample}
 use Rattle.ext_cmd.specs.declared.refusal.Refusal.{Refusal}
-use Rattle.ext_intents.specs.Step.{is_of_store}
 use Rattle.ext_intents.specs.declared.intent.Intent.{Intent}
-use Rattle.ext_top.specs.Machine.{Outcome, refusal_of, reply_of}
-use Rattle.ext_top.specs.Exits.{Line, does, Standing, StandsAs, EndsLines, IsOnTheWay}
-use Rattle.ext_top.specs.Applying.{HasTooManyLeftOvers, IsDamage, PointsAs}
-use Rattle.ext_top.specs.Working.{FindsDamage, HasMet, KeepsCurrent, StaysTold, WantsOn, WantsWithin, WorksFor}
 use Rattle.ext_top.specs.Alone.{ComesAlone, Says, reads_source, status_of_refusal}
-use Rattle.ext_top.specs.declared.bad_store.BadStore.TheVariants as bad
-use Rattle.ext_top.specs.declared.lines.Written.{Written}
+use Rattle.ext_top.specs.Batch.{AreFirstLines, most_source}
+use Rattle.ext_top.specs.Chain.{RunsOn, status_of}
+use Rattle.ext_top.specs.Devices.{DeviceStates, StoreSide, Streams, store_side_of, streams_of}
+use Rattle.ext_top.specs.Exits.{Line, does, Standing, StandsAs, EndsLines, IsOnTheWay}
+use Rattle.ext_top.specs.Machine.{Outcome, refusal_of, reply_of}
 use Rattle.ext_top.specs.declared.status.Status.{Status}
 use Rattle.ext_top.specs.declared.status.Status.TheVariants.{Done, Refused, Usage, ReadFault, WriteFault, DiskFault, DepotFault, OutOfMemory, BadStore, Unfinished, TooLong}
 use Rattle.ext_top.specs.declared.stop.Stop.{Stop}
-use Rattle.ext_top.specs.declared.stop.Stop.TheVariants as stops
-use Rattle.ext_top.specs.Stop.{stop_of_fault}
-
--- the most bytes of a source
-abbrev pub most_source : ℕ
-most_source = 16777216
-
--- what a run sees of its devices, before or after
-pub record Devices : Type 0 where
-  pub source : SourceState
-  pub sink : SinkState
-  pub disk : DiskState
-  pub depot : DepotState
-
--- the four devices of a run
-abbrev pub devices : SourceState → SinkState → DiskState → DepotState → Devices
-devices source sink disk depot = record { source = source; sink = sink; disk = disk; depot = depot }
-
--- those of a command that looks at no store, and those of a store
-pub record Streams : Type 0 where
-  pub source : SourceState
-  pub sink : SinkState
-
--- the two streams of a run
-abbrev pub streams : SourceState → SinkState → Streams
-streams source sink = record { source = source; sink = sink }
-
--- what a run over a store touches
-pub record StoreSide : Type 0 where
-  pub sink : SinkState
-  pub disk : DiskState
-  pub depot : DepotState
-
--- the sink, the disk and the depot of a run
-abbrev pub store_side : SinkState → DiskState → DepotState → StoreSide
-store_side sink disk depot = record { sink = sink; disk = disk; depot = depot }
-
--- no count of faults fell
-pub record CountsOn (old new : Devices) : Type 0 where
-  pub source : old.source.faults ≤ new.source.faults
-  pub sink : old.sink.faults ≤ new.sink.faults
-  pub disk : old.disk.faults ≤ new.disk.faults
-  pub depot : old.depot.faults ≤ new.depot.faults
 
 -- the bytes of the source: where it is read, all of them, to its end and within the limit; else none, and it is left alone
 abbrev pub TakesAll : Bool → SourceState → SourceState → List ℕ → Type 0
@@ -147,43 +92,30 @@ WritesOutcome outcome old new result =
 abbrev pub WritesIntent : Intent → SinkState → SinkState → Status → Type 0
 WritesIntent intent old new result = (outcome : Outcome) × Says intent outcome × WritesOutcome outcome old new result
 
--- the status of lines that ended so: a batch is done where each line is done or refused
-abbrev pub status_of_stop : Stop → Status
-status_of_stop stops.WriteFault = WriteFault
-status_of_stop stops.DiskFault = DiskFault
-status_of_stop stops.DepotFault = DepotFault
-status_of_stop stops.OutOfMemory = OutOfMemory
-status_of_stop (stops.BadStore why) = BadStore why
-status_of_stop stops.Unfinished = Unfinished
+-- how a command runs: without a store, as the lines of its source, or as one line
+pub data Kind : Type 0 where
+  alone : Kind
+  source_lines : Kind
+  one_line : Kind
 
--- the status of a run, by how its lines ended
-abbrev pub status_of : Bool → Result (Option Refusal) Stop → Status
-status_of true (Ok last) = Done
-status_of false (Ok last) = status_of_refusal last
-status_of batch (Err stop) = status_of_stop stop
-
--- how a run of one line ended, by what the line came to
-abbrev pub result_of_line : Result Written Stop → Result (Option Refusal) Stop
-result_of_line (Ok written) = Ok written.refusal
-result_of_line (Err stop) = Err stop
+-- the kind of a command
+abbrev pub run_kind : Command → Kind
+run_kind Layer = alone
+run_kind (Compare a b) = alone
+run_kind (Sample images) = alone
+run_kind Batch = source_lines
+run_kind _ = one_line
 
 -- The lines ran from a state for which the store durably stood, and ended by the table of exits. Each tree that a stop since may
 -- have left stands for a state on the way.
-pub record RunsFrom (batch : Bool) (lines : List Line) (files : Option Files) (k l : SinkState) (status : Status) (s : State)
-    (d e : Told) : Type 0 where
-  pub result : Result (Option Refusal) Stop
-  pub status_is : status ≡ status_of batch result
+pub record LinesFrom (last : Option Refusal) (lines : List Line) (files : Option Files) (k l : SinkState)
+    (result : Result (Option Refusal) Stop) (s : State) (d e : Told) : Type 0 where
   pub bytes : List ℕ
   pub written : Appends k.written l.written bytes
   pub standing : Standing
   pub stands : StandsAs standing e.places
-  pub ends : EndsLines None s files lines result standing bytes
+  pub ends : EndsLines last s files lines result standing bytes
   pub since : StandsSince (IsOnTheWay s files lines) e d.clock
-
--- what the lines leave on a disk that tells
-abbrev pub RunsTold : Bool → List Line → Option Generation → Option Files → SinkState → SinkState → Status → Told → Told → Type 0
-RunsTold batch lines opened files k l status d e =
-    (s : State) → generation_in s ≡ opened → IsDurably s d.places → RunsFrom batch lines files k l status s d e
 
 -- The store was opened: the lines ran from the state for which it stood, and ended by the table of exits. Each tree that a stop
 -- since may have left stands for a state on the way, or for one for which it might have stood before.
@@ -216,163 +148,88 @@ abbrev pub RunsSound : Bool → List Line → Option Files → SinkState → Sin
 RunsSound batch lines files k l status d e =
     IsSound d.places → IsSound e.places × (RunsOpened batch lines files k l status d e ⊎ RunsClosed k l status d e)
 
--- a file that the host of the store lists is another than listed
-pub record IsDamagedNow (d : Told) (damage : Damage) : Type 0 where
-  pub opened : Option Generation
-  pub points : Points (now d.places) opened
-  pub lists : lists_kept (trees_before (host_before opened)) damage.listed damage.home
-  pub differs : IsFound damage.listed (node_told (d.places (home_path damage.home.generation damage.home.file)).node) damage.found
+-- which device a status blames, whose count rose; a run over a store has no other statuses
+abbrev pub Blames : StoreSide → StoreSide → Status → Type 0
+Blames old new Done = Unit {0}
+Blames old new (Refused refusal) = Unit {0}
+Blames old new (Usage place) = ⊥
+Blames old new ReadFault = ⊥
+Blames old new WriteFault = Rose old.sink.faults new.sink.faults
+Blames old new DiskFault = Rose old.disk.faults new.disk.faults
+Blames old new DepotFault = Rose old.depot.faults new.depot.faults
+Blames old new OutOfMemory = Unit {0}
+Blames old new (BadStore why) = Unit {0}
+Blames old new Unfinished = Unit {0}
+Blames old new TooLong = ⊥
 
--- more left-overs stand there than one command removes
-pub record HasTooManyLeftOversNow (d : Told) : Type 0 where
-  pub opened : Option Generation
-  pub points : Points (now d.places) opened
-  pub more : MoreThan most_left_overs (is_left opened) d.places
-
--- which fault a status blames, whatever the store is
-abbrev pub StoreCause : StoreSide → StoreSide → Status → Type 0
-StoreCause old new Done = Unit {0}
-StoreCause old new (Refused refusal) = Unit {0}
-StoreCause old new (Usage place) = ⊥
-StoreCause old new ReadFault = ⊥
-StoreCause old new WriteFault = Rose old.sink.faults new.sink.faults
-StoreCause old new DiskFault = Rose old.disk.faults new.disk.faults
-StoreCause old new DepotFault = Rose old.depot.faults new.depot.faults
-StoreCause old new OutOfMemory = Unit {0}
-StoreCause old new (BadStore (bad.Broken line)) = IfSome old.disk.told (λ d. IsBroken (now d.places) line)
-StoreCause old new (BadStore (bad.Damaged damage)) = IfSome old.disk.told (λ d. IsDamagedNow d damage)
-StoreCause old new Unfinished = IfSome old.disk.told HasTooManyLeftOversNow
-StoreCause old new TooLong = ⊥
-
--- why a run over a store that was opened so ended
-abbrev pub OpenedCause : Option Generation → StoreSide → StoreSide → Status → Type 0
-OpenedCause opened old new Done = Unit {0}
-OpenedCause opened old new (Refused refusal) = Unit {0}
-OpenedCause opened old new (Usage place) = ⊥
-OpenedCause opened old new ReadFault = ⊥
-OpenedCause opened old new WriteFault = Rose old.sink.faults new.sink.faults
-OpenedCause opened old new DiskFault = Rose old.disk.faults new.disk.faults
-OpenedCause opened old new DepotFault = Rose old.depot.faults new.depot.faults
-OpenedCause opened old new OutOfMemory = Unit {0}
-OpenedCause opened old new (BadStore (bad.Broken line)) = ⊥
-OpenedCause opened old new (BadStore (bad.Damaged damage)) = IsDamage opened old.disk damage
-OpenedCause opened old new Unfinished = HasTooManyLeftOvers opened old.disk
-OpenedCause opened old new TooLong = ⊥
-
--- an error of opening a store
-abbrev pub IsOfOpening : StoreErr → Type 0
-IsOfOpening (store_errors.Fault store_faults.OutOfMemory) = Unit {0}
-IsOfOpening (store_errors.Fault store_faults.DiskFault) = Unit {0}
-IsOfOpening (store_errors.Fault store_faults.DepotFault) = ⊥
-IsOfOpening (store_errors.Broken line) = Unit {0}
-IsOfOpening (store_errors.Fault (store_faults.Damaged damage)) = ⊥
-IsOfOpening (store_errors.Mismatch path listed found) = ⊥
-IsOfOpening (store_errors.NotInDepot path) = ⊥
-IsOfOpening store_errors.Unfinished = ⊥
-IsOfOpening (store_errors.Limit which) = ⊥
-
--- its status
-abbrev pub status_of_closed : StoreErr → Status
-status_of_closed (store_errors.Fault fault) = status_of_stop (stop_of_fault fault)
-status_of_closed (store_errors.Broken line) = BadStore (bad.Broken line)
-status_of_closed (store_errors.Mismatch path listed found) = OutOfMemory
-status_of_closed (store_errors.NotInDepot path) = OutOfMemory
-status_of_closed store_errors.Unfinished = Unfinished
-status_of_closed (store_errors.Limit which) = OutOfMemory
-
--- a run over a store
-pub record RunsStore (batch : Bool) (lines : List Line) (old new : StoreSide) (status : Status) : Type 0 where
+-- Lines over a store. From a sound one they end by the machine, at the end and after a stop at any moment; and whatever the disk
+-- has, each line did what it wanted and nothing else.
+pub record RunsLines (batch : Bool) (lines : List Line) (old new : StoreSide) (status : Status) : Type 0 where
   pub follows : Follows old.disk new.disk
   pub kept : IsKept old.depot new.depot
-  pub cause : StoreCause old new status
+  pub count : old.sink.faults ≤ new.sink.faults
+  pub blames : Blames old new status
   pub sound : BothTold (RunsSound batch lines old.depot.contents old.sink new.sink status) old.disk.told new.disk.told
+  pub on_any : RunsOn batch lines old new status
 
--- what was met by a command that was done or refused, what by one that is unfinished, and what by one that found a damage; else
--- nothing is said
-abbrev pub StatusMet : (Option Refusal → Option Generation → Type 0) → Type 0 → (Damage → Type 0) → Status → Type 0
-StatusMet M P R Done = (after : Option Generation) × M None after
-StatusMet M P R (Refused refusal) = (after : Option Generation) × M (Some refusal) after
-StatusMet M P R (Usage place) = Unit {0}
-StatusMet M P R ReadFault = Unit {0}
-StatusMet M P R WriteFault = Unit {0}
-StatusMet M P R DiskFault = Unit {0}
-StatusMet M P R DepotFault = Unit {0}
-StatusMet M P R OutOfMemory = Unit {0}
-StatusMet M P R (BadStore (bad.Broken line)) = Unit {0}
-StatusMet M P R (BadStore (bad.Damaged damage)) = R damage
-StatusMet M P R Unfinished = P
-StatusMet M P R TooLong = Unit {0}
-
--- The disk, where it is told, points to what was opened; and what the command wants of that does so to the disk. Where it wants
--- no other host, or the run ended before that, nothing is made, removed or appended.
-abbrev pub RunWorks : Command → DiskState → DepotState → Told → Told → Type 0
-RunWorks command disk depot d e =
-    StaysTold d e ⊎ ((opened : Option Generation) × Points (now d.places) opened × WorksFor (WantsOn opened disk depot.contents command) opened d e)
-
--- what was met of what the command wants of what was opened, and what was written for that
-abbrev pub OpenedMet : Command → DiskState → DiskState → DepotState → SinkState → SinkState → Option Refusal → Option Generation → Type 0
-OpenedMet command old new depot k l refusal after =
-    (opened : Option Generation) × PointsAs old opened × HasMet (WantsOn opened old depot.contents command) opened old new depot k l refusal after
-
--- of what was opened the command wants a host that passes no limit of a store
-abbrev pub OpenedWithin : Command → DiskState → DepotState → Type 0
-OpenedWithin command old depot =
-    (opened : Option Generation) × PointsAs old opened × WantsWithin (WantsOn opened old depot.contents command) opened
-
--- the damage is one that the command found, which read a file there
-abbrev pub OpenedDamage : Command → DiskState → DepotState → Damage → Type 0
-OpenedDamage command old depot damage =
-    (opened : Option Generation) × PointsAs old opened × FindsDamage command opened old depot damage
-
--- the first of a command that was done or refused, the second of one that is unfinished, the third of one that found a damage
-abbrev pub RunMet : Command → DiskState → DiskState → DepotState → SinkState → SinkState → Status → Type 0
-RunMet command old new depot k l status =
-    StatusMet (OpenedMet command old new depot k l) (OpenedWithin command old depot) (OpenedDamage command old depot) status
-
--- where a command was refused, or ended for another reason than a fault of the disk or of the sink, and not done, `current` is as
--- it was
-abbrev pub RunLeavesCurrent : Status → Told → Told → Type 0
-RunLeavesCurrent Done d e = Unit {0}
-RunLeavesCurrent (Refused refusal) d e = KeepsCurrent d e
-RunLeavesCurrent (Usage place) d e = KeepsCurrent d e
-RunLeavesCurrent ReadFault d e = KeepsCurrent d e
-RunLeavesCurrent WriteFault d e = Unit {0}
-RunLeavesCurrent DiskFault d e = Unit {0}
-RunLeavesCurrent DepotFault d e = KeepsCurrent d e
-RunLeavesCurrent OutOfMemory d e = KeepsCurrent d e
-RunLeavesCurrent (BadStore why) d e = KeepsCurrent d e
-RunLeavesCurrent Unfinished d e = KeepsCurrent d e
-RunLeavesCurrent TooLong d e = KeepsCurrent d e
-
--- disk and depot are left alone
-pub record RunsAlone (command : Command) (old new : Devices) (status : Status) : Type 0 where
+-- a command that looks at no store: disk and depot are left alone
+pub record RunsAlone (command : Command) (old new : DeviceStates) (status : Status) : Type 0 where
   pub disk : new.disk ≡ old.disk
   pub depot : new.depot ≡ old.depot
-  pub ends : EndsAlone command (streams old.source old.sink) (streams new.source new.sink) status
+  pub ends : EndsAlone command (streams_of old) (streams_of new) status
 
--- the source is left alone
-pub record RunsOver (command : Command) (old new : Devices) (status : Status) : Type 0 where
+-- one command over a store is a list of one, and leaves the source alone
+pub record RunsSingle (command : Command) (old new : DeviceStates) (status : Status) : Type 0 where
   pub source : new.source ≡ old.source
-  pub works : BothTold (RunWorks command old.disk old.depot) old.disk.told new.disk.told
-  pub met : RunMet command old.disk new.disk old.depot old.sink new.sink status
-  pub current : BothTold (RunLeavesCurrent status) old.disk.told new.disk.told
-  pub store : RunsStore false (does command ∷ []) (store_side old.sink old.disk old.depot) (store_side new.sink new.disk new.depot) status
+  pub runs : RunsLines false (does command ∷ []) (store_side_of old) (store_side_of new) status
 
--- a run by the kind of its command: over a store, or without one
-abbrev pub RunsKind : Bool → Command → Devices → Devices → Status → Type 0
-RunsKind true command old new status = RunsOver command old new status
-RunsKind false command old new status = RunsAlone command old new status
+-- the status of a source that was not read whole
+abbrev pub status_of_read : ReadErr → Status
+status_of_read reads.OutOfMemory = OutOfMemory
+status_of_read reads.Failed = ReadFault
+status_of_read reads.TooLong = TooLong
+
+-- the source of a batch was not read whole, and nothing else was touched
+pub record StaysUnread (old new : DeviceStates) (status : Status) : Type 0 where
+  pub error : ReadErr
+  pub status_is : status ≡ status_of_read error
+  pub stopped : Stopped old.source new.source most_source error
+  pub others : store_side_of new ≡ store_side_of old
+
+-- The run looked at these lines of a text, the first ones, each after the one above it had ended: at all of them, where it is done
+pub record RunsBegun (bytes : List ℕ) (old new : StoreSide) (status : Status) : Type 0 where
+  pub lines : List Line
+  pub others : List (List ℕ)
+  pub first : AreFirstLines bytes lines others
+  pub whole : status ≡ Done → others ≡ []
+  pub runs : RunsLines true lines old new status
+
+-- a batch whose source was read to its end, before anything else was touched
+pub record RunsRead (old new : DeviceStates) (status : Status) : Type 0 where
+  pub bytes : List ℕ
+  pub taken : ReadsAll old.source new.source most_source bytes
+  pub runs : RunsBegun bytes (store_side_of old) (store_side_of new) status
+
+-- a batch
+abbrev pub RunsBatch : DeviceStates → DeviceStates → Status → Type 0
+RunsBatch old new status = RunsRead old new status ⊎ StaysUnread old new status
+
+-- a run by its command: without a store, of the lines of the source, or of one line, which it is
+abbrev pub RunsKind : Kind → Command → DeviceStates → DeviceStates → Status → Type 0
+RunsKind alone command old new status = RunsAlone command old new status
+RunsKind source_lines command old new status = RunsBatch old new status
+RunsKind one_line command old new status = RunsSingle command old new status
 
 -- the words are a command, and it ran so
-pub record RunsCommand (words : List (List ℕ)) (old new : Devices) (status : Status) : Type 0 where
+pub record RunsCommand (words : List (List ℕ)) (old new : DeviceStates) (status : Status) : Type 0 where
   pub command : Command
   pub well_formed : IsWellFormed command
   pub same : words ≡ command_words command
-  pub runs : RunsKind (is_of_store command) command old new status
+  pub runs : RunsKind (run_kind command) command old new status
 
 -- The run of these words: they are no command, and nothing was touched; or there was no memory to read them, and nothing was; or
 -- they are a command, and it ran so.
-abbrev pub Runs : List (List ℕ) → Devices → Devices → Status → Type 0
+abbrev pub Runs : List (List ℕ) → DeviceStates → DeviceStates → Status → Type 0
 Runs words old new (Usage place) = IsUsage words place × (new ≡ old)
 Runs words old new OutOfMemory = (new ≡ old) ⊎ RunsCommand words old new OutOfMemory
 Runs words old new status = RunsCommand words old new status

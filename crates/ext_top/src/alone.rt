@@ -1,9 +1,10 @@
 // Runs of commands that look at no store.
-ghost use Rattle.std.specs.Prelude.{◌≤◌};
+ghost use Rattle.std.specs.Prelude.{◌≡◌, ◌≤◌};
 ghost use Rattle.ext_cmd.specs.declared.command.Command.TheVariants.{Layer};
 ghost use Rattle.ext_intents.specs.Compare.{compare_intent};
 ghost use Rattle.ext_top.specs.Alone.{IsAlone};
-ghost use Rattle.ext_top.specs.Running.{EndsAlone, WritesIntent, WritesLast, streams};
+ghost use Rattle.ext_top.specs.Devices.{streams};
+ghost use Rattle.ext_top.specs.Running.{EndsAlone, WritesIntent, WritesLast, status_of_read};
 
 use crate::status::Status;
 use ext_cmd::{answer_text, refusal_text};
@@ -13,7 +14,7 @@ use ext_text::{OutOfMemory, Text};
 use std::alloc::Global;
 
 /// The most bytes of a source.
-const MOST_SOURCE: usize = 16_777_216;
+pub(crate) const MOST_SOURCE: usize = 16_777_216;
 
 /// The run of `layer`, which reads its source first.
 pub(crate) fn run_layer<S: Source, K: Sink>(alloc: Global, source: &mut S, sink: &mut K) -> Status
@@ -27,9 +28,18 @@ pub(crate) fn run_layer<S: Source, K: Sink>(alloc: Global, source: &mut S, sink:
             Ok(intent) => write_intent(alloc, intent, sink),
             Err(OutOfMemory) => Status::OutOfMemory,
         },
-        Err(ReadErr::OutOfMemory) => Status::OutOfMemory,
-        Err(ReadErr::Failed) => Status::ReadFault,
-        Err(ReadErr::TooLong) => Status::TooLong,
+        Err(error) => status_of_read(error),
+    }
+}
+
+/// The status of a source that was not read whole.
+pub(crate) fn status_of_read(error: ReadErr) -> Status
+    ensures { result ≡ status_of_read error }
+{
+    match error {
+        ReadErr::OutOfMemory => Status::OutOfMemory,
+        ReadErr::Failed => Status::ReadFault,
+        ReadErr::TooLong => Status::TooLong,
     }
 }
 
@@ -42,8 +52,8 @@ pub(crate) fn run_compare<K: Sink>(alloc: Global, a: &Text, b: &Text, sink: &mut
     write_intent(alloc, intent, sink)
 }
 
-// Writes what a command that looks at no store wants.
-fn write_intent<K: Sink>(alloc: Global, intent: Intent, sink: &mut K) -> Status
+/// Writes what a command that looks at no store wants.
+pub(crate) fn write_intent<K: Sink>(alloc: Global, intent: Intent, sink: &mut K) -> Status
     requires { IsAlone intent }
     ensures writes { WritesIntent intent (K.state sink.old) (K.state sink.new) result }
     ensures count { (K.state sink.old).faults ≤ (K.state sink.new).faults }

@@ -10,7 +10,8 @@ ghost use Rattle.ext_gen.specs.Opened.{IsOpened};
 ghost use Rattle.ext_gen.specs.Preparing.{coming_number, host_before};
 ghost use Rattle.ext_cmd.specs.Words.{IsWellFormed};
 ghost use Rattle.ext_intents.specs.Intents.{IsFit, trees_seen};
-ghost use Rattle.ext_intents.specs.Step.{Wants, is_line};
+ghost use Rattle.ext_intents.specs.Step.{Wants};
+ghost use Rattle.ext_cmd.specs.Line.{may_be_line};
 ghost use Rattle.ext_top.specs.Machine.{Comes, Counts, Step, bytes_at, checked_text, shows};
 ghost use Rattle.ext_top.specs.Applying.{AppliesTold, ApplyCause, IsShownReply, PointsAs};
 ghost use Rattle.ext_top.specs.Applying.{RestCause, SeeCause, WhereDamaged, WhereUnfinished, seen_on};
@@ -50,7 +51,7 @@ pub fn apply<D: Disk, P: Depot>(
     disk: &mut D,
     depot: &mut P,
 ) -> Result<Applied, ApplyErr>
-    requires line { IsTrue (is_line command.now) }
+    requires line { IsTrue (may_be_line command.now) }
     requires formed { IsWellFormed command.now }
     requires points { PointsAs (D.state disk.old) opened }
     ensures follows { Follows (D.state disk.old) (D.state disk.new) }
@@ -81,7 +82,7 @@ fn intended<D: Disk, P: Depot>(
     disk: &mut D,
     depot: &mut P,
 ) -> Result<Intent, ApplyErr>
-    requires line { IsTrue (is_line command.now) }
+    requires line { IsTrue (may_be_line command.now) }
     requires formed { IsWellFormed command.now }
     ensures rests { Rests (D.state disk.old) (D.state disk.new) }
     ensures kept { IsKept (P.state depot.old) (P.state depot.new) }

@@ -4,8 +4,8 @@ ghost use Rattle.ext_top.specs.Changing.{may_change, may_view_change};
 
 use ext_cmd::{Command, ViewCommand};
 
-/// Whether a command may make, remove or append anything in a store folder. Where it may not, a run of it does not, whatever
-/// stands there. `run` says so.
+/// Whether a command may make, remove or append anything in a store folder; `batch` may, whatever its lines. Where a command may
+/// not, a run of it does not, whatever stands there. `run` says so.
 pub fn may_change(command: &Command) -> bool
     ensures { result ≡ may_change command.now }
 {
@@ -13,13 +13,15 @@ pub fn may_change(command: &Command) -> bool
         Command::Init { .. }
         | Command::ImportFs { .. }
         | Command::Remove { .. }
-        | Command::Migrate => true,
+        | Command::Migrate
+        | Command::Batch => true,
         Command::Sysext(view) | Command::Confext(view) => may_view_change(*view),
         Command::Tree { .. }
         | Command::Cat { .. }
         | Command::Compare(_, _)
         | Command::Check
-        | Command::Layer => false,
+        | Command::Layer
+        | Command::Sample { .. } => false,
     }
 }
 

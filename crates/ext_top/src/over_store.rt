@@ -1,14 +1,16 @@
-// Runs of commands over a store.
-ghost use Rattle.std.specs.Prelude.{◌≡◌, ◌∷◌, [], ◌≤◌, false, IsTrue};
-ghost use Rattle.ext_disk.specs.Disk.{BothTold};
+// Runs over a store, which is opened first.
+ghost use Rattle.std.specs.Prelude.{◌≡◌, ◌∷◌, [], Option, true, false, IsTrue};
+ghost use Rattle.ext_cmd.specs.declared.refusal.Refusal.{Refusal};
+ghost use Rattle.ext_cmd.specs.Line.{may_be_line};
 ghost use Rattle.ext_cmd.specs.Words.{IsWellFormed};
-ghost use Rattle.ext_intents.specs.Step.{is_line};
 ghost use Rattle.ext_top.specs.Alone.{status_of_refusal};
+ghost use Rattle.ext_top.specs.Chain.{IsOfOpening, result_of, result_of_line, status_of, status_of_closed, status_of_stop};
+ghost use Rattle.ext_top.specs.Devices.{store_side};
 ghost use Rattle.ext_top.specs.Exits.{does};
-ghost use Rattle.ext_top.specs.Running.{IsOfOpening, RunLeavesCurrent, RunMet, RunWorks, RunsStore, result_of_line, status_of, status_of_closed, status_of_stop, store_side};
+ghost use Rattle.ext_top.specs.Running.{RunsBegun, RunsLines};
 
 use crate::bad_store::BadStore;
-use crate::lines::{Written, do_line};
+use crate::lines::{Written, do_line, run_lines};
 use crate::status::Status;
 use crate::stop::Stop;
 use ext_cmd::{Command, Refusal};
@@ -18,30 +20,40 @@ use ext_gen::{StoreErr, open};
 use ext_io::Sink;
 use std::alloc::Global;
 
-/// The run of a command over a store, which is opened first.
-pub(crate) fn run_store<K: Sink, D: Disk, P: Depot>(
+/// The run of one command over a store.
+pub(crate) fn run_single<K: Sink, D: Disk, P: Depot>(
     alloc: Global,
     command: &Command,
     sink: &mut K,
     disk: &mut D,
     depot: &mut P,
 ) -> Status
-    requires line { IsTrue (is_line command.now) }
+    requires line { IsTrue (may_be_line command.now) }
     requires formed { IsWellFormed command.now }
-    ensures runs { RunsStore false (does command.now ∷ [])
+    ensures runs { RunsLines false (does command.now ∷ [])
         (store_side (K.state sink.old) (D.state disk.old) (P.state depot.old))
         (store_side (K.state sink.new) (D.state disk.new) (P.state depot.new)) result }
-    ensures works { BothTold (RunWorks command.now (D.state disk.old) (P.state depot.old)) (D.state disk.old).told (D.state disk.new).told }
-    ensures met { RunMet command.now (D.state disk.old) (D.state disk.new) (P.state depot.old) (K.state sink.old) (K.state sink.new)
-        result }
-    ensures current { BothTold (RunLeavesCurrent result) (D.state disk.old).told (D.state disk.new).told }
-    ensures count { (K.state sink.old).faults ≤ (K.state sink.new).faults }
 {
     match open(alloc, disk) {
-        Ok(opened) => {
-            let line = do_line(alloc, command, opened, sink, disk, depot);
-            status_of_line(line)
-        }
+        Ok(opened) => status_of_line(do_line(alloc, command, opened, sink, disk, depot)),
+        Err(error) => status_of_closed(error),
+    }
+}
+
+/// The run of the lines of a text over a store, which is opened though there be none.
+pub(crate) fn run_text<K: Sink, D: Disk, P: Depot>(
+    alloc: Global,
+    text: &[u8],
+    sink: &mut K,
+    disk: &mut D,
+    depot: &mut P,
+) -> Status
+    ensures runs { RunsBegun text.now
+        (store_side (K.state sink.old) (D.state disk.old) (P.state depot.old))
+        (store_side (K.state sink.new) (D.state disk.new) (P.state depot.new)) result }
+{
+    match open(alloc, disk) {
+        Ok(opened) => status_of_lines(run_lines(alloc, text, opened, sink, disk, depot)),
         Err(error) => status_of_closed(error),
     }
 }
@@ -52,6 +64,16 @@ fn status_of_line(line: Result<Written, Stop>) -> Status
 {
     match line {
         Ok(written) => status_of_refusal(written.refusal),
+        Err(stop) => status_of_stop(stop),
+    }
+}
+
+// The status of a batch, which is done though lines of it were refused.
+fn status_of_lines(lines: Result<(), Stop>) -> Status
+    ensures { (last : Option Refusal) → result ≡ status_of true (result_of last lines) }
+{
+    match lines {
+        Ok(()) => Status::Done,
         Err(stop) => status_of_stop(stop),
     }
 }

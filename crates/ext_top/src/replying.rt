@@ -4,8 +4,9 @@ ghost use Rattle.ext_disk.specs.Since.{Rests};
 ghost use Rattle.ext_host.specs.Shelf.{missing};
 ghost use Rattle.ext_store_files.specs.HeldFiles.{body_told, is_served, IsNextPiece, PieceCause};
 ghost use Rattle.ext_top.specs.Applying.{IsServedReply};
+ghost use Rattle.ext_top.specs.Exits.{usage_line};
 ghost use Rattle.ext_top.specs.Working.{refused_by};
-ghost use Rattle.ext_top.specs.Replying.{FileCause, ReplyCause, WritesBytes, WritesFile, WritesMany, WritesPiece, WritesReply};
+ghost use Rattle.ext_top.specs.Replying.{FileCause, ReplyCause, WritesBytes, WritesFile, WritesMany, WritesPiece, WritesReply, WritesUsage};
 
 use crate::applied::Reply;
 use crate::stop::Stop;
@@ -13,7 +14,9 @@ use ext_cmd::{Refusal, refusal_text};
 use ext_disk::Disk;
 use ext_host::{Held, ShelfErr};
 use ext_io::{PIECE, Sink, write_all, zeros};
+use ext_lines::append_decimal;
 use ext_store_files::{next_piece, piece};
+use ext_text::{OutOfMemory, Text};
 use std::alloc::Global;
 
 /// Writes a reply, and gives the refusal that it is the line of, if it is one.
@@ -50,6 +53,28 @@ pub(crate) fn write_reply<K: Sink, D: Disk>(
             Ok(Some(refusal))
         }
     }
+}
+
+/// Writes the reply to words outside the grammar, which have their first fault at this place.
+///
+/// # Errors
+/// The sink failed, and a proper prefix of the reply was written; or there was no memory for it.
+pub(crate) fn write_usage<K: Sink>(alloc: Global, place: u64, sink: &mut K) -> Result<(), Stop>
+    ensures writes { WritesUsage place (K.state sink.old) (K.state sink.new) result }
+    ensures count { (K.state sink.old).faults ≤ (K.state sink.new).faults }
+{
+    let line = usage_text(alloc, place)?;
+    write_bytes(sink, line.bytes())
+}
+
+// The reply to words outside the grammar.
+fn usage_text(alloc: Global, place: u64) -> Result<Text, OutOfMemory>
+    ensures { IfOk result (λ text. text ≡ usage_line place) }
+{
+    let mut text = Vec::from_slice(alloc, b"usage ")?;
+    append_decimal(&mut text, place)?;
+    text.push(b'\n')?;
+    Ok(Text::from_vec(text))
 }
 
 // Writes bytes that are here.

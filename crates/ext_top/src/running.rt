@@ -1,12 +1,15 @@
 // The top call.
 ghost use Rattle.ext_cmd.specs.Words.{IsWellFormed};
-ghost use Rattle.ext_intents.specs.Step.{is_of_store};
 ghost use Rattle.ext_top.specs.Changing.{StaysUnlessChanging};
 ghost use Rattle.ext_top.specs.Completing.{Completes};
-ghost use Rattle.ext_top.specs.Running.{CountsOn, Runs, RunsKind, devices};
+ghost use Rattle.ext_top.specs.Devices.{CountsOn, states};
+ghost use Rattle.ext_top.specs.Running.{Runs, RunsKind, run_kind};
 
 use crate::alone::{run_compare, run_layer};
-use crate::over_store::run_store;
+use crate::batch::run_batch;
+use crate::devices::Devices;
+use crate::over_store::run_single;
+use crate::sample::run_sample;
 use crate::status::Status;
 use ext_cmd::{CmdErr, Command, read_words};
 use ext_depot::Depot;
@@ -15,45 +18,40 @@ use ext_io::{Sink, Source};
 use ext_text::Words;
 use std::alloc::Global;
 
-/// Runs the command that the words are, over a source and a sink, a store on a disk and a depot.
+/// Runs the command that the words are, over a source and a sink, a store on a disk and a depot. One command is a list of one
+/// line; `batch` runs the lines of its source.
 ///
-/// `layer` reads the source to its end first. Where that tells its bytes, at most 16,777,217 of them are taken. It and
-/// `compare` look at no store. Every other command leaves the source alone. The run opens the store, carries the command out
-/// by the machine, and then writes its reply. Each status comes as `Runs` says, with what was written and what the store
-/// stands for then, and after a stop at any moment. A fault is told only where that count rose.
+/// `layer` and `batch` read the source to its end first. Where that tells its bytes, at most 16,777,217 of them are taken. Every
+/// other command leaves the source alone. `layer`, `compare` and `sample` look at no store. Every other run opens the store. Then it
+/// takes one line after another: it carries the command out by the machine, and then writes its reply. A batch goes on after a line
+/// that was refused, and after one whose words are outside the grammar, to which it replies `usage PLACE`. Each status comes as
+/// `Runs` says, with what was written and what the store stands for then, and after a stop at any moment: that is the state after
+/// some of the first lines, or one for which the store might have stood before. A fault is told only where that count rose.
 ///
-/// Whatever the store is, a command makes, removes and appends only what the host that it wants asks for, and nothing at all
-/// where it wants no other host. A command that `may_change` is false of never does any of it. Where a command was done or
-/// refused, no file that it showed or checked was another than listed, no change met more left-overs than one command
-/// removes, and the reply that was written goes with what it met.
+/// Whatever the store is, each line makes, removes and appends only what the host that its command wants asks for, and nothing at all
+/// where it wants no other host. A command that `may_change` is false of never does any of it. Where a line was done or refused, no
+/// file that it showed or checked was another than listed, no change met more left-overs than one command removes, and the reply that
+/// was written goes with what it met.
 ///
-/// It tells a damaged file only where the command reads that file. It ends unfinished only where the command wants a host
-/// that passes no limit of a store, and more left-overs stand there than one command removes. Where no count rose, a source
-/// that is read tells its bytes and is within its limit, and a store that is looked at is sound and the command doesn't meet
-/// that, it ends with `Done`, `Refused` or `OutOfMemory`.
+/// It tells a damaged file only where a line's command reads that file. It ends unfinished only at a line whose command wants a host
+/// that passes no limit of a store, where more left-overs stand than one command removes. Where no count rose, a source that is read
+/// tells its bytes and is within its limit, and a store that is looked at is sound and no line meets that, it ends with `Done`,
+/// `Refused` or `OutOfMemory`.
 pub fn run<S: Source, K: Sink, D: Disk, P: Depot>(
     alloc: Global,
     words: &Words,
-    source: &mut S,
-    sink: &mut K,
-    disk: &mut D,
-    depot: &mut P,
+    devices: &mut Devices<S, K, D, P>,
 ) -> Status
-    ensures runs { Runs words.now
-        (devices (S.state source.old) (K.state sink.old) (D.state disk.old) (P.state depot.old))
-        (devices (S.state source.new) (K.state sink.new) (D.state disk.new) (P.state depot.new)) result }
-    ensures complete { Completes words.now
-        (devices (S.state source.old) (K.state sink.old) (D.state disk.old) (P.state depot.old))
-        (devices (S.state source.new) (K.state sink.new) (D.state disk.new) (P.state depot.new)) result }
-    ensures reading { StaysUnlessChanging words.now
-        (devices (S.state source.old) (K.state sink.old) (D.state disk.old) (P.state depot.old))
-        (devices (S.state source.new) (K.state sink.new) (D.state disk.new) (P.state depot.new)) }
-    ensures counts { CountsOn
-        (devices (S.state source.old) (K.state sink.old) (D.state disk.old) (P.state depot.old))
-        (devices (S.state source.new) (K.state sink.new) (D.state disk.new) (P.state depot.new)) }
+    ensures runs { Runs words.now (states S.state K.state D.state P.state devices.old)
+        (states S.state K.state D.state P.state devices.new) result }
+    ensures complete { Completes words.now (states S.state K.state D.state P.state devices.old)
+        (states S.state K.state D.state P.state devices.new) result }
+    ensures reading { StaysUnlessChanging words.now (states S.state K.state D.state P.state devices.old)
+        (states S.state K.state D.state P.state devices.new) }
+    ensures counts { CountsOn (states S.state K.state D.state P.state devices.old) (states S.state K.state D.state P.state devices.new) }
 {
     match read_words(alloc, words) {
-        Ok(command) => run_command(alloc, &command, source, sink, disk, depot),
+        Ok(command) => run_command(alloc, &command, devices),
         Err(CmdErr::OutOfMemory) => Status::OutOfMemory,
         Err(CmdErr::Usage { place }) => Status::Usage { place },
     }
@@ -63,22 +61,24 @@ pub fn run<S: Source, K: Sink, D: Disk, P: Depot>(
 fn run_command<S: Source, K: Sink, D: Disk, P: Depot>(
     alloc: Global,
     command: &Command,
-    source: &mut S,
-    sink: &mut K,
-    disk: &mut D,
-    depot: &mut P,
+    devices: &mut Devices<S, K, D, P>,
 ) -> Status
     requires { IsWellFormed command.now }
-    ensures runs { RunsKind (is_of_store command.now) command.now
-        (devices (S.state source.old) (K.state sink.old) (D.state disk.old) (P.state depot.old))
-        (devices (S.state source.new) (K.state sink.new) (D.state disk.new) (P.state depot.new)) result }
-    ensures counts { CountsOn
-        (devices (S.state source.old) (K.state sink.old) (D.state disk.old) (P.state depot.old))
-        (devices (S.state source.new) (K.state sink.new) (D.state disk.new) (P.state depot.new)) }
+    ensures runs { RunsKind (run_kind command.now) command.now (states S.state K.state D.state P.state devices.old)
+        (states S.state K.state D.state P.state devices.new) result }
+    ensures counts { CountsOn (states S.state K.state D.state P.state devices.old) (states S.state K.state D.state P.state devices.new) }
 {
     match command {
-        Command::Layer => run_layer(alloc, source, sink),
-        Command::Compare(a, b) => run_compare(alloc, a, b, sink),
-        _ => run_store(alloc, command, sink, disk, depot),
+        Command::Layer => run_layer(alloc, &mut devices.source, &mut devices.sink),
+        Command::Compare(a, b) => run_compare(alloc, a, b, &mut devices.sink),
+        Command::Sample { images } => run_sample(alloc, *images, &mut devices.sink),
+        Command::Batch => run_batch(alloc, devices),
+        _ => run_single(
+            alloc,
+            command,
+            &mut devices.sink,
+            &mut devices.disk,
+            &mut devices.depot,
+        ),
     }
 }

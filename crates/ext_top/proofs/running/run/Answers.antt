@@ -1,5 +1,5 @@
 use Rattle.std.proofs.Common.{refl}
-use Rattle.ext_top.specs.Running.{devices}
+use Rattle.ext_top.specs.Devices.{states}
 use Rattle.ext_top.specs.declared.status.Status.TheVariants.{Usage}
 use Rattle.ext_top.proofs.ChangingLemmas.{run_stays_unless_changing}
 use Rattle.ext_top.proofs.CompletingLemmas.{run_completes}
@@ -19,5 +19,5 @@ returns-in-Ok-clause-reading g c =
 
 pub returns-in-Err-Usage-clause-complete : goal.returns-in-Err-Usage-clause-complete
 returns-in-Err-Usage-clause-complete g c =
-    let at = devices (g.S.Source.state c.args.source.now) (g.K.Sink.state c.args.sink.now) (g.D.Disk.state c.args.disk.now) (g.P.Depot.state c.args.depot.now) in
+    let at = states g.S.Source.state g.K.Sink.state g.D.Disk.state g.P.Depot.state c.args.devices.now in
     run_completes c.args.words.now at at (Usage c.in-Err-Usage.place) (rw c.in-Err-Usage.field-0-is at c.in-Err-Usage.ensures, refl)

@@ -1,16 +1,25 @@
 use Rattle.std.proofs.Common.{[], refl}
 use Rattle.ext_cmd.specs.declared.command.Command.TheVariants.{Compare}
 use Rattle.ext_intents.specs.Compare.{compare_intent}
-use Rattle.ext_top.proofs.RunsLemmas.{intent_ends}
+use Rattle.ext_top.proofs.RunsLemmas.{intent_ends, sample_ends}
 use Rattle.ext_top.proofs.running.run_command.Goals as goal
 
 pub returns-in-Compare-clause-runs : goal.returns-in-Compare-clause-runs
 returns-in-Compare-clause-runs g c =
     let a = c.in-Compare.a in
     let b = c.in-Compare.b in
-    let source = g.S.Source.state c.args.source.now in
+    let source = g.S.Source.state c.args.devices.now.source in
     rw c.in-Compare.is (record {
       disk = refl;
       depot = refl;
-      ends = intent_ends (Compare a b) [] source source (g.K.Sink.state c.args.sink.now) (g.K.Sink.state c.run_compare.new.sink) (compare_intent a b) c.run_compare.result (refl, refl) refl c.run_compare.ensures.writes;
+      ends = intent_ends (Compare a b) [] source source (g.K.Sink.state c.args.devices.now.sink) (g.K.Sink.state c.run_compare.new.sink) (compare_intent a b) c.run_compare.result (refl, refl) refl c.run_compare.ensures.writes;
+    })
+
+pub returns-in-Sample-clause-runs : goal.returns-in-Sample-clause-runs
+returns-in-Sample-clause-runs g c =
+    let source = g.S.Source.state c.args.devices.now.source in
+    rw c.in-Sample.is (record {
+      disk = refl;
+      depot = refl;
+      ends = sample_ends c.in-Sample.images source (g.K.Sink.state c.args.devices.now.sink) (g.K.Sink.state c.run_sample.new.sink) c.run_sample.result c.run_sample.ensures.writes;
     })

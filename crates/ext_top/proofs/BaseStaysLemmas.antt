@@ -1,0 +1,330 @@
+-- What a command that touches no path related to one wants of a host: another host whose base has the same at and below that path,
+-- and whose installed manifest of that path is the same.
+use Rattle.std.proofs.Common.{◌≡◌, ℕ, zero, suc, Bool, true, false, cond, not, ◌&&◌, ◌||◌, if◌then◌else◌, List, [], ◌∷◌, ◌++◌, inl, inr, Option, Some, None, is_some, Ok, refl, sym, ap, ◌∙◌, subst, arith}
+use Rattle.std.specs.Prelude.{Contains}
+use Rattle.std.specs.List.{filter}
+use Rattle.std.specs.Ordering.{eq_by_cmp}
+use Rattle.std.specs.FinMap.Entries.{where_key}
+use Rattle.std.proofs.Math.Bool.{or_comm}
+use Rattle.std.proofs.lemmas.Bool.{and_parts, false_from_ne_true, false≢true, true≢false}
+use Rattle.ext_lines.specs.ByteOrder.{bytes_cmp}
+use Rattle.ext_text.specs.Path.{are_related, is_prefix, path_cmp}
+use Rattle.ext_text.specs.SortedPaths.{meets}
+use Rattle.ext_text.specs.declared.arch.Arch.{Arch}
+use Rattle.ext_text.specs.declared.extension.Extension.{Extension}
+use Rattle.ext_text.specs.declared.extension.Extension.TheVariants as extensions
+use Rattle.ext_text.specs.declared.scope.Scope.{Scope}
+use Rattle.ext_text.specs.declared.which.Which.{Which}
+use Rattle.ext_text.proofs.ForCallers.{prefix_trans, same_name, tied_name}
+use Rattle.ext_depot.specs.Depot.{Files}
+use Rattle.ext_depot.specs.declared.depot_text.DepotText.{DepotText}
+use Rattle.ext_depot.specs.declared.depot_text.DepotText.TheVariants.{Absent, TooLong, Whole}
+use Rattle.ext_tree.specs.Cut.{cut}
+use Rattle.ext_tree.specs.Graft.{IsGraft}
+use Rattle.ext_tree.specs.Tree.{Entries, is_directory, lookup}
+use Rattle.ext_tree.specs.declared.entry.Entry.{Entry}
+use Rattle.ext_tree.specs.declared.entry.Entry.TheVariants.{Dir, Opaque, File, Link, Hide}
+use Rattle.ext_tree.specs.declared.stamp.Stamp.{Stamp}
+use Rattle.ext_tree.proofs.ForCallers.{find-join, grafted_apart, is_cut, lookup_where}
+use Rattle.ext_host.specs.Held.{HeldFile}
+use Rattle.ext_host.specs.Host.{IsBase, base_at, hierarchies_in, is_in, merged_hierarchies, present}
+use Rattle.ext_host.specs.Limits.{passed_limit}
+use Rattle.ext_host.specs.ReadOnly.{is_read_only}
+use Rattle.ext_host.specs.Shelf.{Told}
+use Rattle.ext_host.specs.Valid.{IsValidHost}
+use Rattle.ext_host.specs.declared.home.Home.{Home}
+use Rattle.ext_host.specs.declared.host.Host.{Host}
+use Rattle.ext_host.specs.declared.host.Plan.{Plan}
+use Rattle.ext_host.specs.declared.manifest.Manifest.{Manifest}
+use Rattle.ext_gen.specs.Opened.{Generation}
+use Rattle.ext_gen.specs.Store.{State, at, none}
+use Rattle.ext_view.specs.Laws.{MergingKeepsTheBase}
+use Rattle.ext_view.specs.Merging.{PlansView, Unmerges}
+use Rattle.ext_view.specs.View.{IsMergedHost, chosen, with_view}
+use Rattle.ext_view.specs.declared.surveyed.SurveyItem.{SurveyItem}
+use Rattle.ext_cmd.specs.declared.answer.Answer.{Answer}
+use Rattle.ext_cmd.specs.declared.answer.Answer.TheVariants as answers
+use Rattle.ext_cmd.specs.declared.answer.Answer.TheVariants.{Done, Unchanged}
+use Rattle.ext_cmd.specs.declared.command.Chosen.{Chosen}
+use Rattle.ext_cmd.specs.declared.command.Command.{Command}
+use Rattle.ext_cmd.specs.declared.command.Command.TheVariants.{Init, ImportFs, Remove, Sysext, Confext, Tree, Cat, Compare, Check, Layer, Migrate, Batch, Sample}
+use Rattle.ext_cmd.specs.declared.command.ViewCommand.{ViewCommand}
+use Rattle.ext_cmd.specs.declared.command.ViewCommand.TheVariants as views
+use Rattle.ext_cmd.specs.declared.refusal.Refusal.TheVariants.{NoEntry, NotDirectory, ReadOnly}
+use Rattle.ext_intents.specs.Cat.{cat_at}
+use Rattle.ext_intents.specs.Change.{changed_at}
+use Rattle.ext_intents.specs.Import.{FittingWants, OpenWants, TextWants, TreeWants, sized, within}
+use Rattle.ext_intents.specs.Init.{IsNewHost}
+use Rattle.ext_intents.specs.Intents.{IsFit}
+use Rattle.ext_intents.specs.Migrate.{migrate_intent}
+use Rattle.ext_intents.specs.Remove.{remove_intent}
+use Rattle.ext_intents.specs.Step.{WantsFirst, WantsOf}
+use Rattle.ext_intents.specs.Tree.{meant_path, text_below, tree_at, tree_intent}
+use Rattle.ext_intents.specs.Views.{MergeWants, RefreshWants, ViewWants, planned}
+use Rattle.ext_intents.specs.declared.intent.Intent.{Intent}
+use Rattle.ext_intents.specs.declared.intent.Intent.TheVariants.{Answers, Changes, Checks, Refuses, Shows}
+use Rattle.ext_top.specs.Untouched.{base_in, installed_in, touched}
+
+-- where another host is wanted, this holds of that one
+abbrev pub IfChanges : (Host → Type 0) → Intent → Type 0
+IfChanges P (Changes host answer) = P host
+IfChanges P (Answers answer) = Unit {0}
+IfChanges P Checks = Unit {0}
+IfChanges P (Shows held) = Unit {0}
+IfChanges P (Refuses refusal) = Unit {0}
+
+-- what is wanted is the same
+of_same : (P : Host → Type 0) (a b : Intent) → b ≡ a → IfChanges P a → IfChanges P b
+of_same P a b is holds = subst (IfChanges P) (sym is) holds
+
+-- what is fit is valid
+pub fit_is_valid : (coming : ℕ) (seen : Option Host) (intent : Intent) → IsFit coming seen intent → IfChanges IsValidHost intent
+fit_is_valid coming seen (Changes host answer) fit = fit.valid
+fit_is_valid coming seen (Answers answer) fit = tt
+fit_is_valid coming seen Checks fit = tt
+fit_is_valid coming seen (Shows held) fit = tt
+fit_is_valid coming seen (Refuses refusal) fit = tt
+
+-- two paths at or above one are related
+either_true : (x y a b : Bool) → x ≡ true → y ≡ true → (a || b) ≡ true → ((x && a) || (y && b)) ≡ true
+either_true true true a b x y both = both
+either_true false y a b x y' both = absurd (false≢true x)
+either_true true false a b x y both = absurd (false≢true y)
+
+both_related : (a b q : List (List ℕ)) → is_prefix a q ≡ true → is_prefix b q ≡ true → are_related a b ≡ true
+both_related [] b q first second = refl
+both_related (n ∷ a) [] q first second = refl
+both_related (n ∷ a) (m ∷ b) [] first second = absurd (false≢true first)
+both_related (n ∷ a) (m ∷ b) (k ∷ q) first second =
+    let x = and_parts (eq_by_cmp bytes_cmp n k) (is_prefix a q) first in
+    let y = and_parts (eq_by_cmp bytes_cmp m k) (is_prefix b q) second in
+    let same : n ≡ m = same_name n k x.0 ∙ sym (same_name m k y.0) in
+    either_true (eq_by_cmp bytes_cmp n m) (eq_by_cmp bytes_cmp m n) (is_prefix a b) (is_prefix b a) (tied_name n m same) (tied_name m n (sym same)) (both_related a b q x.1 y.1)
+
+second_related : (a b : List (List ℕ)) → is_prefix b a ≡ true → are_related a b ≡ true
+second_related a b is = elim (is_prefix a b) as (λ x. (x || is_prefix b a) ≡ true) [ true ↦ refl | false ↦ is ]
+
+-- what is at or below a path that is not related to another is neither at nor below that, nor above it
+not_below : (other path q : List (List ℕ)) → are_related other path ≡ false → is_prefix path q ≡ true → is_prefix other q ≡ false
+not_below other path q apart below = false_from_ne_true (is_prefix other q) (λ over. true≢false (sym (both_related other path q over below) ∙ apart))
+
+not_above : (other path q : List (List ℕ)) → are_related other path ≡ false → is_prefix path q ≡ true → is_prefix q other ≡ false
+not_above other path q apart below = false_from_ne_true (is_prefix q other) (λ over. true≢false (sym (second_related other path (prefix_trans path q other below over)) ∙ apart))
+
+first_apart : (b : Bool) → (b || false) ≡ false → b ≡ false
+first_apart true apart = apart
+first_apart false apart = refl
+
+-- an element that passes a test stays
+more : {X : Type 0} (x : X) (xs : List X) (y : X) → Contains xs y → Contains (x ∷ xs) y
+more x xs y (k, lt, is) = (suc k, omega arith, is)
+
+filter_has : {X : Type 0} (test : X → Bool) (xs : List X) (y : X) → Contains xs y → test y ≡ true → Contains (filter test xs) y
+filter_has test [] y (k, lt, is) passes = absurd (omega arith)
+filter_has test (x ∷ xs) y (zero, lt, is) passes =
+    subst (λ (b : Bool). Contains (cond b (x ∷ filter test xs) (filter test xs)) y) (sym (ap test is ∙ passes)) (zero, omega arith, is)
+filter_has test (x ∷ xs) y (suc k, lt, is) passes =
+    let there = filter_has test xs y (k, omega arith, is) passes in
+    elim (test x) as (λ b. Contains (cond b (x ∷ filter test xs) (filter test xs)) y) [ true ↦ more x (filter test xs) y there | false ↦ there ]
+
+-- the base of another host has at and below the path what the state's has, and a manifest of the path that is installed stays so
+pub record NextKeeps (path : List (List ℕ)) (s : State) (next : Host) : Type 0 where
+  pub base : (q : List (List ℕ)) → is_prefix path q ≡ true → base_at (hierarchies_in next) (present next) q ≡ base_in s q
+  pub installed : (manifest : Manifest) → manifest.path ≡ path → Contains (installed_in s) manifest → Contains next.kept manifest
+
+-- a host has a base
+base_is : (host : Host) → (es : Entries HeldFile) × IsBase host es
+base_is host =
+    let merged = merged_hierarchies (hierarchies_in host) (present host) in
+    let under = where_key path_cmp (is_in merged) host.lower in
+    let seen = where_key path_cmp (λ p. not (is_in merged p)) host.root in (
+      under ++ seen,
+      λ p.
+          find-join path_cmp p under seen
+          ∙ ap (λ o. cond (is_some o) o (lookup seen p)) (lookup_where (is_in merged) p host.lower)
+          ∙ ap (λ o. cond (is_some (cond (is_in merged p) (lookup host.lower p) None)) (cond (is_in merged p) (lookup host.lower p) None) o) (lookup_where (λ q. not (is_in merged q)) p host.root)
+          ∙ both (is_in merged p) (lookup host.lower p) (lookup host.root p),
+    )
+  where
+    or_none : (o : Option (Entry HeldFile)) → cond (is_some o) o None ≡ o
+    or_none None = refl
+    or_none (Some e) = refl
+
+    both : (b : Bool) (x y : Option (Entry HeldFile)) → cond (is_some (cond b x None)) (cond b x None) (cond (not b) y None) ≡ (if b then x else y)
+    both true x y = or_none x
+    both false x y = refl
+
+module _ (path : List (List ℕ)) (g : Generation) (contents : Home → List ℕ) where
+  abbrev Stays : Intent → Type 0
+  Stays = IfChanges (NextKeeps path (at g contents))
+
+  -- a change at a path that is not related
+  changed_keeps : (other : List (List ℕ)) (root : Entries HeldFile) → are_related other path ≡ false
+      → ((q : List (List ℕ)) → is_prefix other q ≡ false → is_prefix q other ≡ false → lookup root q ≡ lookup g.host.root q)
+      → NextKeeps path (at g contents) (changed_at g.host other root)
+  changed_keeps other root apart same = record {
+    base = λ q below.
+        ap (λ o. if is_in (merged_hierarchies (hierarchies_in g.host) (present g.host)) q then lookup g.host.lower q else o)
+        (same q (not_below other path q apart below) (not_above other path q apart below));
+    installed = λ manifest is has.
+        filter_has (λ (m : Manifest). not (are_related m.path other)) g.host.kept manifest has
+        (ap not (ap (λ p. are_related p other) is ∙ or_comm (is_prefix path other) (is_prefix other path) ∙ apart));
+  }
+
+  -- `import-fs`
+  graft_apart : (other : List (List ℕ)) (part root : Entries HeldFile) → IsGraft g.host.root other part root
+      → (q : List (List ℕ)) → is_prefix other q ≡ false → is_prefix q other ≡ false → lookup root q ≡ lookup g.host.root q
+  graft_apart [] part root is q apart out = absurd (true≢false apart)
+  graft_apart (name ∷ other) part root is q apart out = is.each q ∙ grafted_apart g.host.root part (name ∷ other) q (omega arith) out apart
+
+  within_keeps : (next : Host) (limit : Option Which) → NextKeeps path (at g contents) next → Stays (within next limit)
+  within_keeps next None keeps = keeps
+  within_keeps next (Some which) keeps = tt
+
+  fitting_keeps : (resource other : List (List ℕ)) (es : Entries Stamp) (intent : Intent) → are_related other path ≡ false → FittingWants g.host resource other es intent → Stays intent
+  fitting_keeps resource other es intent apart (inl (fit, (root, grafted, is))) =
+      let next = changed_at g.host other root in
+      of_same (NextKeeps path (at g contents)) (sized next) intent is
+      (within_keeps next (passed_limit next.root next.lower) (changed_keeps other root apart (graft_apart other _ root grafted)))
+  fitting_keeps resource other es intent apart (inr (large, is)) = of_same (NextKeeps path (at g contents)) _ intent is tt
+
+  open_keeps : (resource other : List (List ℕ)) (es : Entries Stamp) (intent : Intent) → are_related other path ≡ false → OpenWants g.host resource other es intent → Stays intent
+  open_keeps resource other es intent apart (inl (free, wants)) = fitting_keeps resource other es intent apart wants
+  open_keeps resource other es intent apart (inr (over, under, is)) = of_same (NextKeeps path (at g contents)) _ intent is tt
+
+  tree_keeps : (resource other : List (List ℕ)) (es : Entries Stamp) (intent : Intent) → are_related other path ≡ false → TreeWants g.host resource other es intent → Stays intent
+  tree_keeps resource other es intent apart (inl (free, wants)) = open_keeps resource other es intent apart wants
+  tree_keeps resource other es intent apart (inr (locked, (over, is_over, is))) = of_same (NextKeeps path (at g contents)) _ intent is tt
+
+  text_keeps : (resource other : List (List ℕ)) (found : DepotText) (intent : Intent) → are_related other path ≡ false → TextWants g.host resource other found intent → Stays intent
+  text_keeps resource other Absent intent apart is = of_same (NextKeeps path (at g contents)) _ intent is tt
+  text_keeps resource other TooLong intent apart is = of_same (NextKeeps path (at g contents)) _ intent is tt
+  text_keeps resource other (Whole bytes) intent apart (inl (es, text, wants)) = tree_keeps resource other es intent apart wants
+  text_keeps resource other (Whole bytes) intent apart (inr (line, fault, is)) = of_same (NextKeeps path (at g contents)) _ intent is tt
+
+  -- `remove`
+  cut_apart : (other q : List (List ℕ)) → is_prefix other q ≡ false → lookup (cut other g.host.root) q ≡ lookup g.host.root q
+  cut_apart other q apart = is_cut other g.host.root q ∙ ap (λ b. if b then None else lookup g.host.root q) apart
+
+  remove_keeps : (other : List (List ℕ)) → are_related other path ≡ false → Stays (remove_intent g.host other)
+  remove_keeps other apart =
+      elim (not (is_some (lookup g.host.root other))) as (λ b. Stays (if b then Refuses (NoEntry other) else if is_read_only g.host other then Refuses (ReadOnly other) else Changes (changed_at g.host other (cut other g.host.root)) Done)) [
+        | true ↦ tt
+        | false ↦ elim (is_read_only g.host other) as (λ b. Stays (if b then Refuses (ReadOnly other) else Changes (changed_at g.host other (cut other g.host.root)) Done)) [
+          | true ↦ tt
+          | false ↦ changed_keeps other (cut other g.host.root) apart (λ q out _. cut_apart other q out)
+        ]
+      ]
+
+  -- commands on extensions
+  kept_with : (class : Extension) (names : Option (List (List ℕ))) (root lower : Entries HeldFile) → (with_view class names root lower g.host).kept ≡ g.host.kept
+  kept_with extensions.Sysext names root lower = refl
+  kept_with extensions.Confext names root lower = refl
+
+  merged_kept : (class : Extension) (base : Entries HeldFile) (items : List SurveyItem) (next : Host) → IsMergedHost g.host class base items next → next.kept ≡ g.host.kept
+  merged_kept class base [] next is = ap (λ (h : Host). h.kept) is.same ∙ kept_with class None next.root next.lower
+  merged_kept class base (item ∷ items) next is = ap (λ (h : Host). h.kept) is.same ∙ kept_with class _ next.root next.lower
+
+  merged_of : (class : Extension) (base : Entries HeldFile) (items : List SurveyItem) (plan : Plan) → PlansView g.host class base items (Some plan) → IsMergedHost g.host class base items plan.next
+  merged_of class base [] plan plans = plans.1
+  merged_of class base (item ∷ items) plan plans = plans
+
+  -- the same host
+  same_keeps : NextKeeps path (at g contents) g.host
+  same_keeps = record { base = λ q below. refl; installed = λ manifest is has. has }
+
+  module _ (law : MergingKeepsTheBase) (valid : IsValidHost g.host) where
+    merged_keeps : (class : Extension) (base : Entries HeldFile) (items : List SurveyItem) (next : Host) → IsBase g.host base → IsMergedHost g.host class base items next → NextKeeps path (at g contents) next
+    merged_keeps class base items next is merged = record {
+      base = λ q below. sym (law g.host class base items next valid is merged q) ∙ is q;
+      installed = λ manifest _ has. subst (λ l. Contains l manifest) (sym (merged_kept class base items next merged)) has;
+    }
+
+    view_plan_keeps : (class : Extension) (base : Entries HeldFile) (items : List SurveyItem) (plan : Option Plan) (answer : Answer) → IsBase g.host base → PlansView g.host class base items plan → Stays (planned plan answer)
+    view_plan_keeps class base items None answer is plans = tt
+    view_plan_keeps class base items (Some plan) answer is plans = merged_keeps class base items plan.next is (merged_of class base items plan plans)
+
+    refresh_keeps : (told : HeldFile → Told) (class : Extension) (force : Bool) (intent : Intent) → RefreshWants g.host told class force intent → Stays intent
+    refresh_keeps told class force intent (base, is, inl (merge, refreshed, next, plan_is)) =
+        of_same (NextKeeps path (at g contents)) _ intent plan_is (view_plan_keeps class base (chosen refreshed.items) merge.plan (answers.Merged merge.names) is.is_base refreshed.plan)
+    refresh_keeps told class force intent (base, is, inr (refusal, why, refuses_is)) = of_same (NextKeeps path (at g contents)) _ intent refuses_is tt
+
+    merge_keeps : (told : HeldFile → Told) (class : Extension) (force : Bool) (intent : Intent) → MergeWants g.host told class force intent → Stays intent
+    merge_keeps told class force intent (inl (merged, is)) = of_same (NextKeeps path (at g contents)) _ intent is tt
+    merge_keeps told class force intent (inr (free, wants)) = refresh_keeps told class force intent wants
+
+    unmerge_plan_keeps : (class : Extension) (plan : Option Plan) → Unmerges g.host class (Ok plan) → Stays (planned plan answers.Unmerged)
+    unmerge_plan_keeps class None unmerges = tt
+    unmerge_plan_keeps class (Some plan) unmerges = let base = base_is g.host in merged_keeps class base.0 [] plan.next base.1 unmerges.1
+
+    view_keeps : (told : HeldFile → Told) (class : Extension) (view : ViewCommand) (intent : Intent) → ViewWants g.host told class view intent → Stays intent
+    view_keeps told class views.List intent (base, is, inl (items, surveyed, found)) = of_same (NextKeeps path (at g contents)) _ intent found tt
+    view_keeps told class views.List intent (base, is, inr (refusal, why, refuses)) = of_same (NextKeeps path (at g contents)) _ intent refuses tt
+    view_keeps told class views.Status intent is = of_same (NextKeeps path (at g contents)) _ intent is tt
+    view_keeps told class (views.Merge force) intent wants = merge_keeps told class force intent wants
+    view_keeps told class views.Unmerge intent (plan, unmerges, next, is) = of_same (NextKeeps path (at g contents)) _ intent is (unmerge_plan_keeps class plan unmerges)
+    view_keeps told class (views.Refresh force) intent wants = refresh_keeps told class force intent wants
+
+    -- commands that want no other host
+    tree_at_keeps : (other : List (List ℕ)) (entry : Option (Entry HeldFile)) → Stays (tree_at g.host other entry)
+    tree_at_keeps other None = tt
+    tree_at_keeps other (Some entry) = elim (is_directory entry) as (λ b. Stays (if b then Answers (answers.Tree (text_below g.host other)) else Refuses (NotDirectory other))) [ true ↦ tt | false ↦ tt ]
+
+    tree_text_keeps : (other : List (List ℕ)) → Stays (tree_intent g.host other)
+    tree_text_keeps [] = tt
+    tree_text_keeps (name ∷ other) = tree_at_keeps (name ∷ other) (lookup g.host.root (name ∷ other))
+
+    cat_keeps : (other : List (List ℕ)) (entry : Option (Entry HeldFile)) → Stays (cat_at other entry)
+    cat_keeps other None = tt
+    cat_keeps other (Some (Dir mode)) = tt
+    cat_keeps other (Some (Opaque mode)) = tt
+    cat_keeps other (Some (File mode held)) = tt
+    cat_keeps other (Some (Link target)) = tt
+    cat_keeps other (Some Hide) = tt
+
+    migrate_keeps : (newest : Bool) → Stays (migrate_intent g.host newest)
+    migrate_keeps newest = elim newest as (λ b. Stays (if b then Answers Unchanged else Changes g.host Done)) [ true ↦ tt | false ↦ same_keeps ]
+
+    -- each command
+    pub wants_keep : (newest : Bool) (told : HeldFile → Told) (files : Option Files) (command : Command) (intent : Intent) → meets (touched command) path ≡ false
+        → WantsOf (record { host = g.host; newest = newest; told = told }) files command intent → Stays intent
+    wants_keep newest told files (Init arch scope hierarchies) intent apart is = of_same (NextKeeps path (at g contents)) _ intent is tt
+    wants_keep newest told files (ImportFs resource other) intent apart (found, text, wants) = text_keeps resource other found intent (first_apart (are_related other path) apart) wants
+    wants_keep newest told files (Remove other) intent apart is = of_same (NextKeeps path (at g contents)) _ intent is (remove_keeps other (first_apart (are_related other path) apart))
+    wants_keep newest told files (Sysext view) intent apart wants = view_keeps told extensions.Sysext view intent wants
+    wants_keep newest told files (Confext view) intent apart wants = view_keeps told extensions.Confext view intent wants
+    wants_keep newest told files (Tree other) intent apart is = of_same (NextKeeps path (at g contents)) _ intent is (tree_text_keeps (meant_path other))
+    wants_keep newest told files (Cat other) intent apart is = of_same (NextKeeps path (at g contents)) _ intent is (cat_keeps other (lookup g.host.root other))
+    wants_keep newest told files (Compare a b) intent apart is = of_same (NextKeeps path (at g contents)) _ intent is tt
+    wants_keep newest told files Check intent apart is = of_same (NextKeeps path (at g contents)) _ intent is tt
+    wants_keep newest told files Layer intent apart is = absurd is
+    wants_keep newest told files Migrate intent apart is = of_same (NextKeeps path (at g contents)) _ intent is (migrate_keeps newest)
+    wants_keep newest told files Batch intent apart is = absurd is
+    wants_keep newest told files (Sample images) intent apart is = absurd is
+
+-- a new host has nothing in its base, and no manifest was installed before
+bare : (b : Bool) (root lower : Entries HeldFile) (q : List (List ℕ)) → root ≡ [] → lower ≡ [] → (if b then lookup lower q else lookup root q) ≡ None
+bare true root lower q empty none_under = ap (λ es. lookup es q) none_under
+bare false root lower q empty none_under = ap (λ es. lookup es q) empty
+
+init_keeps : (path : List (List ℕ)) (arch : Arch) (scope : Scope) (hierarchies : Chosen) (host : Host) → IsNewHost arch scope hierarchies host → NextKeeps path none host
+init_keeps path arch scope hierarchies host is = record {
+  base = λ q below. bare (is_in (merged_hierarchies (hierarchies_in host) (present host)) q) host.root host.lower q is.root is.lower;
+  installed = λ manifest _ (k, lt, same). absurd (omega arith);
+}
+
+-- each command where there is no host
+pub first_wants_keep : (path : List (List ℕ)) (command : Command) (intent : Intent) → WantsFirst command intent → IfChanges (NextKeeps path none) intent
+first_wants_keep path (Init arch scope hierarchies) intent (host, new, is) = of_same (NextKeeps path none) _ intent is (init_keeps path arch scope hierarchies host new)
+first_wants_keep path (ImportFs resource other) intent is = of_same (NextKeeps path none) _ intent is tt
+first_wants_keep path (Remove other) intent is = of_same (NextKeeps path none) _ intent is tt
+first_wants_keep path (Sysext view) intent is = of_same (NextKeeps path none) _ intent is tt
+first_wants_keep path (Confext view) intent is = of_same (NextKeeps path none) _ intent is tt
+first_wants_keep path (Tree other) intent is = of_same (NextKeeps path none) _ intent is tt
+first_wants_keep path (Cat other) intent is = of_same (NextKeeps path none) _ intent is tt
+first_wants_keep path (Compare a b) intent is = of_same (NextKeeps path none) _ intent is tt
+first_wants_keep path Check intent is = of_same (NextKeeps path none) _ intent is tt
+first_wants_keep path Layer intent is = absurd is
+first_wants_keep path Migrate intent is = of_same (NextKeeps path none) _ intent is tt
+first_wants_keep path Batch intent is = absurd is
+first_wants_keep path (Sample images) intent is = absurd is

@@ -1,0 +1,86 @@
+-- Where files are given homes, those that have one keep it: a kept entry stays as it is.
+use Rattle.std.proofs.Common.{◌≡◌, ℕ, ◌+◌, cond, if◌then◌else◌, true, false, List, [], ◌∷◌, length, Option, Some, None, refl, sym, ap, ◌∙◌, subst}
+use Rattle.std.specs.Ordering.{eq_by_cmp}
+use Rattle.ext_text.specs.Path.{path_cmp}
+use Rattle.ext_depot.specs.Depot.{DepotState}
+use Rattle.ext_tree.specs.Tree.{Entries, lookup}
+use Rattle.ext_tree.specs.declared.entry.Entry.{Entry}
+use Rattle.ext_tree.specs.declared.entry.Entry.TheVariants.{Dir, Opaque, File, Link, Hide}
+use Rattle.ext_host.specs.Held.{HeldFile}
+use Rattle.ext_host.specs.Host.{base_at, hierarchies_in, is_in, merged_hierarchies, present}
+use Rattle.ext_host.specs.declared.body.Body.{Body}
+use Rattle.ext_host.specs.declared.body.Body.TheVariants.{Here, Kept, Depot}
+use Rattle.ext_host.specs.declared.home.Home.{Home}
+use Rattle.ext_host.specs.declared.host.Host.{Host}
+use Rattle.ext_homes.specs.Placed.{ArePlaced, IsBodyPlaced, IsEntryPlaced, IsHostPlaced, Stored}
+
+-- what stands there is no file, or a kept one
+abbrev pub IsKeptAt : Option (Entry HeldFile) → Type 0
+IsKeptAt o = (mode : ℕ) (held : HeldFile) → o ≡ Some (File mode held) → (home : Home) × (held.body ≡ Kept home)
+
+pub none_is : (e : Entry HeldFile) → None ≡ Some e → ⊥
+none_is e same = cc
+
+some_is : (a b : Entry HeldFile) → Some a ≡ Some b → a ≡ b
+some_is a b same = cc
+
+module _ (old : Stored) (depot : DepotState) (n : ℕ) where
+  -- nothing stands in either, or an entry and what it is with a home for its file
+  abbrev pub PlacedAt : Option (Entry HeldFile) → Option (Entry HeldFile) → Type 0
+  PlacedAt None o = o ≡ None
+  PlacedAt (Some e) o = (f : Entry HeldFile) × (next : ℕ) × (written : List (List ℕ)) × IsEntryPlaced old depot n e next f written × (o ≡ Some f)
+
+  lookup_placed : (es : Entries HeldFile) (next : ℕ) (new : Entries HeldFile) (written : List (List ℕ)) (p : List (List ℕ)) → ArePlaced old depot n es next new written → PlacedAt (lookup es p) (lookup new p)
+  lookup_placed [] next new written p is = ap (λ l. lookup l p) is.0
+  lookup_placed (x ∷ es) next new written p (f, fs, first, rest, one, others, new_is, written_is) =
+      let there = lookup_placed es (next + length first) fs rest p others in
+      subst (λ l. PlacedAt (lookup (x ∷ es) p) (lookup l p)) (sym new_is)
+      (elim (eq_by_cmp path_cmp p x.0) as (λ b. PlacedAt (cond b (Some x.1) (lookup es p)) (cond b (Some f) (lookup fs p))) [
+        | true ↦ (f, next, first, one, refl)
+        | false ↦ there
+      ])
+
+  -- a kept entry stays
+  entry_stays : (e : Entry HeldFile) (next : ℕ) (f : Entry HeldFile) (written : List (List ℕ)) → IsEntryPlaced old depot n e next f written → IsKeptAt (Some e) → f ≡ e
+  entry_stays (Dir mode) next f written is kept = is.0
+  entry_stays (Opaque mode) next f written is kept = is.0
+  entry_stays (File mode held) next f written (placed, is, same) kept =
+      let home = kept mode held refl in
+      let stays = subst (λ body. IsBodyPlaced old depot n held body next placed written) home.1 is in
+      same ∙ ap (λ h. File mode h) stays.0
+  entry_stays (Link target) next f written is kept = is.0
+  entry_stays Hide next f written is kept = is.0
+
+  pub stays_at : (a b : Option (Entry HeldFile)) → PlacedAt a b → IsKeptAt a → b ≡ a
+  stays_at None b is kept = is
+  stays_at (Some e) b (f, next, written, placed, is) kept = is ∙ ap Some (entry_stays e next f written placed kept)
+
+  -- with its home a file is kept
+  body_kept : (held : HeldFile) (body : Body) (next : ℕ) (placed : HeldFile) (written : List (List ℕ)) → held.body ≡ body → IsBodyPlaced old depot n held body next placed written → (home : Home) × (placed.body ≡ Kept home)
+  body_kept held (Here bytes) next placed written same (home, takes, is) = (home, ap (λ (h : HeldFile). h.body) is)
+  body_kept held (Kept home) next placed written same is = (home, ap (λ (h : HeldFile). h.body) is.0 ∙ same)
+  body_kept held (Depot path) next placed written same (home, takes, is) = (home, ap (λ (h : HeldFile). h.body) is)
+
+  entry_kept : (e : Entry HeldFile) (next : ℕ) (f : Entry HeldFile) (written : List (List ℕ)) (mode : ℕ) (held : HeldFile) → IsEntryPlaced old depot n e next f written → f ≡ File mode held → (home : Home) × (held.body ≡ Kept home)
+  entry_kept (Dir m) next f written mode held (is, nothing) same = let both : Dir m ≡ File mode held = sym is ∙ same in cc
+  entry_kept (Opaque m) next f written mode held (is, nothing) same = let both : Opaque m ≡ File mode held = sym is ∙ same in cc
+  entry_kept (File m h) next f written mode held (placed, is, at) same =
+      let both : File m placed ≡ File mode held = sym at ∙ same in
+      let one : placed ≡ held = cc in
+      subst (λ (x : HeldFile). (home : Home) × (x.body ≡ Kept home)) one (body_kept h h.body next placed written refl is)
+  entry_kept (Link target) next f written mode held (is, nothing) same = let both : Link target ≡ File mode held = sym is ∙ same in cc
+  entry_kept Hide next f written mode held (is, nothing) same = let both : Hide ≡ File mode held = sym is ∙ same in cc
+
+  pub kept_at : (a b : Option (Entry HeldFile)) → PlacedAt a b → IsKeptAt b
+  kept_at None b is mode held found = absurd (none_is (File mode held) (sym is ∙ found))
+  kept_at (Some e) b (f, next, written, placed, is) mode held found = entry_kept e next f written mode held placed (some_is f (File mode held) (sym is ∙ found))
+
+  -- what the base has, with homes for the host's files
+  pub base_placed : (host new : Host) (written : List (List ℕ)) (q : List (List ℕ)) → IsHostPlaced old depot n host new written
+      → PlacedAt (base_at (hierarchies_in host) (present host) q) (base_at (hierarchies_in new) (present new) q)
+  base_placed host new written q (root, lower, (first, rest, one, two, parts), is) =
+      subst (λ h. PlacedAt (base_at (hierarchies_in host) (present host) q) (base_at (hierarchies_in h) (present h) q)) (sym is)
+      (elim (is_in (merged_hierarchies (hierarchies_in host) (present host)) q) as (λ b. PlacedAt (if b then lookup host.lower q else lookup host.root q) (if b then lookup lower q else lookup root q)) [
+        | true ↦ lookup_placed host.lower (0 + length first) lower rest q two
+        | false ↦ lookup_placed host.root 0 root first q one
+      ])
