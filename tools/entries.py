@@ -7,6 +7,7 @@ see.
 """
 import hashlib
 import os
+import re
 import stat
 import sys
 
@@ -16,6 +17,8 @@ MOST_NAMES = 64
 MOST_PATH_BYTES = 4_096
 MOST_NAME_BYTES = 255
 MOST_TARGET_BYTES = 4_096
+NO_NAMES = frozenset((b"", b".", b".."))
+CONTROL = re.compile(rb"[\x00-\x1f\x7f]")
 OPAQUE = ("trusted.overlay.opaque", "user.overlay.opaque")
 PIECE = 1 << 20
 
@@ -46,7 +49,7 @@ def run_tool(name, call):
 
 
 def check_text(text, what):
-    if any(byte < 0x20 or byte == 0x7F for byte in text):
+    if CONTROL.search(text):
         raise Refused(f"a control byte in {what}")
     try:
         text.decode("utf-8")
@@ -55,13 +58,13 @@ def check_text(text, what):
 
 
 def check_path(names):
-    for name in names:
-        check_text(name, "its name")
-        if name in (b"", b".", b"..") or b"/" in name or len(name) > MOST_NAME_BYTES:
-            raise Refused("a name that no path has")
+    path = b"/".join(names)
+    check_text(path, "its name")
+    if path.count(b"/") >= len(names) or not NO_NAMES.isdisjoint(names) or max(map(len, names)) > MOST_NAME_BYTES:
+        raise Refused("a name that no path has")
     if len(names) > MOST_NAMES:
         raise Refused(f"a path of more than {MOST_NAMES} names")
-    if len(b"/".join(names)) > MOST_PATH_BYTES:
+    if len(path) > MOST_PATH_BYTES:
         raise Refused(f"a path of more than {MOST_PATH_BYTES:,} bytes")
 
 

@@ -106,7 +106,7 @@ class Failing:
 
     def __init__(self, room, use):
         self.room, self.use = room, use
-        self.before, self.after = room.states(use)
+        self.states = room.states(use)
         self.calls = made(room, use)
         self.seen = set()
 
@@ -131,16 +131,27 @@ class Failing:
         if status in LINES:
             self.explained(call, way, status, told.decode().splitlines())
         self.wrote(written, told, status)
-        states = {5: [self.before, self.after], 4: [self.after]}.get(status, [self.before] if status in LINES else [self.after])
-        self.stands(states)
+        self.stands(self.left(status, self.use.replied(written)))
+
+    def left(self, status, done):
+        """The states that may stand where so many steps have replied: where the disk failed, the next step may have been done, and
+        where its reply could not be written, it was."""
+        if status not in LINES:
+            return self.states[-1:]
+        return {5: self.states[done : done + 2], 4: self.states[done + 1 :][:1] or self.states[-1:]}.get(status, [self.states[done]])
 
     def wrote(self, written, told, status):
         """Done or refused, it writes its reply and nothing else; with a fault at most what it began to."""
         if status not in LINES:
             if (written, told) != (self.use.reply, b""):
                 raise Failed(f"it writes {shortened(written)} {shortened(told)}")
-        elif not self.use.reply.startswith(written) or (written and status != 4 and self.use.name != "cat"):
+        elif not self.use.reply.startswith(written) or not (status == 4 or self.use.name == "cat" or self.is_whole(written)):
             raise Failed(f"with {status} it writes {shortened(written)}")
+
+    def is_whole(self, written):
+        """Whether the replies of the first steps were written, of not all, and no byte of another."""
+        replies, done = [reply for _, reply in self.use.steps], self.use.replied(written)
+        return done < len(replies) and written == b"".join(replies[:done])
 
     def explained(self, call, way, status, told):
         """The line of the status, and for a folder a second one with the call, the path and the words of the system. What stands

@@ -11,6 +11,7 @@ from contextlib import contextmanager
 
 from scenes.running import ABC, COMPARE, LAYER, SECONDS, Failed, expect, named, run, shortened, tree_text
 from scenes.stores import DONE, HOST, ROOM, Place, digest, in_a_place
+from scenes.uses import SAMPLE
 
 WAITING = b"hostext: waiting for another command on this store\n"
 # As long as no command takes that doesn't wait.
@@ -115,6 +116,7 @@ def what_looks_at_no_store_takes_no_lock(place):
     with locked(place.store):
         expect(place.run("tree", "now"), (b"", b"hostext: usage 2\n", 2))
         expect(place.run("compare", "1", "2"), (b"less\n", b"", 0))
+        expect(place.run("sample", "1"), (SAMPLE, b"", 0))
         expect(run(place.program, [os.fsencode(place.store), b".", b"layer"], tree_text()), (tree_text(), b"", 0))
         expect(run(place.program, [*COMPARE, b"1", b"1"]), (b"equal\n", b"", 0))
         expect(run(place.program, LAYER, tree_text()), (tree_text(), b"", 0))

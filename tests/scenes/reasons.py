@@ -89,7 +89,7 @@ def a_bad_store_names_the_line_or_the_file(place):
     explains(told(place, "tree"), "bad store", f"{place.store}/current names no generation; {SEE}", 8)
 
 
-COMMANDS = "init, import-fs, remove, sysext, confext, tree, cat, compare, check, layer, migrate"
+COMMANDS = "init, import-fs, remove, sysext, confext, tree, cat, compare, check, layer, migrate, batch, sample"
 INIT = "the words are init ARCH SCOPE [HIERS [HIERS]], where ARCH is x86, x86-64, arm, arm64, riscv64, s390x, ppc64-le or loongarch64, SCOPE is system or initrd, and HIERS are as /usr:/opt"
 VIEWS = "the words are {} list, status, merge [--force], unmerge or refresh [--force]"
 
@@ -103,6 +103,10 @@ def words_that_are_no_command_are_explained(place):
         (["import-fs", "a"], 3, "the words are import-fs RES PATH, where RES.tree is in the depot, and PATH begins with a slash: one is missing"),
         (["remove", "/"], 2, "the words are remove PATH, where PATH begins with a slash, and isn't the root: not `/`"),
         (["check", "now"], 2, "the words are check: not `now`"),
+        (["batch", "file"], 2, "the words are batch, which reads lines of commands from standard input: not `file`"),
+        (["sample", "0"], 2, "the words are sample N, where N is 1 to 500: not `0`"),
+        (["sample"], 2, "the words are sample N, where N is 1 to 500: one is missing"),
+        (["bacth"], 1, "`bacth` is no command; is it to be batch?"),
         (["imprt-fs", "a", "/"], 1, "`imprt-fs` is no command; is it to be import-fs?"),
         (["c"], 1, "`c` is no command; is it to be confext or cat or compare or check?"),
         (["frobnicate"], 1, f"`frobnicate` is no command; the commands are {COMMANDS}"),
@@ -141,7 +145,7 @@ def what_a_store_has_is_its_owners_alone(place):
                 raise Failed(f"{path} has the mode {mode:o}")
 
 
-def an_import_from_the_store_itself_is_refused(place):
+def an_import_and_a_batch_from_the_store_itself_are_refused(place):
     place.resource("host", HOST, {"usr/a": b""})
     place.expect(("init x86-64 system", DONE))
     inner = place.store / "g-7/depot"
@@ -152,8 +156,9 @@ def an_import_from_the_store_itself_is_refused(place):
     reason = "DEPOT is STORE or stands below it, where cleaning would take away what is to be read"
     for depot in place.store, inner, place.store / "g-7", link, place.store / "../store/./g-7/":
         before = place.stands()
-        explains(told(place, "import-fs", "host", "/", depot=depot), "usage 1", reason, 2)
-        place.holds(before)
+        for words in ("import-fs", "host", "/"), ("batch",):
+            explains(told(place, *words, depot=depot), "usage 1", reason, 2)
+            place.holds(before)
     for words in ("tree",), ("check",), ("remove", "/a"), ("sysext", "status"):
         if run(place.program, [os.fsencode(word) for word in (place.store, place.store, *words)])[2] > 1:
             raise Failed(f"`{words[0]}` does not take STORE for DEPOT")
@@ -184,6 +189,6 @@ CALLS = [
     *(a_fault_of_a_device_names_the_call_and_the_path, a_refusal_of_the_system_has_its_words, a_full_file_system_is_named),
     *(control_bytes_are_escaped, a_bad_store_names_the_line_or_the_file, words_that_are_no_command_are_explained),
     *(the_reason_is_told_to_a_terminal_and_to_nobody_else, what_a_store_has_is_its_owners_alone),
-    *(an_import_from_the_store_itself_is_refused, an_import_from_too_deep_below_the_store_is_a_fault),
+    *(an_import_and_a_batch_from_the_store_itself_are_refused, an_import_from_too_deep_below_the_store_is_a_fault),
 ]
 scenes = named(*map(in_a_place, CALLS))

@@ -81,10 +81,7 @@ def in_a_folder(session, program):
         follow(session, folder)
 
 
-FIRST = """init: done
-import-fs: done
-import-fs: done
-import-fs: done
+FIRST = """batch: init x86-64 system|import-fs host /|import-fs images/tool-2 /var/lib/extensions/tool-2|import-fs images/vendor /var/lib/extensions/vendor|END|done|done|done|done
 sysext: tool-2 image /var/lib/extensions/tool-2 fits|vendor image /var/lib/extensions/vendor fits
 sysext: merged 2|tool-2|vendor
 cat: #!/bin/sh|echo tool 2

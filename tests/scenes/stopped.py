@@ -10,7 +10,6 @@ from scenes.failing import stray
 from scenes.running import Failed, shortened
 from scenes.stops import Disk, File, Shapes
 from scenes.traces import straced
-from scenes.uses import is_done
 
 WATCHED = "openat,creat,mkdir,mkdirat,write,pwrite64,writev,fsync,fdatasync,ftruncate,rename,renameat,renameat2,unlink,unlinkat,rmdir"
 WATCHED += ",link,linkat,symlink,symlinkat,close"
@@ -73,11 +72,11 @@ def made(room, use, command):
 
 @dataclass
 class Moment:
-    """A moment at which a command is stopped: after which of its calls, whether it has told by then that it was done, and the
-    disk as it is."""
+    """A moment at which a command is stopped: after which of its calls, how many of its steps have replied by then, and the disk
+    as it is."""
 
     after: str
-    told: bool
+    told: int
     disk: Disk
 
 
@@ -94,12 +93,9 @@ class Story:
         room.stored(use.before)
         self.events = made(room, use, use.command)
         befores = [first, use.before] if self.is_killed else [use.before]
-        # What a look shows of each state in which the store may be, by its `current`.
-        self.states = {}
-        for before in [*befores, (*use.before, use.command)] if is_done(use) else befores:
-            kept = room.stored(before)
-            self.states[(kept / "current").read_bytes() if (kept / "current").exists() else None] = room.look(use, before)
-        self.last = list(self.states)[-1]
+        # What a look shows of each state in which the store may be, by its `current`; and that of the store after each step.
+        self.states = {current_of(room.stored(before)): room.look(use, before) for before in [*befores, *dict.fromkeys(use.stores[1:])]}
+        self.steps = [current_of(room.stored(store)) for store in use.stores]
 
     def moments(self, without=None):
         """Each moment, where the sync of this number is left out."""
@@ -107,12 +103,12 @@ class Story:
         for event in self.killed:
             disk.do(*event)
         disk.handles.clear()
-        told = False
+        told = 0
         yield Moment("the first call", told, disk)
         for at, event in enumerate(self.events):
             if at != without:
                 disk.do(*event)
-            told = told or event[0] == "reply"
+            told = min(told + (event[0] == "reply"), len(self.use.steps))
             if event[0] != "open":
                 yield Moment(self.text(at), told, disk)
 
@@ -151,9 +147,16 @@ class Story:
         return (next(iter(self.states)) or b"").decode().strip() if self.is_killed else ""
 
     def state(self, shapes, number, told):
-        """The state that a look at a shape has to show: that which its `current` names, and the last one once that was told."""
-        current = shapes.at(number, "current")
-        return self.last if told or current not in self.states else current
+        """The state that a look at a shape has to show: that which its `current` names, which is none before those of the steps that
+        were told."""
+        current, states = shapes.at(number, "current"), list(self.states)
+        possible = states[states.index(self.steps[told]) :] if told else states
+        return current if current in possible else possible[-1]
+
+
+def current_of(store):
+    current = store / "current"
+    return current.read_bytes() if current.exists() else None
 
 
 def killed(events):
@@ -163,8 +166,7 @@ def killed(events):
 
 
 def folders(story, shapes, draws, seed):
-    """Each shape that a stop may leave, with whether it was told by then that the command was done, and the moment when it comes
-    first."""
+    """Each shape that a stop may leave, with how many steps were told by then, and the moment when it comes first."""
     found, rng = {}, random.Random(seed)
     for moment in story.moments():
         for number in sorted(moment.disk.left(shapes, draws, rng)):
@@ -204,7 +206,7 @@ def wanted(written, status):
 
 def case(story, place, depot, name, state):
     """A case that looks at a folder, in which this state has to stand."""
-    yield from (f"case {name}", f"folder {place} {depot}")
+    yield from (f"case {name}", f"folder {place} {depot}", *([f"input {escaped(story.use.source)}"] if story.use.source else []))
     for at, command in enumerate(story.use.commands):
         yield f"$ {command}"
         written, status = story.states[state][at]
@@ -224,7 +226,7 @@ def texts(story):
 
 
 def looked(story, shapes, trial, batch):
-    """Builds folders, and gives what was other than it had to be, by the shape and whether it was told by then."""
+    """Builds folders, and gives what was other than it had to be, by the shape and how many steps were told by then."""
     folder, depot = story.room.folder / "stopped", story.room.place.depot
     folder.mkdir()
     try:

@@ -483,7 +483,7 @@ def more_left_overs_than_one_command_removes_take_two(place):
     left_overs(place.store / "g-8", most + 1)
     place.expect(("tree", tree_text()))
     place.resource("r", tree_text("d 755 a"))
-    more = b"hostext: more was left over in STORE than one command removes; the same command goes on\n"
+    more = b"hostext: more was left over in STORE than one command removes: give the same command again, and of a batch the lines without a reply\n"
     expect(place.run("import-fs", "r", "/", before=lambda: os.environ.update(HOSTEXT_EXPLAIN="yes")), (b"", FAULTS[9] + more, 9))
     if any((place.store / "g-8").iterdir()):
         raise Failed("other left-overs than those that were counted are there")

@@ -9,8 +9,8 @@ import sys
 
 from scenes.devices import become_nobody
 from scenes.folders import make_opaque, make_whiteout
-from scenes.running import ABC, SECONDS, TOP, Failed, Skipped, expect, named, removing, shortened, tree_text
-from scenes.stores import DONE, in_a_place
+from scenes.running import ABC, EMPTY, SECONDS, TOP, Failed, Skipped, expect, named, removing, shortened, tree_text
+from scenes.stores import DONE, digest, in_a_place
 
 TOOLS = TOP / "tools"
 
@@ -321,6 +321,61 @@ def the_program_is_found_once(place):
     expect(tool(place, tools / "unpack", place.store, "/", beside(place, "more"), env=around), (b"", told, 1))
 
 
+def noting(place, before_a_batch=""):
+    """The program in a script that notes its commands, and does something before a batch; and where it notes them."""
+    notes, words = beside(place, "notes"), f'"{place.program}" "{place.store}" "{place.depot}"'
+    first = f"[ $3 != batch ] || {words} {before_a_batch} >/dev/null\n" if before_a_batch else ""
+    made = script(beside(place, "noting"), f'echo "$3" >>"{notes}"\n{first}exec "{place.program}" "$@"')
+    return {"env": {**os.environ, "HOSTEXT": str(made)}}, notes
+
+
+def a_few_commands_read_all_files(place):
+    """One batch has all whose paths a line can hold. A copy of the tool takes batches for shorter than they may be."""
+    names = "#a", "-", "a\u00a0b", "b c", "c d", "c d/e", "c d/f", "d", "d/e", "x", "ü"
+    text = tree_text(*(f"d 755 {name}" if name in ("c d", "d") else f"f 644 3 {ABC} {name}" for name in names))
+    place.resource("r", text, {name: b"abc" for name in names if name not in ("c d", "d")})
+    place.expect(("init x86-64 system", DONE), ("import-fs r /srv", DONE))
+    around, notes = noting(place)
+    tools = beside(place, "tools")
+    shutil.copytree(TOOLS, tools)
+    whole = (tools / "unpack").read_text()
+    (tools / "unpack").write_text(whole.replace("MOST_SOURCE = 16_777_216", "MOST_SOURCE = 40"))
+    for tool_there, batches in (TOOLS / "unpack", 1), (tools / "unpack", 2):
+        notes.unlink(missing_ok=True)
+        expect(tool(place, tool_there, place.store, "/srv", beside(place, f"out{batches}"), **around), (b"", b"", 0))
+        commands = notes.read_text().split()
+        if commands[0] != "tree" or sorted(commands[1:]) != ["batch"] * batches + ["cat"] * 3:
+            raise Failed(f"the commands are {commands}")
+        if text_of(place, beside(place, f"out{batches}")) != text:
+            raise Failed(f"what was unpacked is {shortened(text_of(place, beside(place, f'out{batches}')))}")
+
+
+def a_tree_that_changes_meanwhile_is_told(place):
+    """By a command between the one that writes the text and the one that writes the files."""
+    place.resource("r", tree_text(f"f 644 3 {ABC} a", f"f 644 0 {EMPTY} b", f"f 644 3 {ABC} c", f"f 644 0 {EMPTY} d"), {"a": b"abc", "b": b"", "c": b"abc", "d": b""})
+    place.resource("other", tree_text(f"f 644 3 {digest(b'abd')} a"), {"a": b"abd"})
+    out = beside(place, "out")
+    for command, path in (("remove /a", "/a"), ("remove /b", "/c"), ("remove /d", "/d"), ("import-fs other /", "/a"), ("import-fs other /c", "/c")):
+        shutil.rmtree(place.store)
+        place.store.mkdir()
+        place.expect(("init x86-64 system", DONE), ("import-fs r /", DONE))
+        around, _ = noting(place, command)
+        expect(tool(place, "unpack", place.store, "/", out, **around), (b"", f"unpack: {path}: the tree changed meanwhile\n".encode(), 1))
+        as_it_was(place, out, False)
+
+
+def a_fault_while_files_are_read_is_told(place):
+    """The batch ends early, or after the last byte."""
+    place.resource("r", tree_text(f"f 644 3 {ABC} a", f"f 644 0 {EMPTY} b"), {"a": b"abc", "b": b""})
+    place.expect(("init x86-64 system", DONE), ("import-fs r /", DONE))
+    for home, told in ("g-2/000/00", "cat /a"), ("g-2/000/01", "batch"):
+        kept = (place.store / home).read_bytes()
+        (place.store / home).write_bytes(b"abd")
+        expect(tool(place, "unpack", place.store, "/", beside(place, "out")), (b"", f"unpack: {told}: hostext: bad store\n".encode(), 1))
+        as_it_was(place, beside(place, "out"), False)
+        (place.store / home).write_bytes(kept)
+
+
 CALLS = [
     *(pack_and_unpack_give_a_folder_back, a_tree_text_is_asked_for_by_one_folder, a_path_is_told_as_it_is_with_control_characters_escaped),
     *(all_that_no_tree_text_holds_is_told_at_once, what_may_not_be_read_is_told_before_anything_is_copied),
@@ -329,5 +384,6 @@ CALLS = [
     *(unpack_that_fails_leaves_no_half_of_a_folder, the_whole_text_is_looked_through_before_a_file_is_read),
     *(whiteouts_and_opaque_directories_come_back, marks_that_cannot_be_made_are_told_before_anything_is_written),
     *(who_is_not_root_unpacks_directories_that_may_not_be_written, the_program_is_found_once),
+    *(a_few_commands_read_all_files, a_tree_that_changes_meanwhile_is_told, a_fault_while_files_are_read_is_told),
 ]
 scenes = named(*map(in_a_place, CALLS))

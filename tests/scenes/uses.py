@@ -66,7 +66,8 @@ def left_overs(place):
 class Use:
     """A command as it is tried: what it writes; the commands that make its store in an empty folder, among which may be a
     function that puts something there; what it writes where it was done already; what stands on standard input; whether it
-    looks at a store, and whether it has to wait for it; and whether the short run leaves it out."""
+    looks at a store, and whether it has to wait for it; whether the short run leaves it out; and of a batch its lines, each with
+    its reply."""
 
     command: str
     reply: bytes
@@ -76,6 +77,7 @@ class Use:
     stored: bool = True
     waits: bool = False
     long: bool = False
+    lines: tuple = ()
 
     @property
     def name(self):
@@ -90,6 +92,28 @@ class Use:
         return f"`{self.command}` after {before}{', which waits' if self.waits else ''}"
 
     @property
+    def steps(self):
+        """The commands that it is, one after another, each with its reply: itself, or the lines of a batch."""
+        return self.lines or ((self.command, self.reply),)
+
+    @property
+    def stores(self):
+        """What makes the store before all of the steps, and after each."""
+        found = [self.before]
+        for command, reply in self.steps:
+            is_done = self.stored and not reply.startswith(b"refused ")
+            found.append((*found[-1], command) if is_done else found[-1])
+        return found
+
+    def replied(self, written):
+        """How many of its steps have their whole replies in what was written."""
+        done, whole = 0, b""
+        for _, reply in self.steps:
+            whole += reply
+            done += written.startswith(whole)
+        return done
+
+    @property
     def has_stops(self):
         return self.stored and not self.waits
 
@@ -99,6 +123,12 @@ class Use:
         return ["tree", "check", self.command, "tree", "check", NEXT, "tree", "check"]
 
 
+def batch(*lines, before=(), again):
+    """A batch of these lines, each with its reply; `again` are the replies where they were done already."""
+    source = "".join(f"{line}\n" for line, _ in lines).encode()
+    return Use("batch", b"".join(reply for _, reply in lines), before, again, source, lines=lines)
+
+
 INIT = ("init x86-64 system",)
 ON_HOST = (*INIT, "import-fs host /")
 WITH_IMAGES = (*ON_HOST, "import-fs y /var/lib/extensions/y", "import-fs x /var/lib/extensions/x")
@@ -106,6 +136,8 @@ MERGED = (*WITH_IMAGES, "sysext merge")
 FORCED = (*WITH_IMAGES, "sysext merge --force", "remove /var/lib/extensions/y")
 # After these the next change makes room.
 ROOM_TO_MAKE = ("import-fs many /srv", "remove /srv")
+# Worked out by the rule of a sample of one image.
+SAMPLE = b"entries 37\nfiles 23\nbytes 229\nsha256 bb3fd3417f076a5781f53ec623961780a1f6db97f22a19d1f161bace29f6bedc\n"
 WITH_CONFIGURATION = (*ON_HOST, "import-fs c /var/lib/confexts/c")
 CONFIGURED = (*WITH_CONFIGURATION, "confext merge")
 EXISTS, IS_MERGED = b"refused 2 store-exists\n", b"refused 3 merged\n"
@@ -153,7 +185,17 @@ USES = [
     Use("check", b"ok 9 71\n", MERGED),
     Use("migrate", DONE, (an_old_text,), again=b"unchanged\n"),
     Use("migrate", b"unchanged\n", ON_HOST),
+    batch(*((line, DONE) for line in ("init x86-64 system", "import-fs few /srv", "remove /srv/a")), again=EXISTS + DONE + DONE),
+    batch(
+        ("import-fs few /srv", DONE),
+        ("remove /gone", b"refused 8 no-entry /gone\n"),
+        ("remove /own", DONE),
+        ("cat /srv/a/new", b"new"),
+        before=ON_HOST,
+        again=DONE + b"refused 8 no-entry /gone\nrefused 8 no-entry /own\nnew",
+    ),
     Use("compare 1.0 1", b"greater\n", ON_HOST, stored=False),
+    Use("sample 1", SAMPLE, ON_HOST, stored=False),
     Use("layer", LAYERED, ON_HOST, source=LAYERED, stored=False),
 ]
 
@@ -202,14 +244,10 @@ class Room:
         return [self.run(command, use.source) for command in use.commands]
 
     def states(self, use):
-        """What a look has to show before the command and after it, which has to write what the table says."""
-        before, after = self.look(use, use.before), self.look(use, (*use.before, use.command) if is_done(use) else use.before)
+        """What a look has to show before the command and after each of its steps. It has to write what the table says."""
+        states = [self.look(use, store) for store in use.stores]
         again = use.reply if use.again is None else use.again
-        for found, wanted in (before[2], use.reply), (after[2], again):
-            if found != (wanted, 1 if wanted.startswith(b"refused ") else 0):
+        for found, wanted in (states[0][2], use.reply), (states[-1][2], again):
+            if found != (wanted, 1 if wanted.startswith(b"refused ") and not use.lines else 0):
                 raise Failed(f"{use.title} ends with {shortened(found)}, and is to write {shortened(wanted)}")
-        return before, after
-
-
-def is_done(use):
-    return use.stored and not use.reply.startswith(b"refused ")
+        return states

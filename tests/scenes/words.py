@@ -98,6 +98,12 @@ USAGES = [
     ("compare without a text", COMPARE, 2),
     ("compare with one text", [*COMPARE, b"1"], 3),
     ("compare with three texts", [*COMPARE, b"1", b"2", b"3"], 4),
+    ("batch and a word more", [b".", b".", b"batch", b"x"], 2),
+    ("sample without a number", [b".", b".", b"sample"], 2),
+    ("sample of no image", [b".", b".", b"sample", b"0"], 2),
+    ("sample of more images than there may be", [b".", b".", b"sample", b"501"], 2),
+    ("a number that begins with 0", [b".", b".", b"sample", b"01"], 2),
+    ("sample of two numbers", [b".", b".", b"sample", b"1", b"1"], 3),
     ("a lone argument that is no UTF-8", [b"\xff"], 1),
     ("a store that is no UTF-8", [b"\xff", b".", b"layer"], 1),
     ("a text that is no UTF-8", [*COMPARE, b"1", b"\xff"], 1),
@@ -125,7 +131,7 @@ def of_tables(program):
 def help_shows_each_command(program):
     written, told, status = run(program, [b"--help"])
     expect((b"", told, status), (b"", b"", 0))
-    commands = "init import-fs remove sysext confext tree cat check migrate compare layer".split()
+    commands = "init import-fs remove sysext confext tree cat check migrate compare layer batch sample".split()
     for said in (b"usage: hostext STORE DEPOT COMMAND ..\n", *(f"\n  {word}".encode() for word in commands)):
         if said not in written:
             raise Failed(f"{said!r} isn't in {written!r}")

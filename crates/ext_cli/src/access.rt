@@ -21,7 +21,7 @@ impl Access {
     /// That of a command.
     pub(crate) fn of(command: &Command) -> Access {
         match command {
-            Command::Compare(_, _) | Command::Layer => Access::None,
+            Command::Compare(_, _) | Command::Layer | Command::Sample { .. } => Access::None,
             Command::Cat { .. } => Access::Shows,
             _ if may_change(command) => Access::Changes,
             _ => Access::Reads,

@@ -10,7 +10,7 @@ pub(crate) struct Synopsis {
 }
 
 /// One of each command.
-pub(crate) static SYNOPSES: [Synopsis; 11] = [
+pub(crate) static SYNOPSES: [Synopsis; 13] = [
     Synopsis {
         word: "init",
         words: "init ARCH SCOPE [HIERS [HIERS]], where ARCH is x86, x86-64, arm, arm64, riscv64, s390x, ppc64-le or loongarch64, SCOPE is system or initrd, and HIERS are as /usr:/opt",
@@ -55,10 +55,18 @@ pub(crate) static SYNOPSES: [Synopsis; 11] = [
         word: "migrate",
         words: "migrate",
     },
+    Synopsis {
+        word: "batch",
+        words: "batch, which reads lines of commands from standard input",
+    },
+    Synopsis {
+        word: "sample",
+        words: "sample N, where N is 1 to 500",
+    },
 ];
 
-/// How the depot stands to the store folder, where a command reads what stands there: in it or below it cleaning would take
-/// away what is to be read.
+/// How the depot stands to the store folder, where a command reads what stands there, or a line of a batch may: in it or below
+/// it cleaning would take away what is to be read.
 ///
 /// # Errors
 /// `OutOfMemory` alone.
@@ -69,7 +77,7 @@ pub(crate) fn nesting_for(
     depot: &str,
 ) -> Result<Nesting, OutOfMemory> {
     match command {
-        Command::ImportFs { .. } => nesting_of(rt.alloc(), rt, depot, store),
+        Command::ImportFs { .. } | Command::Batch => nesting_of(rt.alloc(), rt, depot, store),
         _ => Ok(Nesting::Apart),
     }
 }

@@ -33,6 +33,12 @@ commands:
   compare TEXT TEXT   write less, equal or greater: the order of two versions
   layer               read a sequence of tree texts from standard input, the
                       host first, and write the text of the layered tree
+  batch               read standard input to its end, and run the command on
+                      each line, one after another: any but layer, batch and
+                      sample. A line without a word, and one that begins with
+                      #, counts for nothing
+  sample N            make a host with N images in memory, and write what its
+                      tree comes to; N is 1 to 500
 
 It ends with 0 where the command was done, 1 refused, 2 usage, 3 read fault,
 4 write fault, 5 disk fault, 6 depot fault, 7 out of memory, 8 bad store,

@@ -2,10 +2,10 @@
 //!
 //! It hands the words after DEPOT, the standard streams, and the folders STORE and DEPOT to `run`, and ends with the number
 //! of the status. Where that is 2 or more it prints a line on standard error, and the reason on a second one where somebody
-//! reads it. Both folders must exist. `compare` and `layer` look at neither.
+//! reads it. Both folders must exist. `compare`, `layer` and `sample` look at neither.
 //!
 //! STORE is locked while a command works on it: by one that may change it for itself alone, by one that reads it together with
-//! others.
+//! others. A batch may change it, and locks it once its lines were read.
 #![tactic(auto)]
 
 mod access;
@@ -23,7 +23,7 @@ use ext_cmd::{CmdErr, Command, read_words};
 use ext_folder::{FolderDepot, FolderDisk, LockedDisk, Nesting, ReleasingSink};
 use ext_io::{StdSink, StdSource};
 use ext_text::{OutOfMemory, Text, Words};
-use ext_top::{Status, run};
+use ext_top::{Devices, Status, run};
 use help::{HELP, VERSION};
 use std::process::ExitCode;
 use std::{env, io};
@@ -113,29 +113,23 @@ fn run_apart(
 ) -> Result<Ending, OutOfMemory> {
     let access = Access::of(command);
     let lock = access.lock(rt, store.as_str());
-    let mut source = StdSource::new(rt.stdin());
-    let mut sink = ReleasingSink::new(StdSink::new(rt.stdout()), access.handle(&lock));
-    let root = Text::from_bytes(rt.alloc(), store.as_bytes())?;
-    let mut disk = LockedDisk::new(
-        FolderDisk::private(*rt, root),
-        lock,
-        WaitingLine { rt: *rt },
-    );
-    let root = Text::from_bytes(rt.alloc(), depot.as_bytes())?;
-    let mut depot = FolderDepot::new(*rt, root);
-    let status = run(
-        rt.alloc(),
-        words,
-        &mut source,
-        &mut sink,
-        &mut disk,
-        &mut depot,
-    );
+    let sink = ReleasingSink::new(StdSink::new(rt.stdout()), access.handle(&lock));
+    let store_root = Text::from_bytes(rt.alloc(), store.as_bytes())?;
+    let depot_root = Text::from_bytes(rt.alloc(), depot.as_bytes())?;
+    let disk = FolderDisk::private(*rt, store_root);
+    let mut devices = Devices {
+        source: StdSource::new(rt.stdin()),
+        sink,
+        disk: LockedDisk::new(disk, lock, WaitingLine { rt: *rt }),
+        depot: FolderDepot::new(*rt, depot_root),
+    };
+    let status = run(rt.alloc(), words, &mut devices);
+    let store = store.as_str();
     reasons::ending_with(
         rt.alloc(),
         status,
-        store.as_str(),
-        disk.trouble(),
-        depot.trouble(),
+        store,
+        devices.disk.trouble(),
+        devices.depot.trouble(),
     )
 }

@@ -26,7 +26,7 @@ pub(crate) fn ending_with(
         Status::BadStore(why) => Some(of_bad_store(alloc, store, why)?),
         Status::Unfinished => Some(allocated(String::from_str(
             alloc,
-            "more was left over in STORE than one command removes; the same command goes on",
+            "more was left over in STORE than one command removes: give the same command again, and of a batch the lines without a reply",
         ))?),
         _ => None,
     };

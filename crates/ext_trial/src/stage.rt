@@ -2,7 +2,7 @@
 use ext_case::{Trouble, string, three, two};
 use ext_folder::{FolderDepot, FolderDisk};
 use ext_text::{Text, Words};
-use ext_trial_scenes::{Scene, run_over, words_of};
+use ext_trial_scenes::{Scene, beside_streams, run_over, words_of};
 use std::alloc::Global;
 use std::fs;
 
@@ -77,9 +77,9 @@ fn run_in_folders(
         return Err(Trouble::Unreadable("no folders"));
     };
     let words = words_of(rt.alloc(), arguments)?;
-    let mut disk = FolderDisk::new(*rt, store.copy()?);
-    let mut depot = FolderDepot::new(*rt, depot.copy()?);
-    let streams = stage.scene.streams();
-    let outcome = run_over(rt.alloc(), &words, streams, &mut disk, &mut depot)?;
+    let disk = FolderDisk::new(*rt, store.copy()?);
+    let depot = FolderDepot::new(*rt, depot.copy()?);
+    let mut devices = beside_streams(rt.alloc(), disk, depot);
+    let outcome = run_over(rt.alloc(), &words, stage.scene.streams(), &mut devices)?;
     Ok(stage.scene.end(outcome))
 }

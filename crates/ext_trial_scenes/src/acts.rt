@@ -1,12 +1,17 @@
 // What a case did to its store, so that it can be done again.
-use crate::streams::{Streams, run_over};
+use crate::streams::{MemoryStreams, Streams, beside_streams, run_over};
 use ext_case::Trouble;
 use ext_depot::MemoryDepot;
-use ext_disk::MemoryDisk;
-use ext_text::{Text, Words};
+use ext_disk::{MemoryDisk, Pick};
+use ext_io::Calls;
+use ext_text::{Path, Text, Words};
 use ext_trial_disks::{Outcome, call_text, carry_change, put_file, put_files, put_folder, sync};
 use ext_trial_plans::Change;
 use std::alloc::Global;
+use std::mem;
+
+/// The devices of a scene.
+pub(crate) type MemoryDevices = MemoryStreams<MemoryDisk, MemoryDepot>;
 
 /// A statement that changes a store.
 #[derive(Debug, Drop)]
@@ -22,9 +27,63 @@ pub(crate) enum Act {
     /// The disk is asked for a call.
     Call(Words),
     /// A command is run.
-    Run(Words),
+    Run(Ran),
     /// A change is carried out.
     Change(Change),
+}
+
+/// A command that is run: its words, and what its source has.
+#[derive(Debug, Drop)]
+pub(crate) struct Ran {
+    pub(crate) words: Words,
+    pub(crate) source: Text,
+}
+
+/// An empty disk on which nothing fails.
+pub(crate) fn empty_disk(alloc: Global) -> MemoryDisk {
+    MemoryDisk::new(alloc, Calls::new(alloc), None)
+}
+
+/// A depot of these files, of which these calls fail.
+///
+/// # Errors
+/// `OutOfMemory`.
+pub(crate) fn depot_of(
+    alloc: Global,
+    files: &[(Path, Text)],
+    fails: Calls,
+) -> Result<MemoryDepot, Trouble> {
+    let mut depot = MemoryDepot::new(alloc, fails);
+    for file in files {
+        depot.put(file.0.copy()?, file.1.copy()?)?;
+    }
+    Ok(depot)
+}
+
+/// An empty disk and a depot of these files, on which nothing fails.
+///
+/// # Errors
+/// `OutOfMemory`.
+pub(crate) fn fresh_devices(
+    alloc: Global,
+    files: &[(Path, Text)],
+) -> Result<MemoryDevices, Trouble> {
+    let depot = depot_of(alloc, files, Calls::new(alloc))?;
+    Ok(beside_streams(alloc, empty_disk(alloc), depot))
+}
+
+/// Stops the disk now, and goes on with what is left of it.
+///
+/// # Errors
+/// `OutOfMemory`.
+pub(crate) fn stop_disk(
+    alloc: Global,
+    devices: &mut MemoryDevices,
+    pick: Pick,
+) -> Result<(), Trouble> {
+    let disk = mem::replace(&mut devices.disk, empty_disk(alloc));
+    devices.disk = disk.after_stop(pick)?;
+    Ok(())
 }
 
 /// How an act ends on a disk and a depot. What puts things there writes nothing.
@@ -34,17 +93,38 @@ pub(crate) enum Act {
 pub(crate) fn act_on(
     alloc: Global,
     act: &Act,
-    disk: &mut MemoryDisk,
-    depot: &mut MemoryDepot,
+    devices: &mut MemoryDevices,
 ) -> Result<Outcome, Trouble> {
     match act {
-        Act::Run(words) => run_over(alloc, words, &Streams::new(alloc), disk, depot),
-        Act::Change(change) => carry_change(alloc, disk, depot, change),
-        Act::Call(words) => done(alloc, call_text(alloc, disk, words.as_slice())?),
+        Act::Run(ran) => {
+            let streams = Streams::new(ran.source.copy()?);
+            run_over(alloc, &ran.words, &streams, devices)
+        }
+        Act::Change(change) => carry_change(alloc, &mut devices.disk, &mut devices.depot, change),
+        Act::Call(words) => {
+            let reply = call_text(alloc, &mut devices.disk, words.as_slice())?;
+            done(alloc, reply)
+        }
         _ => {
-            place(alloc, act, disk)?;
+            place(alloc, act, &mut devices.disk)?;
             done(alloc, Text::new(alloc))
         }
+    }
+}
+
+/// How a command ends that is run again over these streams.
+///
+/// # Errors
+/// `Unreadable` where the act is no command, and `OutOfMemory`.
+pub(crate) fn run_again(
+    alloc: Global,
+    act: &Act,
+    streams: &Streams,
+    devices: &mut MemoryDevices,
+) -> Result<Outcome, Trouble> {
+    match act {
+        Act::Run(ran) => run_over(alloc, &ran.words, streams, devices),
+        _ => Err(Trouble::Unreadable("the statement before is no command")),
     }
 }
 
@@ -79,11 +159,10 @@ pub(crate) fn is_change(act: &Act) -> bool {
 pub(crate) fn act_all(
     alloc: Global,
     acts: &[Act],
-    disk: &mut MemoryDisk,
-    depot: &mut MemoryDepot,
+    devices: &mut MemoryDevices,
 ) -> Result<(), Trouble> {
     for act in acts {
-        if !act_on(alloc, act, disk, depot)?.is_status("0") {
+        if !act_on(alloc, act, devices)?.is_status("0") {
             return Err(Trouble::Unreadable("what comes before the change is not done"));
         }
     }

@@ -1,6 +1,6 @@
 // The words of scenes that say what devices have, and where they fail.
 use crate::acts::Act;
-use crate::every::Stream;
+use crate::exits::Stream;
 use crate::scene::Scene;
 use ext_case::{Trouble, number, number_line, one, one_and_more, size, small, string, two};
 use ext_disk::Pick;

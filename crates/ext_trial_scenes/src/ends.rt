@@ -1,13 +1,20 @@
-// What a store tells before a change and after it.
-use crate::acts::{Act, act_all, act_on};
+// What a store tells before a change, after each line of a batch, and after a change.
+use crate::acts::{Act, MemoryDevices, act_all, act_on, empty_disk};
+use crate::batches::{lines_of, reply_of_line};
 use crate::streams::{Streams, run_over};
 use ext_case::Trouble;
-use ext_depot::MemoryDepot;
 use ext_disk::MemoryDisk;
-use ext_io::Calls;
-use ext_text::{Text, Words};
+use ext_text::{Path, Text, Words};
 use ext_trial_disks::{Outcome, standing_text};
 use std::alloc::Global;
+
+/// A change, what was done before it, and the files of the depot.
+#[derive(Clone, Copy)]
+pub(crate) struct Play<'a> {
+    pub(crate) before: &'a [Act],
+    pub(crate) change: &'a Act,
+    pub(crate) files: &'a [(Path, Text)],
+}
 
 /// What a store tells. First it tells of a command its tree and a check of its files, and of a change what it stands for.
 /// Then comes how the change ends there, and then the first again.
@@ -25,12 +32,11 @@ pub(crate) struct Told {
 pub(crate) fn ask(
     alloc: Global,
     change: &Act,
-    disk: &mut MemoryDisk,
-    depot: &mut MemoryDepot,
+    devices: &mut MemoryDevices,
 ) -> Result<Told, Trouble> {
-    let before = look(alloc, change, disk, depot)?;
-    let outcome = act_on(alloc, change, disk, depot)?;
-    let after = look(alloc, change, disk, depot)?;
+    let before = look(alloc, change, devices)?;
+    let outcome = act_on(alloc, change, devices)?;
+    let after = look(alloc, change, devices)?;
     Ok(Told {
         before,
         change: outcome,
@@ -39,36 +45,26 @@ pub(crate) fn ask(
 }
 
 // What a store tells of itself.
-fn look(
-    alloc: Global,
-    change: &Act,
-    disk: &mut MemoryDisk,
-    depot: &mut MemoryDepot,
-) -> Result<Vec<Outcome>, Trouble> {
+fn look(alloc: Global, change: &Act, devices: &mut MemoryDevices) -> Result<Vec<Outcome>, Trouble> {
     let mut told = Vec::new(alloc);
     match change {
         Act::Change(_) => told.push(Outcome {
             status: Text::new(alloc),
-            reply: standing_text(alloc, disk)?,
+            reply: standing_text(alloc, &mut devices.disk)?,
         })?,
         _ => {
-            told.push(command(alloc, "tree", disk, depot)?)?;
-            told.push(command(alloc, "check", disk, depot)?)?;
+            told.push(command(alloc, "tree", devices)?)?;
+            told.push(command(alloc, "check", devices)?)?;
         }
     }
     Ok(told)
 }
 
 // How a command of one word ends.
-fn command(
-    alloc: Global,
-    word: &str,
-    disk: &mut MemoryDisk,
-    depot: &mut MemoryDepot,
-) -> Result<Outcome, Trouble> {
+fn command(alloc: Global, word: &str, devices: &mut MemoryDevices) -> Result<Outcome, Trouble> {
     let mut words = Words::new(alloc);
     words.push(Text::from_bytes(alloc, word.as_bytes())?)?;
-    run_over(alloc, &words, &Streams::new(alloc), disk, depot)
+    run_over(alloc, &words, &Streams::new(Text::new(alloc)), devices)
 }
 
 // Whether all of them are the same.
@@ -87,76 +83,126 @@ pub(crate) fn agree(one: &Told, other: &Told) -> bool {
         && are_same(one.after.as_slice(), other.after.as_slice())
 }
 
-/// The calls of the disk before a change and after it, and what the store tells then, where nothing fails.
+/// A line that was done: what it wrote, and what the store tells after it.
+#[derive(Debug, Drop)]
+pub(crate) struct Done {
+    pub(crate) reply: Text,
+    pub(crate) told: Told,
+}
+
+/// A change where nothing fails: the calls of the disk before it and after it, how it ends, whether it writes its reply, what
+/// the store tells before it, and its lines. A batch has those of its source, which are run one by one; any other change is one
+/// line. A change that no command makes writes nothing, and replies why it ended.
 #[derive(Debug, Drop)]
 pub(crate) struct Ends {
     pub(crate) calls_before: u64,
     pub(crate) calls_after: u64,
-    pub(crate) before: Told,
-    pub(crate) after: Told,
+    pub(crate) outcome: Outcome,
+    pub(crate) writes: bool,
+    pub(crate) first: Told,
+    pub(crate) lines: Vec<Done>,
 }
 
-/// A disk after the acts before the change, on which these calls fail, or all from one on.
+/// Puts a disk in the place of the disk, and does there what was done before the change.
 ///
 /// # Errors
 /// `Unreadable` where an act is not done, and `OutOfMemory`.
-pub(crate) fn prepared(
+pub(crate) fn prepare(
     alloc: Global,
-    before: &[Act],
-    depot: &mut MemoryDepot,
-    fails: Calls,
-    stop: Option<u64>,
-) -> Result<MemoryDisk, Trouble> {
-    let mut disk = MemoryDisk::new(alloc, fails, stop);
-    act_all(alloc, before, &mut disk, depot)?;
-    Ok(disk)
+    play: &Play<'_>,
+    disk: MemoryDisk,
+    devices: &mut MemoryDevices,
+) -> Result<(), Trouble> {
+    devices.disk = disk;
+    act_all(alloc, play.before, devices)
 }
 
 /// The ends of a change.
 ///
 /// # Errors
-/// `Unreadable` where an act is not done, or the ends can't be told apart, and `OutOfMemory`.
+/// `Unreadable` where an act is not done, and `OutOfMemory`.
 pub(crate) fn ends_of(
     alloc: Global,
-    acts: &[Act],
-    change: &Act,
-    depot: &mut MemoryDepot,
+    play: &Play<'_>,
+    devices: &mut MemoryDevices,
 ) -> Result<Ends, Trouble> {
-    let mut disk = prepared(alloc, acts, depot, Calls::new(alloc), None)?;
-    let calls_before = disk.calls();
-    let _outcome = act_on(alloc, change, &mut disk, depot)?;
-    let calls_after = disk.calls();
-    let after = ask(alloc, change, &mut disk, depot)?;
-    let before = told_before(alloc, acts, change, depot)?;
-    are_apart(Ends {
+    prepare(alloc, play, empty_disk(alloc), devices)?;
+    let first = ask(alloc, play.change, devices)?;
+    let lines = lines_done(alloc, play, devices)?;
+    prepare(alloc, play, empty_disk(alloc), devices)?;
+    let calls_before = devices.disk.calls();
+    let outcome = act_on(alloc, play.change, devices)?;
+    Ok(Ends {
         calls_before,
-        calls_after,
-        before,
-        after,
+        calls_after: devices.disk.calls(),
+        outcome,
+        writes: matches!(play.change, Act::Run(_)),
+        first,
+        lines,
     })
 }
 
-// What a store tells before the change.
-fn told_before(
+// The lines of a change, each done after those before it.
+fn lines_done(
     alloc: Global,
-    acts: &[Act],
-    change: &Act,
-    depot: &mut MemoryDepot,
-) -> Result<Told, Trouble> {
-    let mut disk = prepared(alloc, acts, depot, Calls::new(alloc), None)?;
-    ask(alloc, change, &mut disk, depot)
-}
-
-// The ends, where the change makes calls, leads from the one to the other, and one can be told from the other.
-fn are_apart(ends: Ends) -> Result<Ends, Trouble> {
-    let leads = are_same(ends.before.after.as_slice(), ends.after.before.as_slice());
-    if ends.calls_before >= ends.calls_after || !leads || agree(&ends.before, &ends.after) {
-        return Err(Trouble::Unreadable("the change does nothing that can be told"));
+    play: &Play<'_>,
+    devices: &mut MemoryDevices,
+) -> Result<Vec<Done>, Trouble> {
+    let mut done = Vec::new(alloc);
+    match lines_of(alloc, play.change)? {
+        None => done.push(line_done(alloc, play, &[], play.change, devices)?)?,
+        Some(lines) => {
+            for (index, line) in lines.iter().enumerate() {
+                done.push(line_done(alloc, play, &lines.as_slice()[..index], line, devices)?)?;
+            }
+        }
     }
-    Ok(ends)
+    Ok(done)
 }
 
-/// Whether what is found is what stood before the change, or what stands after it.
-pub(crate) fn is_an_end(ends: &Ends, found: &Told) -> bool {
-    agree(found, &ends.before) || agree(found, &ends.after)
+// A line, done after these lines.
+fn line_done(
+    alloc: Global,
+    play: &Play<'_>,
+    lines: &[Act],
+    line: &Act,
+    devices: &mut MemoryDevices,
+) -> Result<Done, Trouble> {
+    prepare(alloc, play, empty_disk(alloc), devices)?;
+    for before in lines {
+        let _outcome = act_on(alloc, before, devices)?;
+    }
+    let outcome = act_on(alloc, line, devices)?;
+    Ok(Done {
+        reply: reply_of_line(alloc, outcome)?,
+        told: ask(alloc, play.change, devices)?,
+    })
+}
+
+/// The ends of a change that makes calls of the disk, and before which a store tells something else than after it.
+///
+/// # Errors
+/// `Unreadable` where it is none, or an act is not done, and `OutOfMemory`.
+pub(crate) fn ends_apart(
+    alloc: Global,
+    play: &Play<'_>,
+    devices: &mut MemoryDevices,
+) -> Result<Ends, Trouble> {
+    let ends = ends_of(alloc, play, devices)?;
+    if ends.calls_before < ends.calls_after && are_apart(&ends) {
+        Ok(ends)
+    } else {
+        Err(Trouble::Unreadable("the change does nothing that can be told"))
+    }
+}
+
+// Whether the change leads from what stands before its lines to what stands after them, and that is something else.
+fn are_apart(ends: &Ends) -> bool {
+    match ends.lines.last() {
+        None => false,
+        Some(last) => {
+            are_same(ends.first.after.as_slice(), last.told.before.as_slice())
+                && !agree(&ends.first, &last.told)
+        }
+    }
 }

@@ -27,4 +27,9 @@ pub(crate) fn call_laws() {
     ext_top::laws::one_reply();
     ext_top::laws::compare_is_done();
     ext_top::laws::a_step_has_one_outcome();
+    ext_top::laws::a_refresh_is_an_unmerge_and_a_merge();
+    ext_top::laws::the_way_is_what_first_lines_leave();
+    ext_top::laws::done_lines_leave_the_state_after();
+    ext_top::laws::what_no_line_touches_stays();
+    ext_top::laws::untouched_manifests_stay();
 }

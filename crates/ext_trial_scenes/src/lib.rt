@@ -7,10 +7,12 @@
 #![tactic(auto)]
 
 mod acts;
+mod batches;
 mod command_words;
 mod device_words;
 mod ends;
 mod every;
+mod exits;
 mod laws;
 mod scene;
 mod streams;
@@ -18,5 +20,5 @@ mod words;
 
 pub use ext_trial_disks::Outcome;
 pub use scene::Scene;
-pub use streams::{Streams, run_over};
+pub use streams::{MemoryStreams, Streams, beside_streams, run_over};
 pub use words::{answer, words_of};

@@ -3,9 +3,9 @@ mod calls;
 mod plays;
 mod runs;
 
-use crate::acts::Act;
-use crate::every::{Stream, depot_of};
-use crate::streams::Streams;
+use crate::acts::{Act, MemoryDevices, depot_of, stop_disk};
+use crate::exits::Stream;
+use crate::streams::{Streams, beside_streams};
 use ext_case::Trouble;
 use ext_depot::MemoryDepot;
 use ext_disk::{MemoryDisk, Pick};
@@ -29,8 +29,7 @@ pub struct Scene {
     files: Vec<(Path, Text)>,
     acts: Vec<Act>,
     // They are made when they are needed first.
-    disk: Option<MemoryDisk>,
-    depot: Option<MemoryDepot>,
+    devices: Option<MemoryDevices>,
     // The status of the last command, where it was not stated yet.
     unsaid: Option<Text>,
 }
@@ -42,12 +41,11 @@ impl Scene {
             disk_fails: Calls::new(alloc),
             depot_fails: Calls::new(alloc),
             stop: None,
-            streams: Streams::new(alloc),
+            streams: Streams::new(Text::new(alloc)),
             pieces: Vec::new(alloc),
             files: Vec::new(alloc),
             acts: Vec::new(alloc),
-            disk: None,
-            depot: None,
+            devices: None,
             unsaid: None,
         }
     }
@@ -80,9 +78,9 @@ impl Scene {
     /// Makes a call of the disk fail.
     ///
     /// # Errors
-    /// `Unreadable` where the disk was used already.
+    /// `Unreadable` where the devices were used already.
     pub(crate) fn fail_disk(&mut self, call: u64) -> Result<(), Trouble> {
-        unused(self.disk.is_none())?;
+        self.are_unused()?;
         self.disk_fails.push(call)?;
         Ok(())
     }
@@ -90,9 +88,9 @@ impl Scene {
     /// Makes a call of the depot fail.
     ///
     /// # Errors
-    /// `Unreadable` where the depot was used already.
+    /// `Unreadable` where the devices were used already.
     pub(crate) fn fail_depot(&mut self, call: u64) -> Result<(), Trouble> {
-        unused(self.depot.is_none())?;
+        self.are_unused()?;
         self.depot_fails.push(call)?;
         Ok(())
     }
@@ -100,19 +98,16 @@ impl Scene {
     /// Stops the disk at a call.
     ///
     /// # Errors
-    /// `Unreadable` where the disk was used already.
+    /// `Unreadable` where the devices were used already.
     pub(crate) fn stop_at(&mut self, call: u64) -> Result<(), Trouble> {
-        unused(self.disk.is_none())?;
+        self.are_unused()?;
         self.stop = Some(call);
         Ok(())
     }
 
     /// Makes a call of a stream fail, of each command that follows.
     pub(crate) fn fail_stream(&mut self, stream: Stream, call: u64) {
-        match stream {
-            Stream::Source => self.streams.source_fails = call,
-            Stream::Sink => self.streams.sink_fails = call,
-        }
+        self.streams.fail(stream, call);
     }
 
     /// Gives the commands that follow a source of these bytes.
@@ -133,11 +128,42 @@ impl Scene {
     /// # Errors
     /// `OutOfMemory`.
     pub(crate) fn put(&mut self, path: Path, bytes: Text) -> Result<(), Trouble> {
-        if let Some(depot) = &mut self.depot {
-            depot.put(path.copy()?, bytes.copy()?)?;
+        if let Some(devices) = &mut self.devices {
+            devices.depot.put(path.copy()?, bytes.copy()?)?;
         }
         self.files.push((path, bytes))?;
         Ok(())
+    }
+
+    /// The devices.
+    ///
+    /// # Errors
+    /// `OutOfMemory`.
+    pub(crate) fn devices(&mut self, alloc: Global) -> Result<&mut MemoryDevices, Trouble> {
+        if self.devices.is_none() {
+            let devices = self.make_devices(alloc)?;
+            self.devices = Some(devices);
+        }
+        match &mut self.devices {
+            Some(devices) => Ok(devices),
+            None => Err(Trouble::Unreadable("no devices")),
+        }
+    }
+
+    // An empty disk and a depot of the files, which fail where it was said.
+    fn make_devices(&mut self, alloc: Global) -> Result<MemoryDevices, Trouble> {
+        let disk_fails = mem::replace(&mut self.disk_fails, Calls::new(alloc));
+        let depot_fails = mem::replace(&mut self.depot_fails, Calls::new(alloc));
+        let disk = MemoryDisk::new(alloc, disk_fails, self.stop);
+        let depot = depot_of(alloc, self.files.as_slice(), depot_fails)?;
+        Ok(beside_streams(alloc, disk, depot))
+    }
+
+    fn are_unused(&self) -> Result<(), Trouble> {
+        match &self.devices {
+            None => Ok(()),
+            Some(_) => Err(Trouble::Unreadable("the devices were used already")),
+        }
     }
 
     /// The disk.
@@ -145,11 +171,8 @@ impl Scene {
     /// # Errors
     /// `OutOfMemory`.
     pub(crate) fn disk(&mut self, alloc: Global) -> Result<&mut MemoryDisk, Trouble> {
-        if self.disk.is_none() {
-            let fails = mem::replace(&mut self.disk_fails, Calls::new(alloc));
-            self.disk = Some(MemoryDisk::new(alloc, fails, self.stop));
-        }
-        here(&mut self.disk)
+        let devices = self.devices(alloc)?;
+        Ok(&mut devices.disk)
     }
 
     /// The depot.
@@ -157,32 +180,8 @@ impl Scene {
     /// # Errors
     /// `OutOfMemory`.
     pub(crate) fn depot(&mut self, alloc: Global) -> Result<&mut MemoryDepot, Trouble> {
-        if self.depot.is_none() {
-            let fails = mem::replace(&mut self.depot_fails, Calls::new(alloc));
-            self.depot = Some(depot_of(alloc, self.files.as_slice(), fails)?);
-        }
-        here(&mut self.depot)
-    }
-
-    /// Both.
-    ///
-    /// # Errors
-    /// `OutOfMemory`.
-    pub(crate) fn devices(
-        &mut self,
-        alloc: Global,
-    ) -> Result<(&mut MemoryDisk, &mut MemoryDepot), Trouble> {
-        let _disk = self.disk(alloc)?;
-        let _depot = self.depot(alloc)?;
-        match (&mut self.disk, &mut self.depot) {
-            (Some(disk), Some(depot)) => Ok((disk, depot)),
-            _ => Err(Trouble::Unreadable("no devices")),
-        }
-    }
-
-    /// Puts another disk in the place of the disk.
-    pub(crate) fn change_disk(&mut self, disk: MemoryDisk) {
-        self.disk = Some(disk);
+        let devices = self.devices(alloc)?;
+        Ok(&mut devices.depot)
     }
 
     /// Stops the disk now, and goes on with what is left of it.
@@ -190,25 +189,6 @@ impl Scene {
     /// # Errors
     /// `OutOfMemory`.
     pub(crate) fn stop_now(&mut self, alloc: Global, pick: Pick) -> Result<(), Trouble> {
-        let _disk = self.disk(alloc)?;
-        if let Some(disk) = self.disk.take() {
-            self.disk = Some(disk.after_stop(pick)?);
-        }
-        Ok(())
-    }
-}
-
-fn unused(is_unused: bool) -> Result<(), Trouble> {
-    if is_unused {
-        Ok(())
-    } else {
-        Err(Trouble::Unreadable("the device was used already"))
-    }
-}
-
-fn here<T>(device: &mut Option<T>) -> Result<&mut T, Trouble> {
-    match device {
-        Some(device) => Ok(device),
-        None => Err(Trouble::Unreadable("no device")),
+        stop_disk(alloc, self.devices(alloc)?, pick)
     }
 }

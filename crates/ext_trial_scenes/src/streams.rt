@@ -1,12 +1,16 @@
 // The streams of a command, and its run.
+use crate::exits::Stream;
 use ext_case::{Trouble, append_number, append_str};
 use ext_depot::Depot;
 use ext_disk::Disk;
 use ext_io::{Calls, MemorySink, MemorySource};
 use ext_text::{Text, Words};
-use ext_top::{BadStore, Status, run};
+use ext_top::{BadStore, Devices, Status, run};
 use ext_trial_disks::{Outcome, append_damage, append_field};
 use std::alloc::Global;
+
+/// A disk and a depot, beside streams in memory.
+pub type MemoryStreams<D, P> = Devices<MemorySource, MemorySink, D, P>;
 
 /// What a command reads and how it is written: the bytes of its source, how many bytes a call moves, and which call of
 /// each stream fails, 0 where none does.
@@ -23,14 +27,44 @@ pub struct Streams {
 }
 
 impl Streams {
-    /// An empty source, and streams that move many bytes a call and never fail.
-    pub fn new(alloc: Global) -> Streams {
+    /// Of these bytes, which move many a call and never fail.
+    pub fn new(source: Text) -> Streams {
         Streams {
-            source: Text::new(alloc),
+            source,
             piece: 65_536,
             source_fails: 0,
             sink_fails: 0,
         }
+    }
+
+    /// Makes a call of a stream fail, and no other of that stream.
+    pub(crate) fn fail(&mut self, stream: Stream, call: u64) {
+        match stream {
+            Stream::Source => self.source_fails = call,
+            Stream::Sink => self.sink_fails = call,
+        }
+    }
+
+    // The source of a run.
+    fn source(&self, alloc: Global) -> Result<MemorySource, Trouble> {
+        let fails = only(alloc, self.source_fails)?;
+        Ok(MemorySource::new(self.source.copy()?, self.piece.max(1), fails))
+    }
+
+    // The sink of a run.
+    fn sink(&self, alloc: Global) -> Result<MemorySink, Trouble> {
+        let fails = only(alloc, self.sink_fails)?;
+        Ok(MemorySink::new(alloc, self.piece.max(1), fails))
+    }
+}
+
+/// A disk and a depot with an empty source and a sink: each run is given its own.
+pub fn beside_streams<D: Disk, P: Depot>(alloc: Global, disk: D, depot: P) -> MemoryStreams<D, P> {
+    Devices {
+        source: MemorySource::new(Text::new(alloc), 1, Calls::new(alloc)),
+        sink: MemorySink::new(alloc, 1, Calls::new(alloc)),
+        disk,
+        depot,
     }
 }
 
@@ -42,20 +76,14 @@ pub fn run_over<D: Disk, P: Depot>(
     alloc: Global,
     words: &Words,
     streams: &Streams,
-    disk: &mut D,
-    depot: &mut P,
+    devices: &mut MemoryStreams<D, P>,
 ) -> Result<Outcome, Trouble> {
-    let piece = streams.piece.max(1);
-    let mut source = MemorySource::new(
-        streams.source.copy()?,
-        piece,
-        only(alloc, streams.source_fails)?,
-    );
-    let mut sink = MemorySink::new(alloc, piece, only(alloc, streams.sink_fails)?);
-    let status = run(alloc, words, &mut source, &mut sink, disk, depot);
+    devices.source = streams.source(alloc)?;
+    devices.sink = streams.sink(alloc)?;
+    let status = run(alloc, words, devices);
     Ok(Outcome {
         status: status_text(alloc, &status)?,
-        reply: Text::from_bytes(alloc, sink.written())?,
+        reply: Text::from_bytes(alloc, devices.sink.written())?,
     })
 }
 

@@ -85,12 +85,12 @@ fn answer_store(
         "depot-read" => read_text(alloc, scene.depot(alloc)?, arguments)?,
         "standing" => standing(alloc, scene, arguments)?,
         "copy" => {
-            let (disk, depot) = scene.devices(alloc)?;
-            copy(alloc, disk, depot, arguments)?
+            let devices = scene.devices(alloc)?;
+            copy(alloc, &mut devices.disk, &mut devices.depot, arguments)?
         }
         "compare-kept" => {
-            let (disk, depot) = scene.devices(alloc)?;
-            compare(alloc, disk, depot, arguments)?
+            let devices = scene.devices(alloc)?;
+            compare(alloc, &mut devices.disk, &mut devices.depot, arguments)?
         }
         "give" => give(alloc, scene.disk(alloc)?, arguments)?,
         "give-piece" => give_piece(alloc, scene.disk(alloc)?, arguments)?,
@@ -134,7 +134,7 @@ fn first(alloc: Global, scene: &mut Scene, arguments: &[Text]) -> Result<Text, T
     let change = change_of(alloc, arguments)?;
     match prepare_first(alloc, scene.depot(alloc)?, &change) {
         Ok(Ok(disk)) => {
-            scene.change_disk(disk);
+            scene.devices(alloc)?.disk = disk;
             Ok(Text::new(alloc))
         }
         Ok(Err(refused)) => refusal_text(alloc, &refused),

@@ -1,12 +1,9 @@
 // Calls of the disk of a scene, and what a stop would leave of it.
 use super::Scene;
-use crate::acts::Act;
-use crate::ends::prepared;
-use crate::every::depot_of;
+use crate::acts::{Act, act_all, fresh_devices, stop_disk};
 use crate::words::words_of;
 use ext_case::Trouble;
 use ext_disk::Pick;
-use ext_io::Calls;
 use ext_text::Text;
 use ext_trial_disks::{call_text, whole_text};
 use std::alloc::Global;
@@ -29,9 +26,9 @@ impl Scene {
     /// # Errors
     /// `Unreadable` where something of it is not done, and `OutOfMemory`.
     pub(crate) fn left_by_stop(&self, alloc: Global, pick: Pick) -> Result<Text, Trouble> {
-        let mut depot = depot_of(alloc, self.files.as_slice(), Calls::new(alloc))?;
-        let acts = self.acts.as_slice();
-        let disk = prepared(alloc, acts, &mut depot, Calls::new(alloc), None)?;
-        whole_text(alloc, &mut disk.after_stop(pick)?)
+        let mut devices = fresh_devices(alloc, self.files.as_slice())?;
+        act_all(alloc, self.acts.as_slice(), &mut devices)?;
+        stop_disk(alloc, &mut devices, pick)?;
+        whole_text(alloc, &mut devices.disk)
     }
 }

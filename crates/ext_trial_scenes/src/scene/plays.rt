@@ -1,9 +1,10 @@
 // The last change of a scene, played anew with each of its calls failing.
 use super::Scene;
 use crate::acts::{Act, is_change};
-use crate::every::{
-    Play, Stream, fail_depot_every, fail_disk_every, fail_stream_every, stop_every,
-};
+use crate::ends::Play;
+use crate::every::{fail_depot_every, fail_disk_every, fail_stream_every, stop_every};
+use crate::exits::Stream;
+use crate::streams::Streams;
 use ext_case::Trouble;
 use ext_disk::Pick;
 use ext_text::Text;
@@ -59,15 +60,21 @@ impl Scene {
     ///
     /// # Errors
     /// `Unreadable` where there is none, and `OutOfMemory`.
-    pub(crate) fn fail_stream_every(
-        &mut self,
-        alloc: Global,
-        stream: Stream,
-    ) -> Result<Text, Trouble> {
-        let _devices = self.devices(alloc)?;
-        match (self.acts.last(), &mut self.disk, &mut self.depot) {
-            (Some(Act::Run(words)), Some(disk), Some(depot)) => {
-                fail_stream_every(alloc, words, &mut self.streams, stream, disk, depot)
+    pub(crate) fn fail_stream_every(&self, alloc: Global, stream: Stream) -> Result<Text, Trouble> {
+        let play = self.play()?;
+        let mut streams = self.streams_of(play.change)?;
+        let mut text = Text::new(alloc);
+        fail_stream_every(alloc, &play, &mut streams, stream, &mut text)?;
+        Ok(text)
+    }
+
+    // Streams of a command that was run, which move as many bytes a call as those of the next one.
+    fn streams_of(&self, act: &Act) -> Result<Streams, Trouble> {
+        match act {
+            Act::Run(ran) => {
+                let mut streams = Streams::new(ran.source.copy()?);
+                streams.piece = self.streams.piece;
+                Ok(streams)
             }
             _ => Err(Trouble::Unreadable("the statement before is no command")),
         }

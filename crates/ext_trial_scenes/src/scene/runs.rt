@@ -1,6 +1,6 @@
 // Commands and changes over the devices of a scene.
 use super::Scene;
-use crate::acts::{Act, act_on};
+use crate::acts::{Act, Ran, act_on};
 use crate::streams::run_over;
 use ext_case::Trouble;
 use ext_text::Words;
@@ -14,8 +14,7 @@ impl Scene {
     /// # Errors
     /// `Unreadable` where it can't be done, and `OutOfMemory`.
     pub(crate) fn act(&mut self, alloc: Global, act: Act) -> Result<Outcome, Trouble> {
-        let (disk, depot) = self.devices(alloc)?;
-        let outcome = act_on(alloc, &act, disk, depot)?;
+        let outcome = act_on(alloc, &act, self.devices(alloc)?)?;
         self.acts.push(act)?;
         Ok(outcome)
     }
@@ -27,7 +26,8 @@ impl Scene {
     /// `Unreadable` where it can't be run, and `OutOfMemory`.
     pub(crate) fn run(&mut self, alloc: Global, words: Words) -> Result<Outcome, Trouble> {
         let outcome = self.run_in_pieces(alloc, &words)?;
-        self.acts.push(Act::Run(words))?;
+        let source = self.streams.source.copy()?;
+        self.acts.push(Act::Run(Ran { words, source }))?;
         Ok(outcome)
     }
 
@@ -62,9 +62,9 @@ impl Scene {
 
     fn run_once(&mut self, alloc: Global, words: &Words) -> Result<Outcome, Trouble> {
         let _devices = self.devices(alloc)?;
-        match (&mut self.disk, &mut self.depot) {
-            (Some(disk), Some(depot)) => run_over(alloc, words, &self.streams, disk, depot),
-            _ => Err(Trouble::Unreadable("no devices")),
+        match &mut self.devices {
+            Some(devices) => run_over(alloc, words, &self.streams, devices),
+            None => Err(Trouble::Unreadable("no devices")),
         }
     }
 
@@ -74,8 +74,8 @@ impl Scene {
     /// `Unreadable` where there is none, and `OutOfMemory`.
     pub(crate) fn again(&mut self, alloc: Global) -> Result<Outcome, Trouble> {
         let _devices = self.devices(alloc)?;
-        match (self.acts.last(), &mut self.disk, &mut self.depot) {
-            (Some(act), Some(disk), Some(depot)) => act_on(alloc, act, disk, depot),
+        match (self.acts.last(), &mut self.devices) {
+            (Some(act), Some(devices)) => act_on(alloc, act, devices),
             _ => Err(Trouble::Unreadable("nothing was done yet")),
         }
     }
