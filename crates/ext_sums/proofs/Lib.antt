@@ -3,6 +3,7 @@ pub mod FoundLemmas
 pub mod SumsLemmas
 pub mod MergingLemmas
 pub mod PrefixLemmas
+pub mod KeyLemmas
 pub mod SortingLemmas
 pub mod ReadingLemmas
 pub mod LawsLemmas

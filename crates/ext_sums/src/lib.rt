@@ -10,6 +10,7 @@ mod laws;
 mod merging;
 mod prefix;
 mod reading;
+mod sorting;
 mod sums;
 
 pub use laws::{

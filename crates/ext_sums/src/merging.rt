@@ -1,18 +1,17 @@
-// Entries that come line by line, put in the order of their names, each name once.
-ghost use Rattle.std.specs.Prelude.{◌≡◌, ◌-◌, drop, length, slice_get, IfOk};
-ghost use Rattle.ext_lines.specs.ByteOrder.{bytes_cmp};
-ghost use Rattle.ext_sums.specs.Merging.{AreByName, AreSortedFrom, IsMerge, least, same_or_other, standing_of};
+// Entries in the order of their names, each name once.
+ghost use Rattle.std.specs.Prelude.{◌≡◌, ◌-◌, length, slice_get, IfOk};
+ghost use Rattle.ext_sums.specs.Merging.{AreByName, IsMerge, least, same_or_other, standing_of};
 ghost use Rattle.ext_sums.specs.Sums.{entries_of};
 
-use crate::prefix::common_prefix;
 use crate::sums::Listed;
 use ext_lines::{OutOfMemory, allocated};
 use std::alloc::Global;
-use std::cmp::Ordering;
 
-/// A name and its digest, with the number of the line that lists them, counted from 1.
+/// A name and its digest, with the number of the line that lists them, counted from 1. The key is the name's own for a sort,
+/// and 0 before it.
 #[derive(Debug, Drop)]
 pub(crate) struct Numbered {
+    pub(crate) key: u64,
     pub(crate) listed: Listed,
     pub(crate) line: u64,
 }
@@ -32,31 +31,6 @@ enum Standing {
     Same,
     // It has the same name and another digest.
     Other,
-}
-
-// The lines in the order of their names, those of one name in their own order. Lines that are in order take one look. Many
-// names of a manifest begin alike, so what all begin with is read once, and not in each comparison.
-pub(crate) fn sorted(lines: Vec<Numbered>) -> Result<Vec<Numbered>, OutOfMemory>
-    ensures { IfOk result (λ sorted. AreSortedFrom lines.items sorted.items) }
-{
-    let count = common_prefix(lines.as_slice()).len();
-    let mut sorted = lines;
-    allocated(sorted.sort_by(|a, b| by_rest(a, b, count)))?;
-    Ok(sorted)
-}
-
-// The order of two lines by what follows so many first bytes of their names.
-fn by_rest(a: &Numbered, b: &Numbered, count: usize) -> Ordering
-    ensures { result ≡ bytes_cmp (drop count a.now.listed.name) (drop count b.now.listed.name) }
-{
-    rest_of(a, count).cmp(rest_of(b, count))
-}
-
-// What follows so many first bytes of a name; nothing, where it has no more.
-fn rest_of(line: &Numbered, count: usize) -> &[u8]
-    ensures { result.now ≡ drop count line.now.listed.name }
-{
-    line.listed.name.bytes().get(count..).unwrap_or(&[])
 }
 
 // Each name once, and the first line that conflicts. What a name has is what its first line says: the last name so far is

@@ -4,7 +4,8 @@ ghost use Rattle.ext_sums.specs.Merging.{numbered_entry};
 ghost use Rattle.ext_sums.specs.Reading.{AreRead};
 
 use crate::entry::entry_of;
-use crate::merging::{Numbered, merged, sorted};
+use crate::merging::{Numbered, merged};
+use crate::sorting::sorted;
 use crate::sums::{Listed, Sums};
 use ext_lines::{allocated, next_text_line};
 use ext_text::{Digest, OutOfMemory, Text};
@@ -93,6 +94,7 @@ fn numbered(alloc: Global, line: u64, name: &[u8], digest: Digest) -> Result<Num
 {
     let name = Text::from_bytes(alloc, name)?;
     Ok(Numbered {
+        key: 0,
         listed: Listed { name, digest },
         line,
     })
