@@ -2,7 +2,7 @@
 use Rattle.std.specs.Prelude.{◌≡◌, ℕ, nat_le, List, length, if◌then◌else◌, Option, Some, None, IfSome, IsSome}
 use Rattle.ext_text.specs.Causes.{Rose}
 use Rattle.ext_io.specs.Pieces.{IsPieceAt}
-use Rattle.ext_depot.specs.Depot.{DepotState}
+use Rattle.ext_depot.specs.Depot.{DepotState, Files}
 use Rattle.ext_depot.specs.declared.depot_text.DepotText.{DepotText}
 use Rattle.ext_depot.specs.declared.depot_text.DepotText.TheVariants.{Absent, TooLong, Whole}
 use Rattle.ext_depot.specs.declared.depot_err.DepotErr.{DepotErr}
@@ -17,9 +17,13 @@ abbrev pub text_of : Option (List ℕ) → DepotText
 text_of None = Absent
 text_of (Some bytes) = if nat_le (length bytes) most_text then Whole bytes else TooLong
 
+-- what is found at a path of these files, where they are told
+abbrev pub IsTextIn : Option Files → List (List ℕ) → DepotText → Type 0
+IsTextIn files path found = IfSome files (λ has. found ≡ text_of (has path))
+
 -- what was found at the path, where the depot tells what it has there
 abbrev pub IsTextAt : DepotState → List (List ℕ) → DepotText → Type 0
-IsTextAt depot path found = IfSome depot.contents (λ files. found ≡ text_of (files path))
+IsTextAt depot path found = IsTextIn depot.contents path found
 
 -- why it was not read: the depot had a fault, or there was no memory
 abbrev pub ReadTextCause : ℕ → ℕ → DepotErr → Type 0

@@ -31,8 +31,8 @@ impl Measured for Held {
     }
 }
 
-// Whether it is a mask.
-pub(crate) fn is_mask<C: Measured>(entry: &Entry<C>) -> bool
+/// Whether it is a mask: an empty file, or a link whose text is `/dev/null`. Links are not followed.
+pub fn is_mask<C: Measured>(entry: &Entry<C>) -> bool
     ensures { result ≡ is_mask C.size entry.now }
 {
     match entry {

@@ -56,8 +56,8 @@ fn without_last(text: &[u8], count: usize) -> &[u8]
     &text[..text.len().saturating_sub(count)]
 }
 
-// Whether a name begins with a dot.
-pub(crate) fn is_hidden(name: &[u8]) -> bool
+/// Whether a name begins with a dot, and so is not looked at.
+pub fn is_hidden(name: &[u8]) -> bool
     ensures { result ≡ is_hidden name.now }
 {
     match name {

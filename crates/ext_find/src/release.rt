@@ -9,7 +9,7 @@ use ext_host::{Held, Shelf, ShelfErr};
 use ext_release::{Release, ReleaseErr, read_release};
 use ext_text::{OutOfMemory, PathRef};
 use ext_tree::{Entry, Tree};
-use ext_walk::end_of_text;
+use ext_walk::{end_of_path, end_of_text};
 use std::alloc::Global;
 use thiserror::Error;
 
@@ -127,6 +127,25 @@ fn content_of<'a, C>(
 {
     let _entries = base.pairs();
     match end_of_text(alloc, base, &PathRef::root(), text)? {
+        None => Ok(None),
+        Some(end) => Ok(content_at(base, &end)),
+    }
+}
+
+/// What is known of the bytes of the file to which the names lead from the base's root, once links are followed; `None`
+/// exactly where they lead to no file.
+///
+/// # Errors
+/// `OutOfMemory` alone.
+pub fn content_of_path<'a: 'b, 'b, C>(
+    alloc: Global,
+    base: &'a Tree<C>,
+    names: &PathRef<'b>,
+) -> Result<Option<&'a C>, OutOfMemory>
+    ensures { IfOk result (ContentAt base.now names.now) }
+{
+    let _entries = base.pairs();
+    match end_of_path(alloc, base, &PathRef::root(), names)? {
         None => Ok(None),
         Some(end) => Ok(content_at(base, &end)),
     }

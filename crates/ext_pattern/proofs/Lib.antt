@@ -5,4 +5,6 @@ pub mod FollowLemmas
 pub mod NameLemmas
 pub mod CaughtLemmas
 pub mod OnceLemmas
+pub mod FirstLemmas
 pub mod FaultLemmas
+pub mod ForCallers

@@ -5,6 +5,7 @@ pub mod Pattern
 pub mod Reading
 pub mod Faults
 pub mod Matching
+pub mod First
 pub mod Filling
 pub mod Following
 pub mod Laws

@@ -4,3 +4,4 @@ pub mod ExpandLemmas
 pub mod NumberLemmas
 pub mod BoundsLemmas
 pub mod LawsLemmas
+pub mod ForCallers

@@ -7,5 +7,7 @@ pub mod Numbers
 pub mod Versions
 pub mod Patterns
 pub mod Transfer
+pub mod Component
+pub mod Feature
 pub mod Bounds
 pub mod Laws

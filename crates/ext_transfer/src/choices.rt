@@ -20,7 +20,7 @@ pub(crate) enum SourceType {
 }
 
 // A boolean that is false.
-fn is_no(word: &[u8]) -> bool
+pub(crate) fn is_no(word: &[u8]) -> bool
     ensures { result ≡ is_no word.now }
 {
     word == b"no".as_slice()
@@ -32,7 +32,7 @@ fn is_no(word: &[u8]) -> bool
 }
 
 // A boolean that is true.
-fn is_yes(word: &[u8]) -> bool
+pub(crate) fn is_yes(word: &[u8]) -> bool
     ensures { result ≡ is_yes word.now }
 {
     word == b"yes".as_slice()
