@@ -1,0 +1,9 @@
+pub mod VersionLemmas
+pub mod OfferLemmas
+pub mod LeastLemmas
+pub mod CandidateLemmas
+pub mod LawsLemmas
+pub mod ReadingLemmas
+pub mod AvailableLemmas
+pub mod NameLemmas
+pub mod PatternLemmas

@@ -1,0 +1,6 @@
+pub mod ListLemmas
+pub mod ChoosingLemmas
+pub mod RoomLemmas
+pub mod VacuumLemmas
+pub mod LawsLemmas
+pub mod ForCallers

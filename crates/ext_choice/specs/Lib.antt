@@ -1,0 +1,5 @@
+pub mod Choice
+pub mod Room
+pub mod Vacuum
+pub mod Steps
+pub mod Laws

@@ -1,0 +1,11 @@
+pub mod ListLemmas
+pub mod OrderLemmas
+pub mod NameLemmas
+pub mod TransferLemmas
+pub mod ConfigLemmas
+pub mod FileLemmas
+pub mod FaultLemmas
+pub mod ReadingLemmas
+pub mod ChoiceLemmas
+pub mod StepLemmas
+pub mod LawsLemmas

@@ -1,0 +1,4 @@
+pub mod Instance
+pub mod Installed
+pub mod Resource
+pub mod Laws

@@ -1,0 +1,2 @@
+pub mod VersionsLemmas
+pub mod ForCallers
