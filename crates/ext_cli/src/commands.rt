@@ -10,7 +10,7 @@ pub(crate) struct Synopsis {
 }
 
 /// One of each command.
-pub(crate) static SYNOPSES: [Synopsis; 13] = [
+pub(crate) static SYNOPSES: [Synopsis; 14] = [
     Synopsis {
         word: "init",
         words: "init ARCH SCOPE [HIERS [HIERS]], where ARCH is x86, x86-64, arm, arm64, riscv64, s390x, ppc64-le or loongarch64, SCOPE is system or initrd, and HIERS are as /usr:/opt",
@@ -30,6 +30,10 @@ pub(crate) static SYNOPSES: [Synopsis; 13] = [
     Synopsis {
         word: "confext",
         words: "confext list, status, merge [--force], unmerge or refresh [--force]",
+    },
+    Synopsis {
+        word: "sysupdate",
+        words: "sysupdate [--component=NAME] list, check-new or features, or sysupdate components, where sysupdate.NAME.d is a name, and NAME doesn't begin with a dash",
     },
     Synopsis {
         word: "tree",

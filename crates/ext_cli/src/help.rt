@@ -26,6 +26,15 @@ commands:
   sysext refresh [--force]
                       merge anew, in one change
   confext ..          as sysext, with configuration extensions
+  sysupdate [--component=NAME] list
+                      write the versions that the host's transfers have
+                      installed or may take over from the depot
+  sysupdate [--component=NAME] check-new
+                      write the version that an update would install
+  sysupdate [--component=NAME] features
+                      write which features of transfers are on
+  sysupdate components
+                      write which components have transfers of their own
   tree [PATH]         write the tree text of what stands below the path
   cat PATH            write the bytes of a file; links are not followed
   check               compare each file of the store with its digest

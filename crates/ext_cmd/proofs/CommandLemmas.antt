@@ -1,16 +1,16 @@
 -- The printed commands and the grammars of their parts: what is printed is heard, and what may stand is the words of a command.
-use Rattle.std.proofs.Common.{◌≡◌, ◌≢◌, ℕ, Bool, true, false, List, [], ◌∷◌, refl, sym, ap, ◌∙◌, subst, codes, if◌then◌else◌}
+use Rattle.std.proofs.Common.{◌≡◌, ◌≢◌, ℕ, Bool, true, false, List, [], ◌∷◌, refl, sym, ap, ◌∙◌, subst, codes, if◌then◌else◌, inl, inr}
 use Rattle.std.specs.Prelude.{Option, Some, None, Result, Ok, Err}
 use Rattle.std.specs.Str.{bytes_eq}
 use Rattle.ext_cmd.specs.Fault.{BeginsWords}
-use Rattle.ext_cmd.specs.Grammar.{Any, Chooses, HasNoMore, IsForce, IsPathWord, Maybe, Takes, TakesChosen, TakesVerb}
+use Rattle.ext_cmd.specs.Grammar.{Any, Chooses, HasNoMore, IsForce, IsPathWord, Maybe, Takes, TakesChosen, TakesUpdate, TakesVerb}
 use Rattle.ext_cmd.specs.Keyword.{keyword_text, verb_text}
 use Rattle.ext_cmd.specs.Reading.{ReadsAfter, ReadsAfterVerb, ReadsPart, ReadsWords, RefusesWords}
 use Rattle.ext_cmd.specs.Words.{AreChosen, IsCommand, IsOptionalPath, IsWellFormed, chosen_words, command_words, force_words, optional_words, view_words}
 use Rattle.ext_cmd.specs.declared.command.Chosen.{Chosen}
 use Rattle.ext_cmd.specs.declared.command.Chosen.TheVariants as chosen
 use Rattle.ext_cmd.specs.declared.command.Command.{Command}
-use Rattle.ext_cmd.specs.declared.command.Command.TheVariants.{Init, ImportFs, Remove, Sysext, Confext, Tree, Cat, Compare, Check, Layer, Migrate, Batch, Sample}
+use Rattle.ext_cmd.specs.declared.command.Command.TheVariants.{Init, ImportFs, Remove, Sysext, Confext, Tree, Cat, Compare, Check, Layer, Migrate, Batch, Sample, Sysupdate, Components}
 use Rattle.ext_cmd.specs.declared.command.ViewCommand.{ViewCommand}
 use Rattle.ext_cmd.specs.declared.command.ViewCommand.TheVariants as views
 use Rattle.ext_cmd.specs.declared.keyword.Keyword.{Keyword}
@@ -57,6 +57,7 @@ keyword_of text =
     else if bytes_eq text (keyword_text keywords.Migrate) then Some keywords.Migrate
     else if bytes_eq text (keyword_text keywords.Batch) then Some keywords.Batch
     else if bytes_eq text (keyword_text keywords.Sample) then Some keywords.Sample
+    else if bytes_eq text (keyword_text keywords.Sysupdate) then Some keywords.Sysupdate
     else None
 
 keyword_back : (k : Keyword) → keyword_of (keyword_text k) ≡ Some k
@@ -73,6 +74,7 @@ keyword_back keywords.Layer = refl
 keyword_back keywords.Migrate = refl
 keyword_back keywords.Batch = refl
 keyword_back keywords.Sample = refl
+keyword_back keywords.Sysupdate = refl
 
 pub one_keyword : (k l : Keyword) → keyword_text k ≡ keyword_text l → k ≡ l
 one_keyword k l same =
@@ -130,6 +132,10 @@ heard Layer well = (keywords.Layer, refl, tt)
 heard Migrate well = (keywords.Migrate, refl, tt)
 heard Batch well = (keywords.Batch, refl, tt)
 heard (Sample images) well = (keywords.Sample, refl, (record { value = images; is = well; same = refl }, tt))
+heard (Sysupdate None verb) well = (keywords.Sysupdate, refl, inl (inl (record { value = verb; is = tt; same = refl }), tt))
+heard (Sysupdate (Some name) verb) well =
+    (keywords.Sysupdate, refl, inr (record { value = name; is = well; same = refl }, (record { value = verb; is = tt; same = refl }, tt)))
+heard Components well = (keywords.Sysupdate, refl, inl (inr refl, tt))
 
 -- the words that a verb takes are those of a view command
 record View (words : List (List ℕ)) : Type 0 where
@@ -166,6 +172,23 @@ chosen_said (word ∷ next ∷ []) takes =
     let others = takes.3.0 in
     record { hierarchies = chosen.Both takes.0 others.value; are = (takes.1, others.is.hierarchies, others.is.apart); same = cc (takes.2, others.same) }
 chosen_said (word ∷ next ∷ last ∷ more) takes = absurd takes.3.1
+
+update_said : (more : List (List ℕ)) → TakesUpdate more → IsCommand (codes "sysupdate" ∷ more)
+update_said [] (inl takes) = absurd takes
+update_said [] (inr takes) = absurd takes
+update_said (word ∷ []) (inl (inl verb, none)) =
+    record { command = Sysupdate None verb.value; well_formed = tt; same = ap (λ (w : List ℕ). codes "sysupdate" ∷ w ∷ []) verb.same }
+update_said (word ∷ []) (inl (inr same, none)) =
+    record { command = Components; well_formed = tt; same = ap (λ (w : List ℕ). codes "sysupdate" ∷ w ∷ []) same }
+update_said (word ∷ []) (inr takes) = absurd takes.1
+update_said (word ∷ next ∷ []) (inl takes) = absurd takes.1
+update_said (word ∷ next ∷ []) (inr takes) = record {
+  command = Sysupdate (Some takes.0.value) takes.1.0.value;
+  well_formed = takes.0.is;
+  same = cc (takes.0.same, takes.1.0.same);
+}
+update_said (word ∷ next ∷ last ∷ more) (inl takes) = absurd takes.1
+update_said (word ∷ next ∷ last ∷ more) (inr takes) = absurd takes.1.1
 
 pub said : (keyword : Keyword) (more : List (List ℕ)) → Takes keyword more → IsCommand (keyword_text keyword ∷ more)
 said keywords.Init [] takes = absurd takes
@@ -212,6 +235,7 @@ said keywords.Batch (word ∷ more) takes = absurd takes
 said keywords.Sample [] takes = absurd takes
 said keywords.Sample (word ∷ []) takes = record { command = Sample takes.0.value; well_formed = takes.0.is; same = ap (λ (w : List ℕ). codes "sample" ∷ w ∷ []) takes.0.same }
 said keywords.Sample (word ∷ next ∷ more) takes = absurd takes.1
+said keywords.Sysupdate more takes = update_said more takes
 
 pub command_heard : (words : List (List ℕ)) → IsCommand words → Chooses keyword_text Takes words
 command_heard words is = subst (Chooses keyword_text Takes) (sym is.same) (heard is.command is.well_formed)

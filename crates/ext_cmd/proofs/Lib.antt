@@ -8,4 +8,5 @@ pub mod ChosenLemmas
 pub mod OneFaultLemmas
 pub mod OneCommandLemmas
 pub mod LineLemmas
+pub mod UpdateLemmas
 pub mod ForCallers

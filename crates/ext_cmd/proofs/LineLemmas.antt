@@ -12,7 +12,7 @@ use Rattle.ext_cmd.specs.Words.{IsWellFormed, chosen_words, command_words, optio
 use Rattle.ext_cmd.specs.declared.command.Chosen.{Chosen}
 use Rattle.ext_cmd.specs.declared.command.Chosen.TheVariants as chosen
 use Rattle.ext_cmd.specs.declared.command.Command.{Command}
-use Rattle.ext_cmd.specs.declared.command.Command.TheVariants.{Init, ImportFs, Remove, Sysext, Confext, Tree, Cat, Compare, Check, Layer, Migrate, Batch, Sample}
+use Rattle.ext_cmd.specs.declared.command.Command.TheVariants.{Init, ImportFs, Remove, Sysext, Confext, Tree, Cat, Compare, Check, Layer, Migrate, Batch, Sample, Sysupdate, Components}
 use Rattle.ext_cmd.specs.declared.command.ViewCommand.{ViewCommand}
 use Rattle.ext_cmd.specs.declared.command.ViewCommand.TheVariants as views
 use Rattle.ext_cmd.specs.declared.keyword.Keyword.{Keyword}
@@ -43,6 +43,8 @@ keyword_of Layer = keywords.Layer
 keyword_of Migrate = keywords.Migrate
 keyword_of Batch = keywords.Batch
 keyword_of (Sample images) = keywords.Sample
+keyword_of (Sysupdate component verb) = keywords.Sysupdate
+keyword_of Components = keywords.Sysupdate
 
 -- a command may stand in a line where a line may begin with its keyword
 line_alike : (c : Command) → may_be_line c ≡ may_begin_line (keyword_of c)
@@ -59,6 +61,8 @@ line_alike Layer = refl
 line_alike Migrate = refl
 line_alike Batch = refl
 line_alike (Sample images) = refl
+line_alike (Sysupdate component verb) = refl
+line_alike Components = refl
 
 -- the first word of a command is the text of its keyword
 first_word : (c : Command) (word : List ℕ) (more : List (List ℕ)) → word ∷ more ≡ command_words c → word ≡ keyword_text (keyword_of c)
@@ -75,6 +79,8 @@ first_word Layer word more same = cc
 first_word Migrate word more same = cc
 first_word Batch word more same = cc
 first_word (Sample images) word more same = cc
+first_word (Sysupdate component verb) word more same = cc
+first_word Components word more same = cc
 
 -- the words of a command don't count for nothing
 not_nothing : (c : Command) → counts_for_nothing (command_words c) ≡ false
@@ -91,6 +97,8 @@ not_nothing Layer = refl
 not_nothing Migrate = refl
 not_nothing Batch = refl
 not_nothing (Sample images) = refl
+not_nothing (Sysupdate component verb) = refl
+not_nothing Components = refl
 
 few_view : (view : ViewCommand) → length (view_words view) ≤ 2
 few_view views.List = omega arith
@@ -125,6 +133,9 @@ few_words Layer = omega arith
 few_words Migrate = omega arith
 few_words Batch = omega arith
 few_words (Sample images) = omega arith
+few_words (Sysupdate None verb) = omega arith
+few_words (Sysupdate (Some name) verb) = omega arith
+few_words Components = omega arith
 
 -- and fewer after its keyword
 few_after : (keyword : Keyword) (words : List (List ℕ)) → Takes keyword words → length words < most_words

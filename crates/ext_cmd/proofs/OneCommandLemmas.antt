@@ -1,5 +1,5 @@
 -- Words are those of one command.
-use Rattle.std.proofs.Common.{◌≡◌, ℕ, true, false, List, [], ◌∷◌, refl, sym, ap, ◌∙◌, subst, arith, if◌then◌else◌, inl, inr}
+use Rattle.std.proofs.Common.{◌≡◌, ◌≢◌, ℕ, true, false, List, [], ◌∷◌, ◌++◌, codes, refl, sym, ap, ◌∙◌, subst, arith, if◌then◌else◌, inl, inr}
 use Rattle.std.specs.Prelude.{◌⊎◌, decimal, Option, Some, None, Result, Ok, Err}
 use Rattle.std.specs.Str.{bytes_eq}
 use Rattle.std.proofs.lemmas.Fmt.{decimal_injective}
@@ -12,14 +12,16 @@ use Rattle.ext_text.specs.Scope.{scope_name}
 use Rattle.ext_text.specs.declared.scope.Scope.{Scope}
 use Rattle.ext_text.specs.declared.scope.Scope.TheVariants as scopes
 use Rattle.ext_text.proofs.ForCallers.{path_injective}
-use Rattle.ext_cmd.specs.Keyword.{keyword_text}
+use Rattle.ext_cmd.specs.Keyword.{keyword_text, update_verb_text}
 use Rattle.ext_cmd.specs.Reading.{ReadsWords}
 use Rattle.ext_cmd.specs.Resource.{IsResource}
-use Rattle.ext_cmd.specs.Words.{AreChosen, IsBelowRoot, IsCommand, IsImages, IsOptionalPath, IsWellFormed, chosen_words, command_words, optional_words, path_words, view_words}
+use Rattle.ext_cmd.specs.Words.{AreChosen, IsBelowRoot, IsCommand, IsImages, IsOptionalPath, IsWellFormed, chosen_words, command_words, component_words, optional_words, path_words, update_words, view_words}
 use Rattle.ext_cmd.specs.declared.command.Chosen.{Chosen}
 use Rattle.ext_cmd.specs.declared.command.Chosen.TheVariants as chosen
 use Rattle.ext_cmd.specs.declared.command.Command.{Command}
-use Rattle.ext_cmd.specs.declared.command.Command.TheVariants.{Init, ImportFs, Remove, Sysext, Confext, Tree, Cat, Compare, Check, Layer, Migrate, Batch, Sample}
+use Rattle.ext_cmd.specs.declared.command.Command.TheVariants.{Init, ImportFs, Remove, Sysext, Confext, Tree, Cat, Compare, Check, Layer, Migrate, Batch, Sample, Sysupdate, Components}
+use Rattle.ext_cmd.specs.declared.command.UpdateVerb.{UpdateVerb}
+use Rattle.ext_cmd.specs.declared.command.UpdateVerb.TheVariants as updates
 use Rattle.ext_cmd.specs.declared.command.ViewCommand.{ViewCommand}
 use Rattle.ext_cmd.specs.declared.command.ViewCommand.TheVariants as views
 use Rattle.ext_cmd.specs.declared.keyword.Keyword.{Keyword}
@@ -127,6 +129,49 @@ one_view v w same =
     let read : Some v ≡ Some w = sym (view_back v) ∙ ap view_of same ∙ view_back w in
     cc
 
+abbrev update_verb_of : List ℕ → Option UpdateVerb
+update_verb_of text =
+    if bytes_eq text (update_verb_text updates.List) then Some updates.List
+    else if bytes_eq text (update_verb_text updates.CheckNew) then Some updates.CheckNew
+    else if bytes_eq text (update_verb_text updates.Features) then Some updates.Features
+    else None
+
+update_verb_back : (v : UpdateVerb) → update_verb_of (update_verb_text v) ≡ Some v
+update_verb_back updates.List = refl
+update_verb_back updates.CheckNew = refl
+update_verb_back updates.Features = refl
+
+one_update_verb : (v w : UpdateVerb) → update_verb_text v ≡ update_verb_text w → v ≡ w
+one_update_verb v w same =
+    let read : Some v ≡ Some w = sym (update_verb_back v) ∙ ap update_verb_of same ∙ update_verb_back w in
+    cc
+
+-- `components` is no verb
+no_verb_text : (v : UpdateVerb) → update_verb_text v ≢ codes "components"
+no_verb_text updates.List same = cc
+no_verb_text updates.CheckNew same = cc
+no_verb_text updates.Features same = cc
+
+-- the words of what is asked of updates
+record Asks (more : List (List ℕ)) (c : Command) : Type 0 where
+  pub component : Option (List ℕ)
+  pub verb : UpdateVerb
+  pub words : more ≡ component_words component ++ update_words verb
+  pub command : c ≡ Sysupdate component verb
+
+one_asked : (o p : Option (List ℕ)) (v w : UpdateVerb) → component_words o ++ update_words v ≡ component_words p ++ update_words w → Sysupdate o v ≡ Sysupdate p w
+one_asked None None v w same = ap (λ (x : UpdateVerb). Sysupdate None x) (one_update_verb v w (cc))
+one_asked None (Some n) v w same = cc
+one_asked (Some m) None v w same = cc
+one_asked (Some m) (Some n) v w same =
+    let name : m ≡ n = cc in
+    let verb : v ≡ w = one_update_verb v w (cc) in
+    cc
+
+not_components : (o : Option (List ℕ)) (v : UpdateVerb) → component_words o ++ update_words v ≢ codes "components" ∷ []
+not_components None v same = no_verb_text v (cc)
+not_components (Some name) v same = cc
+
 abbrev Gives : Keyword → List (List ℕ) → Command → Type 0
 Gives keywords.Init more c = (a : Arch) × (s : Scope) × (h : Chosen) × AreChosen h × (more ≡ arch_name a ∷ scope_name s ∷ chosen_words h) × (c ≡ Init a s h)
 Gives keywords.ImportFs more c = (r : List (List ℕ)) × (p : List (List ℕ)) × IsResource r × IsPath p × (more ≡ path_text r ∷ path_words p) × (c ≡ ImportFs r p)
@@ -141,6 +186,7 @@ Gives keywords.Layer more c = c ≡ Layer
 Gives keywords.Migrate more c = c ≡ Migrate
 Gives keywords.Batch more c = c ≡ Batch
 Gives keywords.Sample more c = (n : ℕ) × IsImages n × (more ≡ decimal n ∷ []) × (c ≡ Sample n)
+Gives keywords.Sysupdate more c = Asks more c ⊎ ((more ≡ codes "components" ∷ []) × (c ≡ Components))
 
 record Given (c : Command) (words : List (List ℕ)) : Type 0 where
   pub keyword : Keyword
@@ -161,6 +207,13 @@ given Check well = record { keyword = keywords.Check; more = []; same = refl; gi
 given Layer well = record { keyword = keywords.Layer; more = []; same = refl; gives = refl }
 given Migrate well = record { keyword = keywords.Migrate; more = []; same = refl; gives = refl }
 given Batch well = record { keyword = keywords.Batch; more = []; same = refl; gives = refl }
+given (Sysupdate o v) well = record {
+  keyword = keywords.Sysupdate;
+  more = component_words o ++ update_words v;
+  same = refl;
+  gives = inl (record { component = o; verb = v; words = refl; command = refl });
+}
+given Components well = record { keyword = keywords.Sysupdate; more = codes "components" ∷ []; same = refl; gives = inr (refl, refl) }
 given (Sample n) well = record { keyword = keywords.Sample; more = decimal n ∷ []; same = refl; gives = (n, well, refl, refl) }
 
 one_given : (k : Keyword) (more : List (List ℕ)) (c d : Command) → Gives k more c → Gives k more d → c ≡ d
@@ -191,6 +244,11 @@ one_given keywords.Check more c d c_is d_is = c_is ∙ sym d_is
 one_given keywords.Layer more c d c_is d_is = c_is ∙ sym d_is
 one_given keywords.Migrate more c d c_is d_is = c_is ∙ sym d_is
 one_given keywords.Batch more c d c_is d_is = c_is ∙ sym d_is
+one_given keywords.Sysupdate more c d (inl a) (inl b) =
+    a.command ∙ one_asked a.component b.component a.verb b.verb (sym a.words ∙ b.words) ∙ sym b.command
+one_given keywords.Sysupdate more c d (inl a) (inr (was, d_is)) = absurd (not_components a.component a.verb (sym a.words ∙ was))
+one_given keywords.Sysupdate more c d (inr (is, c_is)) (inl b) = absurd (not_components b.component b.verb (sym b.words ∙ is))
+one_given keywords.Sysupdate more c d (inr (is, c_is)) (inr (was, d_is)) = c_is ∙ sym d_is
 one_given keywords.Sample more c d (m, few, is, c_is) (n, also, was, d_is) =
     let words = sym is ∙ was in
     let same : m ≡ n = decimal_injective m n (omega (arith, few.1)) (omega (arith, also.1)) (cc) in

@@ -1,5 +1,5 @@
 -- The words after each keyword, part by part: which word may stand where. These grammars are those of the printed commands.
-use Rattle.std.specs.Prelude.{◌≡◌, ◌≢◌, ℕ, List, [], ◌∷◌, codes, decimal}
+use Rattle.std.specs.Prelude.{◌≡◌, ◌≢◌, ◌⊎◌, ℕ, List, [], ◌∷◌, codes, decimal}
 use Rattle.ext_text.specs.Absolute.{absolute}
 use Rattle.ext_text.specs.Arch.{arch_name}
 use Rattle.ext_text.specs.Path.{IsPath, path_text}
@@ -8,12 +8,12 @@ use Rattle.ext_text.specs.declared.extension.Extension.TheVariants as extensions
 use Rattle.ext_text.specs.declared.scope.Scope.{Scope}
 use Rattle.ext_text.specs.declared.scope.Scope.TheVariants.{Portable}
 use Rattle.ext_host.specs.Host.{default_hierarchies}
-use Rattle.ext_cmd.specs.Keyword.{verb_text}
+use Rattle.ext_cmd.specs.Keyword.{update_verb_text, verb_text}
 use Rattle.ext_cmd.specs.Resource.{IsResource}
-use Rattle.ext_cmd.specs.Words.{AreDisjoint, IsBelowRoot, IsHierarchyList, IsImages, hierarchies_word}
+use Rattle.ext_cmd.specs.Words.{AreDisjoint, IsBelowRoot, IsHierarchyList, IsImages, IsPlainComponent, component_word, hierarchies_word}
 use Rattle.ext_cmd.specs.declared.keyword.Keyword.{Keyword}
 use Rattle.ext_cmd.specs.declared.keyword.Keyword.TheVariants.{Init, ImportFs, Remove, Sysext, Confext}
-use Rattle.ext_cmd.specs.declared.keyword.Keyword.TheVariants.{Tree, Cat, Compare, Check, Layer, Migrate, Batch, Sample}
+use Rattle.ext_cmd.specs.declared.keyword.Keyword.TheVariants.{Tree, Cat, Compare, Check, Layer, Migrate, Batch, Sample, Sysupdate}
 use Rattle.ext_cmd.specs.declared.keyword.Verb.{Verb}
 use Rattle.ext_cmd.specs.declared.keyword.Verb.TheVariants as verbs
 
@@ -54,6 +54,18 @@ IsBelowRootWord = Spells absolute IsBelowRoot
 -- how many images a sample has
 abbrev pub IsImagesWord : List ℕ → Type 0
 IsImagesWord = Spells decimal IsImages
+
+-- what is asked of updates
+abbrev pub IsUpdateVerb : List ℕ → Type 0
+IsUpdateVerb = Spells update_verb_text Any
+
+-- what is asked where no component is chosen: so, or which components there are
+abbrev pub IsUpdateWord : List ℕ → Type 0
+IsUpdateWord word = IsUpdateVerb word ⊎ (word ≡ codes "components")
+
+-- the option of a component
+abbrev pub IsComponentWord : List ℕ → Type 0
+IsComponentWord = Spells component_word IsPlainComponent
 
 -- no word more
 abbrev pub HasNoMore : List (List ℕ) → Type 0
@@ -102,6 +114,10 @@ TakesVerb verbs.Merge = Maybe IsForce HasNoMore
 TakesVerb verbs.Unmerge = HasNoMore
 TakesVerb verbs.Refresh = Maybe IsForce HasNoMore
 
+-- what is asked of updates: of those of no component, or of those of one
+abbrev pub TakesUpdate : List (List ℕ) → Type 0
+TakesUpdate words = Then IsUpdateWord HasNoMore words ⊎ Then IsComponentWord (Then IsUpdateVerb HasNoMore) words
+
 -- the words after a keyword
 abbrev pub Takes : Keyword → List (List ℕ) → Type 0
 Takes Init = Then IsArchWord (Then IsScopeWord TakesChosen)
@@ -117,3 +133,4 @@ Takes Layer = HasNoMore
 Takes Migrate = HasNoMore
 Takes Batch = HasNoMore
 Takes Sample = Then IsImagesWord HasNoMore
+Takes Sysupdate = TakesUpdate

@@ -1,9 +1,11 @@
 -- The words that say which command is meant. They are this project's own; the verbs of views are those of
--- systemd-sysext(8).
+-- systemd-sysext(8), what is asked of updates is asked by the verbs of systemd-sysupdate(8).
 use Rattle.std.specs.Prelude.{◌≡◌, ◌≢◌, ℕ, List, codes, Option, Some, None}
+use Rattle.ext_cmd.specs.declared.command.UpdateVerb.{UpdateVerb}
+use Rattle.ext_cmd.specs.declared.command.UpdateVerb.TheVariants as updates
 use Rattle.ext_cmd.specs.declared.keyword.Keyword.{Keyword}
 use Rattle.ext_cmd.specs.declared.keyword.Keyword.TheVariants.{Init, ImportFs, Remove, Sysext, Confext}
-use Rattle.ext_cmd.specs.declared.keyword.Keyword.TheVariants.{Tree, Cat, Compare, Check, Layer, Migrate, Batch, Sample}
+use Rattle.ext_cmd.specs.declared.keyword.Keyword.TheVariants.{Tree, Cat, Compare, Check, Layer, Migrate, Batch, Sample, Sysupdate}
 use Rattle.ext_cmd.specs.declared.keyword.Verb.{Verb}
 use Rattle.ext_cmd.specs.declared.keyword.Verb.TheVariants as verbs
 
@@ -22,6 +24,7 @@ keyword_text Layer = codes "layer"
 keyword_text Migrate = codes "migrate"
 keyword_text Batch = codes "batch"
 keyword_text Sample = codes "sample"
+keyword_text Sysupdate = codes "sysupdate"
 
 -- what reading a text gives: the keyword of this text, or that it is none
 abbrev pub ReadsKeyword : List ℕ → Option Keyword → Type 0
@@ -40,3 +43,9 @@ verb_text verbs.Refresh = codes "refresh"
 abbrev pub ReadsVerb : List ℕ → Option Verb → Type 0
 ReadsVerb text (Some verb) = text ≡ verb_text verb
 ReadsVerb text None = (verb : Verb) → text ≢ verb_text verb
+
+-- the word by which something is asked of updates
+abbrev pub update_verb_text : UpdateVerb → List ℕ
+update_verb_text updates.List = codes "list"
+update_verb_text updates.CheckNew = codes "check-new"
+update_verb_text updates.Features = codes "features"

@@ -1,11 +1,11 @@
 -- What reading words gives: a command, or the place of the first fault.
-use Rattle.std.specs.Prelude.{◌≡◌, ℕ, ◌<◌, Bool, not, ◌&&◌, nat_eq, nat_lt, List, [], ◌∷◌, ◌++◌, length, Result, Ok, Err}
+use Rattle.std.specs.Prelude.{◌≡◌, ℕ, ◌<◌, Bool, not, ◌&&◌, nat_eq, nat_lt, List, [], ◌∷◌, ◌++◌, length, codes, Result, Ok, Err}
 use Rattle.std.specs.Cmp.Lexicographic.{pointwise}
 use Rattle.std.specs.List.{list_all, list_any}
 use Rattle.ext_text.specs.declared.path.PathErr.{PathErr}
 use Rattle.ext_text.specs.declared.path.PathErr.TheVariants as paths
 use Rattle.ext_cmd.specs.Fault.{IsFault}
-use Rattle.ext_cmd.specs.Grammar.{Spells, Takes, TakesOthers, TakesVerb}
+use Rattle.ext_cmd.specs.Grammar.{IsUpdateWord, Spells, Takes, TakesOthers, TakesVerb}
 use Rattle.ext_cmd.specs.Keyword.{keyword_text, verb_text}
 use Rattle.ext_cmd.specs.Words.{AreChosen, IsHierarchy, IsNone, IsUsage, IsWellFormed}
 use Rattle.ext_cmd.specs.Words.{chosen_words, command_words, hierarchies_word, slashed, view_words}
@@ -64,6 +64,11 @@ ReadsAfter keyword words result = ReadsRest (keyword_text keyword ∷ []) (Takes
 abbrev pub ReadsAfterVerb : Verb → List (List ℕ) → Result ViewCommand CmdErr → Type 0
 ReadsAfterVerb verb words (Ok view) = verb_text verb ∷ words ≡ view_words view
 ReadsAfterVerb verb words (Err e) = RefusesWords (TakesVerb verb) words 3 e
+
+-- a command of the one word after `sysupdate`
+abbrev pub ReadsAsked : List ℕ → Result Command CmdErr → Type 0
+ReadsAsked word (Ok command) = IsWellFormed command × (codes "sysupdate" ∷ word ∷ [] ≡ command_words command)
+ReadsAsked word (Err e) = RefusesWord IsUpdateWord word 2 e
 
 -- no word, whatever the value
 abbrev pub no_words : {A : Type 0} → A → List (List ℕ)

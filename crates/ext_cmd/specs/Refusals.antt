@@ -7,10 +7,15 @@ use Rattle.ext_text.specs.Path.{path_text}
 use Rattle.ext_text.specs.declared.which.Which.{Which}
 use Rattle.ext_text.specs.declared.which.Which.TheVariants as limits
 use Rattle.ext_tree.specs.declared.stamp.Stamp.{Stamp}
+use Rattle.ext_transfer.specs.declared.err.TransferFault.{TransferFault}
+use Rattle.ext_transfer.specs.declared.err.TransferFault.TheVariants as transfers
+use Rattle.ext_transfer.specs.declared.feature.FeatureFault.{FeatureFault}
+use Rattle.ext_transfer.specs.declared.feature.FeatureFault.TheVariants as features
 use Rattle.ext_cmd.specs.Replies.{lined}
 use Rattle.ext_cmd.specs.declared.refusal.Refusal.{Refusal}
 use Rattle.ext_cmd.specs.declared.refusal.Refusal.TheVariants.{NoStore, StoreExists, Merged, ReadOnly, NoHostRelease, BadHostRelease, Limit}
 use Rattle.ext_cmd.specs.declared.refusal.Refusal.TheVariants.{NoEntry, NotDirectory, NotFile, BadTree, NotInDepot, Mismatch}
+use Rattle.ext_cmd.specs.declared.refusal.Refusal.TheVariants.{NoTransfers, BadTransfer, BadManifest, NoneNewer, BadFeature, NoneOn}
 
 -- the number of a refusal
 abbrev pub refusal_number : Refusal → ℕ
@@ -24,9 +29,15 @@ refusal_number (Limit which) = 7
 refusal_number (NoEntry path) = 8
 refusal_number (NotDirectory path) = 9
 refusal_number (NotFile path) = 10
+refusal_number NoTransfers = 20
+refusal_number (BadTransfer line why file) = 21
+refusal_number (BadManifest line path) = 22
 refusal_number (BadTree line path) = 23
 refusal_number (NotInDepot path) = 24
 refusal_number (Mismatch path listed found) = 25
+refusal_number NoneNewer = 26
+refusal_number (BadFeature line why file) = 32
+refusal_number NoneOn = 33
 
 -- the word of a limit
 abbrev pub which_word : Which → List ℕ
@@ -47,6 +58,33 @@ place_word (Some path) = path_text path
 abbrev pub stamp_words : Stamp → List ℕ
 stamp_words stamp = decimal stamp.size ++ codes " " ++ encode_lower stamp.digest.0
 
+-- the word of what is wrong with a transfer file
+abbrev pub transfer_fault_word : TransferFault → List ℕ
+transfer_fault_word transfers.Syntax = codes "syntax"
+transfer_fault_word transfers.Specifier = codes "specifier"
+transfer_fault_word transfers.Verify = codes "verify"
+transfer_fault_word transfers.SourceType = codes "source-type"
+transfer_fault_word transfers.SourcePath = codes "source-path"
+transfer_fault_word transfers.SourcePattern = codes "source-pattern"
+transfer_fault_word transfers.TargetType = codes "target-type"
+transfer_fault_word transfers.TargetPath = codes "target-path"
+transfer_fault_word transfers.TargetPattern = codes "target-pattern"
+transfer_fault_word transfers.Mode = codes "mode"
+transfer_fault_word transfers.Instances = codes "instances"
+transfer_fault_word transfers.Link = codes "link"
+transfer_fault_word transfers.Relative = codes "relative"
+transfer_fault_word transfers.MinVersion = codes "min-version"
+transfer_fault_word transfers.ProtectVersion = codes "protect-version"
+
+-- and of what is wrong with a feature file
+abbrev pub feature_fault_word : FeatureFault → List ℕ
+feature_fault_word features.Syntax = codes "syntax"
+feature_fault_word features.Enabled = codes "enabled"
+
+-- the line of the first fault of a file, what is wrong there, and the name of the file
+abbrev pub file_fault_words : ℕ → List ℕ → List ℕ → List ℕ
+file_fault_words line why file = decimal line ++ codes " " ++ why ++ codes " " ++ file
+
 -- the word and the details of a refusal
 abbrev pub refusal_details : Refusal → List ℕ
 refusal_details NoStore = codes "no-store"
@@ -59,10 +97,16 @@ refusal_details (Limit which) = codes "limit " ++ which_word which
 refusal_details (NoEntry path) = codes "no-entry " ++ absolute path
 refusal_details (NotDirectory path) = codes "not-directory " ++ absolute path
 refusal_details (NotFile path) = codes "not-file " ++ absolute path
+refusal_details NoTransfers = codes "no-transfers"
+refusal_details (BadTransfer line why file) = codes "bad-transfer " ++ file_fault_words line (transfer_fault_word why) file
+refusal_details (BadManifest line path) = codes "bad-manifest " ++ decimal line ++ codes " " ++ path_text path
 refusal_details (BadTree line path) = codes "bad-tree " ++ decimal line ++ codes " " ++ place_word path
 refusal_details (NotInDepot path) = codes "not-in-depot " ++ path_text path
 refusal_details (Mismatch path listed found) =
     codes "mismatch " ++ path_text path ++ codes " " ++ stamp_words listed ++ codes " " ++ stamp_words found
+refusal_details NoneNewer = codes "none-newer"
+refusal_details (BadFeature line why file) = codes "bad-feature " ++ file_fault_words line (feature_fault_word why) file
+refusal_details NoneOn = codes "none-on"
 
 -- the line of a refusal, with its newline
 abbrev pub refusal_line : Refusal → List ℕ

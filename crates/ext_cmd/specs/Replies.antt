@@ -1,6 +1,6 @@
 -- The replies of commands that are done. Each line ends in a newline; paths of the host stand after a `/`. The words are
 -- this project's own.
-use Rattle.std.specs.Prelude.{ℕ, List, ◌++◌, length, codes, decimal}
+use Rattle.std.specs.Prelude.{ℕ, Bool, true, false, List, [], ◌++◌, length, codes, decimal}
 use Rattle.std.specs.List.{flat_map}
 use Rattle.std.specs.declared.cmp.Ordering.{Ordering}
 use Rattle.std.specs.declared.cmp.Ordering.TheVariants as orders
@@ -8,14 +8,19 @@ use Rattle.hex.specs.Hex.{encode_lower}
 use Rattle.ext_text.specs.Absolute.{absolute}
 use Rattle.ext_text.specs.declared.digest.Digest.{Digest}
 use Rattle.ext_match.specs.declared.verdict.Verdict.{Verdict}
-use Rattle.ext_match.specs.declared.verdict.Verdict.TheVariants.{Fits, Scope, Architecture, NoId, Id, Level, Version}
+use Rattle.ext_match.specs.declared.verdict.Verdict.TheVariants as verdicts
 use Rattle.ext_find.specs.declared.found.BreakWhy.{BreakWhy}
 use Rattle.ext_find.specs.declared.found.BreakWhy.TheVariants.{NotDirectory, HasOsRelease, NoRelease}
 use Rattle.ext_cmd.specs.declared.answer.Answer.{Answer}
 use Rattle.ext_cmd.specs.declared.answer.Answer.TheVariants.{Done, Unchanged, Merged, Unmerged, Found, Tree, Order, Checked, Sample}
+use Rattle.ext_cmd.specs.declared.answer.Answer.TheVariants.{Versions, Version, Features, Components}
+use Rattle.ext_cmd.specs.declared.answer.FeatureItem.{FeatureItem}
 use Rattle.ext_cmd.specs.declared.answer.Item.{Item}
 use Rattle.ext_cmd.specs.declared.answer.ItemKind.{ItemKind}
 use Rattle.ext_cmd.specs.declared.answer.ItemKind.TheVariants.{Image, Masked, Raw, Broken, BadRelease}
+use Rattle.ext_cmd.specs.declared.answer.Presence.{Presence}
+use Rattle.ext_cmd.specs.declared.answer.Presence.TheVariants.{Absent, Partial, Installed}
+use Rattle.ext_cmd.specs.declared.answer.VersionItem.{VersionItem}
 
 -- a line and its newline
 abbrev pub lined : List ℕ → List ℕ
@@ -23,13 +28,13 @@ lined line = line ++ codes "\n"
 
 -- the word of a verdict
 abbrev pub verdict_word : Verdict → List ℕ
-verdict_word Fits = codes "fits"
-verdict_word Scope = codes "scope"
-verdict_word Architecture = codes "architecture"
-verdict_word NoId = codes "no-id"
-verdict_word Id = codes "id"
-verdict_word Level = codes "level"
-verdict_word Version = codes "version"
+verdict_word verdicts.Fits = codes "fits"
+verdict_word verdicts.Scope = codes "scope"
+verdict_word verdicts.Architecture = codes "architecture"
+verdict_word verdicts.NoId = codes "no-id"
+verdict_word verdicts.Id = codes "id"
+verdict_word verdicts.Level = codes "level"
+verdict_word verdicts.Version = codes "version"
 
 -- and of why an image can't be used
 abbrev pub why_word : BreakWhy → List ℕ
@@ -49,6 +54,10 @@ kind_words place (BadRelease line) = codes "broken " ++ absolute place ++ codes 
 abbrev pub item_line : Item → List ℕ
 item_line item = lined (item.name ++ codes " " ++ kind_words item.place item.kind)
 
+-- how many names, after some words, and each name on a line of its own
+abbrev pub names_text : List ℕ → List (List ℕ) → List ℕ
+names_text words names = lined (words ++ decimal (length names)) ++ flat_map lined names
+
 -- the word of an order
 abbrev pub order_word : Ordering → List ℕ
 order_word orders.Less = codes "less"
@@ -61,14 +70,44 @@ sample_text entries files bytes digest =
     lined (codes "entries " ++ decimal entries) ++ lined (codes "files " ++ decimal files) ++ lined (codes "bytes " ++ decimal bytes)
     ++ lined (codes "sha256 " ++ encode_lower digest.0)
 
+-- a flag after a space, where it is set
+abbrev pub flag_word : Bool → List ℕ → List ℕ
+flag_word false word = []
+flag_word true word = codes " " ++ word
+
+-- which of the targets have a version, after a space; nothing where none has it
+abbrev pub presence_word : Presence → List ℕ
+presence_word Absent = []
+presence_word Partial = codes " partial"
+presence_word Installed = codes " installed"
+
+-- the line of a version, with its flags
+abbrev pub version_line : VersionItem → List ℕ
+version_line item =
+    lined (item.version ++ flag_word item.available (codes "available") ++ presence_word item.presence
+    ++ flag_word item.protected (codes "protected") ++ flag_word item.obsolete (codes "obsolete"))
+
+-- whether a feature is on, after a space
+abbrev pub feature_word : Bool → List ℕ
+feature_word false = codes " off"
+feature_word true = codes " on"
+
+-- the line of a feature
+abbrev pub feature_line : FeatureItem → List ℕ
+feature_line item = lined (item.name ++ feature_word item.on)
+
 -- the text of an answer
 abbrev pub answer_text : Answer → List ℕ
 answer_text Done = lined (codes "done")
 answer_text Unchanged = lined (codes "unchanged")
-answer_text (Merged names) = lined (codes "merged " ++ decimal (length names)) ++ flat_map lined names
+answer_text (Merged names) = names_text (codes "merged ") names
 answer_text Unmerged = lined (codes "unmerged")
 answer_text (Found items) = flat_map item_line items
 answer_text (Tree text) = text
 answer_text (Order order) = lined (order_word order)
 answer_text (Checked files bytes) = lined (codes "ok " ++ decimal files ++ codes " " ++ decimal bytes)
 answer_text (Sample entries files bytes digest) = sample_text entries files bytes digest
+answer_text (Versions items) = flat_map version_line items
+answer_text (Version version) = lined version
+answer_text (Features items) = flat_map feature_line items
+answer_text (Components names) = names_text (codes "components ") names

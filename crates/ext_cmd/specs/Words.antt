@@ -1,5 +1,5 @@
 -- The words of commands: what the words of each command are, and which commands there are. The grammar is this project's
--- own; the verbs of views are those of systemd-sysext(8).
+-- own; the verbs of views are those of systemd-sysext(8), those of updates are those of systemd-sysupdate(8).
 --
 --     init ARCH SCOPE [HIERS [HIERS]]
 --     import-fs RES ABS
@@ -14,11 +14,14 @@
 --     migrate
 --     batch
 --     sample N
+--     sysupdate [--component=NAME] list | check-new | features
+--     sysupdate components
 --
 -- ABS is a path after a `/`, ABS1 one other than the root; RES is a resource; TEXT is any word. SCOPE is `system` or
 -- `initrd`. HIERS is 1 to 16 names with a `/` before each and a `:` between each two. N is 1 to 500, in decimal digits
--- without a leading zero.
-use Rattle.std.specs.Prelude.{◌≡◌, ◌≢◌, ℕ, ◌<◌, ◌≤◌, Bool, true, false, List, [], ◌∷◌, length, map, codes, decimal, Option, Some, None}
+-- without a leading zero. NAME is the name of a component, and doesn't begin with `-`.
+use Rattle.std.specs.Prelude.{◌≡◌, ◌≢◌, ℕ, ◌<◌, ◌≤◌, Bool, true, false, List, [], ◌∷◌, ◌++◌, length, map, codes, decimal}
+use Rattle.std.specs.Prelude.{Option, Some, None}
 use Rattle.std.specs.List.{AllByRecursion, join_with_byte}
 use Rattle.ext_lines.specs.Split.{Lacks}
 use Rattle.ext_text.specs.Absolute.{absolute}
@@ -29,11 +32,15 @@ use Rattle.ext_text.specs.Scope.{scope_name}
 use Rattle.ext_text.specs.declared.extension.Extension.TheVariants as extensions
 use Rattle.ext_text.specs.declared.scope.Scope.TheVariants.{Portable}
 use Rattle.ext_host.specs.Host.{default_hierarchies}
+use Rattle.ext_transfer.specs.Component.{IsComponent}
 use Rattle.ext_cmd.specs.Fault.{IsFault}
+use Rattle.ext_cmd.specs.Keyword.{update_verb_text}
 use Rattle.ext_cmd.specs.Resource.{IsResource}
 use Rattle.ext_cmd.specs.declared.command.Command.{Command}
 use Rattle.ext_cmd.specs.declared.command.Command.TheVariants.{Init, ImportFs, Remove, Sysext, Confext}
 use Rattle.ext_cmd.specs.declared.command.Command.TheVariants.{Tree, Cat, Compare, Check, Layer, Migrate, Batch, Sample}
+use Rattle.ext_cmd.specs.declared.command.Command.TheVariants.{Sysupdate, Components}
+use Rattle.ext_cmd.specs.declared.command.UpdateVerb.{UpdateVerb}
 use Rattle.ext_cmd.specs.declared.command.ViewCommand.{ViewCommand}
 use Rattle.ext_cmd.specs.declared.command.ViewCommand.TheVariants as views
 use Rattle.ext_cmd.specs.declared.command.Chosen.{Chosen}
@@ -56,6 +63,11 @@ pub record IsBelowRoot (path : List (List ℕ)) : Type 0 where
 pub record IsPlainName (name : List ℕ) : Type 0 where
   pub name_is : IsName name
   pub no_dash : (rest : List ℕ) → name ≢ 45 ∷ rest
+
+-- the name of a component that isn't taken for an option
+pub record IsPlainComponent (name : List ℕ) : Type 0 where
+  pub plain : IsPlainName name
+  pub component : IsComponent name
 
 -- a name that stands in a list of hierarchies
 pub record IsHierarchy (name : List ℕ) : Type 0 where
@@ -116,6 +128,19 @@ abbrev pub optional_words : Option (List (List ℕ)) → List (List ℕ)
 optional_words None = []
 optional_words (Some path) = path_words path
 
+-- the option of a component
+abbrev pub component_word : List ℕ → List ℕ
+component_word name = codes "--component=" ++ name
+
+-- the option of a component, where one is chosen
+abbrev pub component_words : Option (List ℕ) → List (List ℕ)
+component_words None = []
+component_words (Some name) = component_word name ∷ []
+
+-- what is asked of updates, as one word
+abbrev pub update_words : UpdateVerb → List (List ℕ)
+update_words verb = update_verb_text verb ∷ []
+
 -- the words of a command
 abbrev pub command_words : Command → List (List ℕ)
 command_words (Init arch scope hierarchies) = codes "init" ∷ arch_name arch ∷ scope_name scope ∷ chosen_words hierarchies
@@ -131,11 +156,18 @@ command_words Layer = codes "layer" ∷ []
 command_words Migrate = codes "migrate" ∷ []
 command_words Batch = codes "batch" ∷ []
 command_words (Sample images) = codes "sample" ∷ decimal images ∷ []
+command_words (Sysupdate component verb) = codes "sysupdate" ∷ component_words component ++ update_words verb
+command_words Components = codes "sysupdate" ∷ codes "components" ∷ []
 
 -- no path, or one of the host
 abbrev pub IsOptionalPath : Option (List (List ℕ)) → Type 0
 IsOptionalPath None = Unit {0}
 IsOptionalPath (Some path) = IsPath path
+
+-- no component, or one that isn't taken for an option
+abbrev pub IsOptionalComponent : Option (List ℕ) → Type 0
+IsOptionalComponent None = Unit {0}
+IsOptionalComponent (Some name) = IsPlainComponent name
 
 -- the most images that a sample has
 abbrev pub most_sample_images : ℕ
@@ -160,6 +192,8 @@ IsWellFormed Layer = Unit {0}
 IsWellFormed Migrate = Unit {0}
 IsWellFormed Batch = Unit {0}
 IsWellFormed (Sample images) = IsImages images
+IsWellFormed (Sysupdate component verb) = IsOptionalComponent component
+IsWellFormed Components = Unit {0}
 
 -- the words are a command
 pub record IsCommand (words : List (List ℕ)) : Type 0 where

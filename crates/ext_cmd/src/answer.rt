@@ -2,6 +2,7 @@
 use ext_find::BreakWhy;
 use ext_match::Verdict;
 use ext_text::{Digest, ListOf, Name, Names, Path, Text};
+use ext_vers::Version;
 use std::cmp::Ordering;
 
 /// What a command that is done replies. The bytes of a file, which `cat` replies, are no answer: they are written as they
@@ -40,6 +41,14 @@ pub enum Answer {
         /// The digest of its text.
         digest: Digest,
     },
+    /// A line for each version: to `sysupdate list`.
+    Versions(VersionItems),
+    /// The version, on a line: to `sysupdate check-new`.
+    Version(Text),
+    /// A line for each feature: to `sysupdate features`.
+    Features(FeatureItems),
+    /// `components K`, and a line for each of the K names: to `sysupdate components`.
+    Components(Names),
 }
 
 /// An image or a mask that `list` finds.
@@ -73,3 +82,44 @@ pub enum ItemKind {
 
 /// A list of found items.
 pub type Items = ListOf<Item>;
+
+/// A version that `sysupdate list` tells: the version, and its flags in the order of the fields.
+#[derive(Debug, Drop)]
+pub struct VersionItem {
+    /// The version.
+    pub version: Version,
+    /// `available`: each source has it.
+    pub available: bool,
+    /// `installed` or `partial`: which of the targets have it.
+    pub presence: Presence,
+    /// `protected`: it is never removed.
+    pub protected: bool,
+    /// `obsolete`: it is less than the least version that may be taken over.
+    pub obsolete: bool,
+}
+
+/// Which of the targets of transfers have a version.
+#[derive(Clone, Copy, Debug, PartialEq, Eq)]
+pub enum Presence {
+    /// None has it.
+    Absent,
+    /// `partial`: some have it, and some don't.
+    Partial,
+    /// `installed`: each has it.
+    Installed,
+}
+
+/// A list of versions.
+pub type VersionItems = ListOf<VersionItem>;
+
+/// A feature that `sysupdate features` tells.
+#[derive(Debug, Drop)]
+pub struct FeatureItem {
+    /// Its name.
+    pub name: Name,
+    /// `on` or `off`: whether it is enabled.
+    pub on: bool,
+}
+
+/// A list of features.
+pub type FeatureItems = ListOf<FeatureItem>;

@@ -1,6 +1,7 @@
 // Commands.
 use crate::resource::Resource;
 use ext_text::{Arch, Names, Path, Scope, Text};
+use ext_transfer::Component;
 
 /// A command, as it was given: what its words leave out is left out here too.
 #[derive(Debug, Drop)]
@@ -55,6 +56,16 @@ pub enum Command {
         /// How many images it has: 1 to 500.
         images: u32,
     },
+    /// `sysupdate [--component=NAME] ..`: what is asked of the versions and the features of updates; systemd-sysupdate(8).
+    Sysupdate {
+        /// The component of which it is asked, whose name doesn't begin with `-`; none where it was left out, which means
+        /// what belongs to no component.
+        component: Option<Component>,
+        /// What is asked.
+        verb: UpdateVerb,
+    },
+    /// `sysupdate components`: the components that the host has.
+    Components,
 }
 
 /// What is done with the extensions of a class; systemd-sysext(8).
@@ -93,4 +104,15 @@ pub enum Chosen {
         /// The hierarchies of configuration extensions.
         confext: Names,
     },
+}
+
+/// What is asked of updates; systemd-sysupdate(8).
+#[derive(Clone, Copy, Debug, PartialEq, Eq)]
+pub enum UpdateVerb {
+    /// `list`: the versions that are installed or available.
+    List,
+    /// `check-new`: the version that an update would install.
+    CheckNew,
+    /// `features`: the features, and which of them are on.
+    Features,
 }

@@ -30,6 +30,8 @@ pub(crate) enum Keyword {
     Batch,
     /// `sample`.
     Sample,
+    /// `sysupdate`.
+    Sysupdate,
 }
 
 impl Keyword {
@@ -51,6 +53,7 @@ impl Keyword {
             b"migrate" => Some(Keyword::Migrate),
             b"batch" => Some(Keyword::Batch),
             b"sample" => Some(Keyword::Sample),
+            b"sysupdate" => Some(Keyword::Sysupdate),
             _ => None,
         }
     }

@@ -18,11 +18,14 @@ mod readers;
 mod refusal;
 mod replies;
 mod resource;
+mod updates;
 mod views;
 mod words;
 
-pub use answer::{Answer, Item, ItemKind, Items};
-pub use command::{Chosen, Command, ViewCommand};
+pub use answer::{
+    Answer, FeatureItem, FeatureItems, Item, ItemKind, Items, Presence, VersionItem, VersionItems,
+};
+pub use command::{Chosen, Command, UpdateVerb, ViewCommand};
 pub use line::read_line;
 pub use refusal::{Refusal, number, refusal_text};
 pub use replies::answer_text;

@@ -2,10 +2,12 @@ ghost use Rattle.std.specs.Prelude.{◌≡◌, ◌++◌, codes, decimal, IfOk, O
 ghost use Rattle.ext_text.specs.Absolute.{absolute};
 ghost use Rattle.ext_text.specs.Path.{path_text};
 ghost use Rattle.ext_cmd.specs.Refusals.{place_word, refusal_details, refusal_line, refusal_number, stamp_words, which_word};
+ghost use Rattle.ext_cmd.specs.Refusals.{feature_fault_word, file_fault_words, transfer_fault_word};
 
 use crate::appending::{append_numbered, append_stamp, append_words};
 use ext_lines::append_decimal;
-use ext_text::{OutOfMemory, Path, Text, Which};
+use ext_text::{Name, OutOfMemory, Path, Text, Which};
+use ext_transfer::{FeatureFault, TransferFault};
 use ext_tree::Stamp;
 use std::alloc::Global;
 
@@ -50,6 +52,24 @@ pub enum Refusal {
         /// The path.
         path: Path,
     },
+    /// No transfer file counts (number 20).
+    NoTransfers,
+    /// A transfer file is faulty (number 21).
+    BadTransfer {
+        /// The line of its first fault, counted from 1; 0 where a key is absent.
+        line: u64,
+        /// What is wrong.
+        why: TransferFault,
+        /// The name of the file.
+        file: Name,
+    },
+    /// A manifest in the depot is faulty (number 22).
+    BadManifest {
+        /// Its first faulty line, counted from 1.
+        line: u64,
+        /// Its path in the depot.
+        path: Path,
+    },
     /// A tree text is faulty (number 23).
     BadTree {
         /// The first faulty line, counted from 1.
@@ -71,6 +91,19 @@ pub enum Refusal {
         /// The stamp of the bytes that were read.
         found: Stamp,
     },
+    /// No available version is newer than each that is installed (number 26).
+    NoneNewer,
+    /// A feature file is faulty (number 32).
+    BadFeature {
+        /// The line of its first fault, counted from 1.
+        line: u64,
+        /// What is wrong.
+        why: FeatureFault,
+        /// The name of the file.
+        file: Name,
+    },
+    /// There are transfers, and none is on (number 33).
+    NoneOn,
 }
 
 /// The number of a refusal.
@@ -88,9 +121,15 @@ pub fn number(refusal: &Refusal) -> u32
         Refusal::NoEntry { .. } => 8,
         Refusal::NotDirectory { .. } => 9,
         Refusal::NotFile { .. } => 10,
+        Refusal::NoTransfers => 20,
+        Refusal::BadTransfer { .. } => 21,
+        Refusal::BadManifest { .. } => 22,
         Refusal::BadTree { .. } => 23,
         Refusal::NotInDepot { .. } => 24,
         Refusal::Mismatch { .. } => 25,
+        Refusal::NoneNewer => 26,
+        Refusal::BadFeature { .. } => 32,
+        Refusal::NoneOn => 33,
     }
 }
 
@@ -125,6 +164,13 @@ fn append_details(line: &mut Vec<u8>, refusal: &Refusal) -> Result<(), OutOfMemo
         Refusal::NoEntry { path } => append_at(line, "no-entry ", path),
         Refusal::NotDirectory { path } => append_at(line, "not-directory ", path),
         Refusal::NotFile { path } => append_at(line, "not-file ", path),
+        Refusal::NoTransfers => append_words(line, "no-transfers"),
+        Refusal::BadTransfer {
+            line: at,
+            why,
+            file,
+        } => append_fault(line, "bad-transfer ", *at, transfer_fault_word(*why), file),
+        Refusal::BadManifest { line: at, path } => append_line_of(line, "bad-manifest ", *at, path),
         Refusal::BadTree { line: at, path } => append_bad_tree(line, *at, path),
         Refusal::NotInDepot { path } => append_absent(line, path),
         Refusal::Mismatch {
@@ -132,6 +178,13 @@ fn append_details(line: &mut Vec<u8>, refusal: &Refusal) -> Result<(), OutOfMemo
             listed,
             found,
         } => append_mismatch(line, path, listed, found),
+        Refusal::NoneNewer => append_words(line, "none-newer"),
+        Refusal::BadFeature {
+            line: at,
+            why,
+            file,
+        } => append_fault(line, "bad-feature ", *at, feature_fault_word(*why), file),
+        Refusal::NoneOn => append_words(line, "none-on"),
     }
 }
 
@@ -164,6 +217,66 @@ fn which_word(which: Which) -> &'static str
         Which::Index => "index",
         Which::Generations => "generations",
     }
+}
+
+// Which line of which file is faulty, and what is wrong there.
+fn append_fault(
+    line: &mut Vec<u8>,
+    word: &str,
+    at: u64,
+    why: &str,
+    file: &Name,
+) -> Result<(), OutOfMemory>
+    ensures { OnOk result (line.new.items ≡ line.old.items ++ (word.now ++ file_fault_words at why.now file.now)) }
+{
+    append_numbered(line, word, at)?;
+    line.push(b' ')?;
+    append_words(line, why)?;
+    line.push(b' ')?;
+    line.extend_from_slice(file.bytes())?;
+    Ok(())
+}
+
+// The word of what is wrong with a transfer file.
+fn transfer_fault_word(why: TransferFault) -> &'static str
+    ensures { result.now ≡ transfer_fault_word why }
+{
+    match why {
+        TransferFault::Syntax => "syntax",
+        TransferFault::Specifier => "specifier",
+        TransferFault::Verify => "verify",
+        TransferFault::SourceType => "source-type",
+        TransferFault::SourcePath => "source-path",
+        TransferFault::SourcePattern => "source-pattern",
+        TransferFault::TargetType => "target-type",
+        TransferFault::TargetPath => "target-path",
+        TransferFault::TargetPattern => "target-pattern",
+        TransferFault::Mode => "mode",
+        TransferFault::Instances => "instances",
+        TransferFault::Link => "link",
+        TransferFault::Relative => "relative",
+        TransferFault::MinVersion => "min-version",
+        TransferFault::ProtectVersion => "protect-version",
+    }
+}
+
+// The word of what is wrong with a feature file.
+fn feature_fault_word(why: FeatureFault) -> &'static str
+    ensures { result.now ≡ feature_fault_word why }
+{
+    match why {
+        FeatureFault::Syntax => "syntax",
+        FeatureFault::Enabled => "enabled",
+    }
+}
+
+// A word, a line that is faulty, and the path of its file in the depot.
+fn append_line_of(line: &mut Vec<u8>, word: &str, at: u64, path: &Path) -> Result<(), OutOfMemory>
+    ensures { OnOk result (line.new.items ≡ line.old.items ++ (word.now ++ decimal at ++ codes " " ++ path_text path.now)) }
+{
+    append_numbered(line, word, at)?;
+    line.push(b' ')?;
+    path.append_to(line)
 }
 
 // Which line of which tree text is faulty.

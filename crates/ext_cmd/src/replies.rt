@@ -1,12 +1,13 @@
 // The texts of answers.
-ghost use Rattle.std.specs.Prelude.{◌≡◌, ◌++◌, codes, decimal, length, IfOk, OnOk};
+ghost use Rattle.std.specs.Prelude.{◌≡◌, ◌++◌, IfOk, OnOk};
 ghost use Rattle.std.specs.List.{flat_map};
 ghost use Rattle.ext_text.specs.Absolute.{absolute};
-ghost use Rattle.ext_cmd.specs.Replies.{answer_text, item_line, kind_words, lined, order_word, verdict_word, why_word};
+ghost use Rattle.ext_cmd.specs.Replies.{answer_text, item_line, kind_words, lined, names_text, order_word, verdict_word, why_word};
+ghost use Rattle.ext_cmd.specs.Replies.{feature_line, feature_word, flag_word, presence_word, version_line};
 ghost use Rattle.ext_cmd.specs.declared.answer.Answer.TheVariants.{Checked, Sample};
 ghost use Rattle.ext_cmd.specs.declared.answer.ItemKind.TheVariants.{BadRelease, Broken, Image};
 
-use crate::answer::{Answer, Item, ItemKind};
+use crate::answer::{Answer, FeatureItem, Item, ItemKind, Presence, VersionItem};
 use crate::appending::{
     append_digest, append_line, append_numbered, append_numbered_line, append_words,
 };
@@ -28,7 +29,7 @@ pub fn answer_text(alloc: Global, answer: Answer) -> Result<Text, OutOfMemory>
     match answer {
         Answer::Done => line_of(alloc, "done"),
         Answer::Unchanged => line_of(alloc, "unchanged"),
-        Answer::Merged(names) => merged_text(alloc, names.as_slice()),
+        Answer::Merged(names) => names_text(alloc, "merged ", names.as_slice()),
         Answer::Unmerged => line_of(alloc, "unmerged"),
         Answer::Found(items) => found_text(alloc, items.as_slice()),
         Answer::Tree(text) => Ok(text),
@@ -40,6 +41,10 @@ pub fn answer_text(alloc: Global, answer: Answer) -> Result<Text, OutOfMemory>
             bytes,
             digest,
         } => sample_text(alloc, entries, files, bytes, &digest),
+        Answer::Versions(items) => versions_text(alloc, items.as_slice()),
+        Answer::Version(version) => version_text(alloc, &version),
+        Answer::Features(items) => features_text(alloc, items.as_slice()),
+        Answer::Components(names) => names_text(alloc, "components ", names.as_slice()),
     }
 }
 
@@ -63,13 +68,12 @@ fn order_word(order: Ordering) -> &'static str
     }
 }
 
-// How many names, and each on a line of its own.
-fn merged_text(alloc: Global, names: &[Name]) -> Result<Text, OutOfMemory>
-    ensures { IfOk result (λ text. text ≡ lined (codes "merged " ++ decimal (length names.now)) ++ flat_map lined names.now) }
+// How many names, after some words, and each name on a line of its own.
+fn names_text(alloc: Global, words: &str, names: &[Name]) -> Result<Text, OutOfMemory>
+    ensures { IfOk result (λ text. text ≡ names_text words.now names.now) }
 {
-    let mut text = Vec::from_slice(alloc, b"merged ")?;
-    append_decimal(&mut text, names.len() as u64)?;
-    text.push(b'\n')?;
+    let mut text = Vec::new(alloc);
+    append_numbered_line(&mut text, words, names.len() as u64)?;
     append_names(&mut text, names)?;
     Ok(Text::from_vec(text))
 }
@@ -208,4 +212,87 @@ fn sample_text(
     append_numbered_line(&mut text, "bytes ", bytes)?;
     append_digest(&mut text, "sha256 ", digest)?;
     Ok(Text::from_vec(text))
+}
+
+// A line for each version.
+fn versions_text(alloc: Global, items: &[VersionItem]) -> Result<Text, OutOfMemory>
+    ensures { IfOk result (λ text. text ≡ flat_map version_line items.now) }
+{
+    let mut text = Vec::new(alloc);
+    'items: for item in items {
+        append_version(&mut text, item)?;
+    }
+    Ok(Text::from_vec(text))
+}
+
+// The line of a version, with its flags.
+fn append_version(text: &mut Vec<u8>, item: &VersionItem) -> Result<(), OutOfMemory>
+    ensures { OnOk result (text.new.items ≡ text.old.items ++ version_line item.now) }
+{
+    text.extend_from_slice(item.version.bytes())?;
+    append_flag(text, item.available, "available")?;
+    append_words(text, presence_word(item.presence))?;
+    append_flag(text, item.protected, "protected")?;
+    append_flag(text, item.obsolete, "obsolete")?;
+    text.push(b'\n')?;
+    Ok(())
+}
+
+// A flag after a space, where it is set.
+fn append_flag(text: &mut Vec<u8>, set: bool, word: &str) -> Result<(), OutOfMemory>
+    ensures { OnOk result (text.new.items ≡ text.old.items ++ flag_word set word.now) }
+{
+    if set {
+        text.push(b' ')?;
+        append_words(text, word)?;
+    }
+    Ok(())
+}
+
+// Which of the targets have a version, after a space.
+fn presence_word(presence: Presence) -> &'static str
+    ensures { result.now ≡ presence_word presence }
+{
+    match presence {
+        Presence::Absent => "",
+        Presence::Partial => " partial",
+        Presence::Installed => " installed",
+    }
+}
+
+// A version, on a line.
+fn version_text(alloc: Global, version: &Text) -> Result<Text, OutOfMemory>
+    ensures { IfOk result (λ text. text ≡ lined version.now) }
+{
+    let mut text = Vec::new(alloc);
+    append_line(&mut text, version.bytes())?;
+    Ok(Text::from_vec(text))
+}
+
+// A line for each feature.
+fn features_text(alloc: Global, items: &[FeatureItem]) -> Result<Text, OutOfMemory>
+    ensures { IfOk result (λ text. text ≡ flat_map feature_line items.now) }
+{
+    let mut text = Vec::new(alloc);
+    'items: for item in items {
+        append_feature(&mut text, item)?;
+    }
+    Ok(Text::from_vec(text))
+}
+
+// The line of a feature.
+fn append_feature(text: &mut Vec<u8>, item: &FeatureItem) -> Result<(), OutOfMemory>
+    ensures { OnOk result (text.new.items ≡ text.old.items ++ feature_line item.now) }
+{
+    text.extend_from_slice(item.name.bytes())?;
+    append_words(text, feature_word(item.on))?;
+    text.push(b'\n')?;
+    Ok(())
+}
+
+// Whether a feature is on, after a space.
+fn feature_word(on: bool) -> &'static str
+    ensures { result.now ≡ feature_word on }
+{
+    if on { " on" } else { " off" }
 }

@@ -9,6 +9,7 @@ use crate::readers::{
     read_batch, read_cat, read_check, read_compare, read_confext, read_import, read_init,
     read_layer, read_migrate, read_remove, read_sample, read_sysext, read_tree,
 };
+use crate::updates::read_sysupdate;
 use ext_text::{OutOfMemory, Text, Words};
 use std::alloc::Global;
 use thiserror::Error;
@@ -81,5 +82,6 @@ pub(crate) fn read_after(alloc: Global, keyword: Keyword, more: &[Text]) -> Resu
         Keyword::Migrate => read_migrate(more),
         Keyword::Batch => read_batch(more),
         Keyword::Sample => read_sample(more),
+        Keyword::Sysupdate => read_sysupdate(alloc, more),
     }
 }

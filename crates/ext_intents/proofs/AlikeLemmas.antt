@@ -22,7 +22,7 @@ use Rattle.ext_view.specs.declared.outcome.Merge.{Merge}
 use Rattle.ext_view.specs.declared.surveyed.SurveyItem.{SurveyItem}
 use Rattle.ext_view.specs.declared.surveyed.SurveyKind.{SurveyKind}
 use Rattle.ext_cmd.specs.declared.command.Command.{Command}
-use Rattle.ext_cmd.specs.declared.command.Command.TheVariants.{Init, ImportFs, Remove, Sysext, Confext, Tree, Cat, Compare, Check, Layer, Migrate, Batch, Sample}
+use Rattle.ext_cmd.specs.declared.command.Command.TheVariants.{Init, ImportFs, Remove, Sysext, Confext, Tree, Cat, Compare, Check, Layer, Migrate, Batch, Sample, Sysupdate, Components}
 use Rattle.ext_cmd.specs.declared.command.ViewCommand.{ViewCommand}
 use Rattle.ext_cmd.specs.declared.command.ViewCommand.TheVariants as views
 use Rattle.ext_cmd.specs.declared.refusal.Refusal.{Refusal}
@@ -30,6 +30,7 @@ use Rattle.ext_cmd.specs.declared.refusal.Refusal.TheVariants as refusals
 use Rattle.ext_intents.specs.Step.{TellAlike, WantsOf}
 use Rattle.ext_intents.specs.Views.{IsNotRefreshed, IsNotSurveyed, ListWantsOf, MergeWants, RefreshWants, RefreshWantsOf, ViewWants}
 use Rattle.ext_intents.specs.declared.intent.Intent.{Intent}
+use Rattle.ext_intents.proofs.UpdateAlikeLemmas.{update_alike}
 use Rattle.ext_intents.proofs.ViewFilesLemmas.{host_file, image_file}
 
 matched_weaker : {X Y : Type 0} (R S : X → Y → Type 0) (xs : List X) (ys : List Y) → ((x : X) (y : Y) → R x y → S x y) → AreMatched R xs ys → AreMatched S xs ys
@@ -115,6 +116,12 @@ module _ (host : Host) (told other : HeldFile → Told) (alike : TellAlike host 
   not_surveyed_alike base (refusals.BadTree line path) is not = absurd not
   not_surveyed_alike base (refusals.NotInDepot path) is not = absurd not
   not_surveyed_alike base (refusals.Mismatch path listed found) is not = absurd not
+  not_surveyed_alike base refusals.NoTransfers is not = absurd not
+  not_surveyed_alike base (refusals.BadTransfer line why file) is not = absurd not
+  not_surveyed_alike base (refusals.BadManifest line path) is not = absurd not
+  not_surveyed_alike base refusals.NoneNewer is not = absurd not
+  not_surveyed_alike base (refusals.BadFeature line why file) is not = absurd not
+  not_surveyed_alike base refusals.NoneOn is not = absurd not
 
   not_refreshed_alike : (base : Entries HeldFile) (class : Extension) (force : Bool) (refusal : Refusal) → IsBaseTree host base → IsNotRefreshed host told base class force refusal → IsNotRefreshed host other base class force refusal
   not_refreshed_alike base class force (refusals.Limit which) is not = large_alike base class force which is not
@@ -130,6 +137,12 @@ module _ (host : Host) (told other : HeldFile → Told) (alike : TellAlike host 
   not_refreshed_alike base class force (refusals.BadTree line path) is not = absurd not
   not_refreshed_alike base class force (refusals.NotInDepot path) is not = absurd not
   not_refreshed_alike base class force (refusals.Mismatch path listed found) is not = absurd not
+  not_refreshed_alike base class force refusals.NoTransfers is not = absurd not
+  not_refreshed_alike base class force (refusals.BadTransfer line why file) is not = absurd not
+  not_refreshed_alike base class force (refusals.BadManifest line path) is not = absurd not
+  not_refreshed_alike base class force refusals.NoneNewer is not = absurd not
+  not_refreshed_alike base class force (refusals.BadFeature line why file) is not = absurd not
+  not_refreshed_alike base class force refusals.NoneOn is not = absurd not
 
   list_alike : (base : Entries HeldFile) (class : Extension) (intent : Intent) → IsBaseTree host base → ListWantsOf host told base class intent → ListWantsOf host other base class intent
   list_alike base class intent is (inl (items, of, wants)) = inl (items, survey_alike base class false items is of, wants)
@@ -167,4 +180,6 @@ module _ (host : Host) (told other : HeldFile → Told) (alike : TellAlike host 
   wants_alike newest files Layer intent wants = wants
   wants_alike newest files Batch intent wants = wants
   wants_alike newest files (Sample images) intent wants = wants
+  wants_alike newest files (Sysupdate component verb) intent wants = update_alike host told other alike files component verb intent wants
+  wants_alike newest files Components intent wants = wants
   wants_alike newest files Migrate intent wants = wants

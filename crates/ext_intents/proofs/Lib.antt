@@ -3,11 +3,17 @@ pub mod EntriesLemmas
 pub mod FitLemmas
 pub mod InitLemmas
 pub mod ViewFilesLemmas
+pub mod UpdateFilesLemmas
+pub mod UpdateStepLemmas
+pub mod LeastLemmas
+pub mod UpdateAlikeLemmas
 pub mod AlikeLemmas
 pub mod ViewsLemmas
+pub mod SysupdateLemmas
 pub mod WantsLemmas
 pub mod OneInitLemmas
 pub mod OneImportLemmas
 pub mod OneViewLemmas
+pub mod OneUpdateLemmas
 pub mod OneIntentLemmas
 pub mod ForCallers

@@ -3,13 +3,14 @@ use Rattle.std.proofs.Common.{◌≡◌, Some, None, sym, ◌∙◌}
 use Rattle.ext_text.specs.declared.extension.Extension.TheVariants as extensions
 use Rattle.ext_depot.specs.Depot.{Files}
 use Rattle.ext_cmd.specs.declared.command.Command.{Command}
-use Rattle.ext_cmd.specs.declared.command.Command.TheVariants.{Init, ImportFs, Remove, Sysext, Confext, Tree, Cat, Compare, Check, Layer, Migrate, Batch, Sample}
+use Rattle.ext_cmd.specs.declared.command.Command.TheVariants.{Init, ImportFs, Remove, Sysext, Confext, Tree, Cat, Compare, Check, Layer, Migrate, Batch, Sample, Sysupdate, Components}
 use Rattle.ext_intents.specs.Intents.{Seen}
 use Rattle.ext_intents.specs.Laws.{IsToldSeen, OneIntent}
 use Rattle.ext_intents.specs.Step.{WantsFirst, WantsOf}
 use Rattle.ext_intents.specs.declared.intent.Intent.{Intent}
 use Rattle.ext_intents.proofs.OneImportLemmas.{TextLaws, import_once}
 use Rattle.ext_intents.proofs.OneInitLemmas.{init_once}
+use Rattle.ext_intents.proofs.OneUpdateLemmas.{UpdateLaws, components_once, update_once}
 use Rattle.ext_intents.proofs.OneViewLemmas.{SurveyLaws, view_once}
 
 first_once : (command : Command) (a b : Intent) → WantsFirst command a → WantsFirst command b → a ≡ b
@@ -25,23 +26,27 @@ first_once Check a b x y = x ∙ sym y
 first_once Layer a b x y = absurd x
 first_once Batch a b x y = absurd x
 first_once (Sample images) a b x y = absurd x
+first_once (Sysupdate component verb) a b x y = x ∙ sym y
+first_once Components a b x y = x ∙ sym y
 first_once Migrate a b x y = x ∙ sym y
 
-seen_once : TextLaws → SurveyLaws → (seen : Seen) (files : Files) (command : Command) (a b : Intent) → IsToldSeen seen → WantsOf seen (Some files) command a → WantsOf seen (Some files) command b → a ≡ b
-seen_once texts surveys seen files (Init arch scope hierarchies) a b is x y = x ∙ sym y
-seen_once texts surveys seen files (ImportFs resource path) a b is x y = import_once texts seen.host is.root files resource path a b x y
-seen_once texts surveys seen files (Remove path) a b is x y = x ∙ sym y
-seen_once texts surveys seen files (Sysext view) a b is x y = view_once surveys seen.host seen.told is.tells extensions.Sysext view a b x y
-seen_once texts surveys seen files (Confext view) a b is x y = view_once surveys seen.host seen.told is.tells extensions.Confext view a b x y
-seen_once texts surveys seen files (Tree path) a b is x y = x ∙ sym y
-seen_once texts surveys seen files (Cat path) a b is x y = x ∙ sym y
-seen_once texts surveys seen files (Compare v w) a b is x y = x ∙ sym y
-seen_once texts surveys seen files Check a b is x y = x ∙ sym y
-seen_once texts surveys seen files Layer a b is x y = absurd x
-seen_once texts surveys seen files Batch a b is x y = absurd x
-seen_once texts surveys seen files (Sample images) a b is x y = absurd x
-seen_once texts surveys seen files Migrate a b is x y = x ∙ sym y
+seen_once : TextLaws → SurveyLaws → UpdateLaws → (seen : Seen) (files : Files) (command : Command) (a b : Intent) → IsToldSeen seen → WantsOf seen (Some files) command a → WantsOf seen (Some files) command b → a ≡ b
+seen_once texts surveys updates seen files (Init arch scope hierarchies) a b is x y = x ∙ sym y
+seen_once texts surveys updates seen files (ImportFs resource path) a b is x y = import_once texts seen.host is.root files resource path a b x y
+seen_once texts surveys updates seen files (Remove path) a b is x y = x ∙ sym y
+seen_once texts surveys updates seen files (Sysext view) a b is x y = view_once surveys seen.host seen.told is.tells extensions.Sysext view a b x y
+seen_once texts surveys updates seen files (Confext view) a b is x y = view_once surveys seen.host seen.told is.tells extensions.Confext view a b x y
+seen_once texts surveys updates seen files (Tree path) a b is x y = x ∙ sym y
+seen_once texts surveys updates seen files (Cat path) a b is x y = x ∙ sym y
+seen_once texts surveys updates seen files (Compare v w) a b is x y = x ∙ sym y
+seen_once texts surveys updates seen files Check a b is x y = x ∙ sym y
+seen_once texts surveys updates seen files Layer a b is x y = absurd x
+seen_once texts surveys updates seen files Batch a b is x y = absurd x
+seen_once texts surveys updates seen files (Sample images) a b is x y = absurd x
+seen_once texts surveys updates seen files (Sysupdate component verb) a b is x y = update_once updates seen.host seen.told is.tells files component verb a b x y
+seen_once texts surveys updates seen files Components a b is x y = components_once updates seen.host a b x y
+seen_once texts surveys updates seen files Migrate a b is x y = x ∙ sym y
 
-pub one_intent : TextLaws → SurveyLaws → OneIntent
-one_intent texts surveys None files command a b is x y = first_once command a b x y
-one_intent texts surveys (Some seen) files command a b is x y = seen_once texts surveys seen files command a b is x y
+pub one_intent : TextLaws → SurveyLaws → UpdateLaws → OneIntent
+one_intent texts surveys updates None files command a b is x y = first_once command a b x y
+one_intent texts surveys updates (Some seen) files command a b is x y = seen_once texts surveys updates seen files command a b is x y

@@ -15,7 +15,7 @@ use Rattle.ext_view.specs.Image.{HasReleaseFile}
 use Rattle.ext_view.specs.Surveying.{IsRead}
 
 -- a file of the base is one of what is seen or of what lies under the view
-base_file : (host : Host) (base : Entries HeldFile) (path : List (List ℕ)) (mode : ℕ) (held : HeldFile) → IsBaseTree host base → lookup base path ≡ Some (File mode held) → IsFileOf (trees_of host) held
+pub base_file : (host : Host) (base : Entries HeldFile) (path : List (List ℕ)) (mode : ℕ) (held : HeldFile) → IsBaseTree host base → lookup base path ≡ Some (File mode held) → IsFileOf (trees_of host) held
 base_file host base path mode held is found =
     elim (is_in (merged_hierarchies (hierarchies_in host) (present host)) path) as (λ b. lookup base path ≡ (if b then lookup host.lower path else lookup host.root path) → IsFileOf (trees_of host) held) [
       | true ↦ λ same. record { tree = host.lower; among = (1, omega arith, refl); file = record { path = path; mode = mode; stands = sym same ∙ found } }

@@ -19,7 +19,7 @@ use Rattle.ext_host.specs.declared.host.Host.{Host}
 use Rattle.ext_host.specs.ReadOnly.{is_read_only}
 use Rattle.ext_cmd.specs.Words.{IsWellFormed}
 use Rattle.ext_cmd.specs.declared.command.Command.{Command}
-use Rattle.ext_cmd.specs.declared.command.Command.TheVariants.{Init, ImportFs, Remove, Sysext, Confext, Tree, Cat, Compare, Check, Layer, Migrate, Batch, Sample}
+use Rattle.ext_cmd.specs.declared.command.Command.TheVariants.{Init, ImportFs, Remove, Sysext, Confext, Tree, Cat, Compare, Check, Layer, Migrate, Batch, Sample, Sysupdate, Components}
 use Rattle.ext_cmd.specs.declared.answer.Answer.TheVariants as answers
 use Rattle.ext_cmd.specs.declared.answer.Answer.TheVariants.{Done, Unchanged}
 use Rattle.ext_cmd.specs.declared.refusal.Refusal.TheVariants.{NoEntry, NotDirectory, ReadOnly}
@@ -35,6 +35,7 @@ use Rattle.ext_intents.specs.declared.intent.Intent.{Intent}
 use Rattle.ext_intents.specs.declared.intent.Intent.TheVariants.{Changes, Answers, Refuses}
 use Rattle.ext_intents.proofs.FitLemmas.{cut_is_planned, graft_is_planned, same_is_planned}
 use Rattle.ext_intents.proofs.InitLemmas.{new_is_planned}
+use Rattle.ext_intents.proofs.SysupdateLemmas.{components_reply, reply_fits, update_replies}
 use Rattle.ext_intents.proofs.ViewsLemmas.{view_fits}
 
 -- it is fit where it is one that is
@@ -120,6 +121,8 @@ wants_fit coming seen files Check intent valid is = fit_of coming (Some seen.hos
 wants_fit coming seen files Layer intent valid is = absurd is
 wants_fit coming seen files Batch intent valid is = absurd is
 wants_fit coming seen files (Sample images) intent valid is = absurd is
+wants_fit coming seen files (Sysupdate component verb) intent valid is = reply_fits coming (Some seen.host) intent (update_replies seen.host seen.told files component verb intent is)
+wants_fit coming seen files Components intent valid is = reply_fits coming (Some seen.host) intent (components_reply seen.host intent is)
 wants_fit coming seen files Migrate intent valid is = fit_of coming (Some seen.host) _ intent is (migrate_fits coming seen.host seen.newest valid)
 
 -- where there is none
@@ -136,4 +139,6 @@ first_wants_fit coming Check intent formed is = fit_of coming None _ intent is t
 first_wants_fit coming Layer intent formed is = absurd is
 first_wants_fit coming Batch intent formed is = absurd is
 first_wants_fit coming (Sample images) intent formed is = absurd is
+first_wants_fit coming (Sysupdate component verb) intent formed is = fit_of coming None _ intent is tt
+first_wants_fit coming Components intent formed is = fit_of coming None _ intent is tt
 first_wants_fit coming Migrate intent formed is = fit_of coming None _ intent is tt

@@ -2,18 +2,18 @@
 -- first that holds, in this order, which is this project's own: no tree text, or one that is too long; a faulty line; a path
 -- that a merge locks; a path below something that is no directory; a path past its limits; too many entries, then too
 -- many bytes, of what is seen and what lies under the view.
-use Rattle.std.specs.Prelude.{◌≡◌, ℕ, ◌⊎◌, true, false, IsTrue, List, Option, Some, None, IfSome}
+use Rattle.std.specs.Prelude.{◌≡◌, ℕ, ◌⊎◌, true, false, IsTrue, List, Option, Some, None}
 use Rattle.std.specs.List.{AllByRecursion}
 use Rattle.ext_text.specs.Path.{is_proper_prefix}
 use Rattle.ext_text.specs.declared.which.Which.{Which}
 use Rattle.ext_text.specs.declared.which.Which.TheVariants as limits
 use Rattle.ext_depot.specs.Depot.{Files}
-use Rattle.ext_depot.specs.DepotText.{text_of}
+use Rattle.ext_depot.specs.DepotText.{IsTextIn}
 use Rattle.ext_depot.specs.declared.depot_text.DepotText.{DepotText}
 use Rattle.ext_depot.specs.declared.depot_text.DepotText.TheVariants.{Absent, TooLong, Whole}
 use Rattle.ext_tree.specs.FirstFault.{IsFirstFault, IsOne}
 use Rattle.ext_tree.specs.Graft as graft
-use Rattle.ext_tree.specs.Graft.{IsGraft, IsOpen, IsTooLong, is_non_directory_at}
+use Rattle.ext_tree.specs.Graft.{IsGraft, IsOpen, is_non_directory_at}
 use Rattle.ext_tree.specs.Tree.{Entries, lookup}
 use Rattle.ext_tree.specs.TreeText.{IsTreeText}
 use Rattle.ext_tree.specs.declared.stamp.Stamp.{Stamp}
@@ -81,10 +81,6 @@ TextWants host resource path TooLong intent = intent ≡ Refuses (Limit limits.T
 TextWants host resource path (Whole bytes) intent =
     ((es : Entries Stamp) × IsTreeText bytes es × TreeWants host resource path es intent)
     ⊎ ((line : ℕ) × IsFirstFault IsOne bytes line × (intent ≡ Refuses (BadTree line (Some (tree_path resource)))))
-
--- what is found at a path of these files, where they are told
-abbrev pub IsTextIn : Option Files → List (List ℕ) → DepotText → Type 0
-IsTextIn files path found = IfSome files (λ has. found ≡ text_of (has path))
 
 -- what it wants of a host, by the files that the depot has
 abbrev pub ImportWants : Host → Option Files → List (List ℕ) → List (List ℕ) → Intent → Type 0

@@ -46,3 +46,11 @@ IsFit coming seen (Answers answer) = Unit {0}
 IsFit coming seen Checks = IsSome seen
 IsFit coming seen (Shows held) = IsFileOf (trees_seen seen) held
 IsFit coming seen (Refuses refusal) = Unit {0}
+
+-- an answer or a refusal: nothing changes, and no file is read for the reply
+abbrev pub IsAnswerOrRefusal : Intent → Type 0
+IsAnswerOrRefusal (Changes next answer) = ⊥
+IsAnswerOrRefusal (Answers answer) = Unit {0}
+IsAnswerOrRefusal Checks = ⊥
+IsAnswerOrRefusal (Shows held) = ⊥
+IsAnswerOrRefusal (Refuses refusal) = Unit {0}

@@ -11,6 +11,9 @@ pub mod Migrate
 pub mod Compare
 pub mod Layer
 pub mod Views
+pub mod Updates
+pub mod VersionItems
+pub mod Sysupdate
 pub mod Causes
 pub mod Step
 pub mod Laws

@@ -8,7 +8,7 @@ use Rattle.ext_host.specs.Held.{HeldFile}
 use Rattle.ext_host.specs.Shelf.{Told}
 use Rattle.ext_host.specs.declared.host.Host.{Host}
 use Rattle.ext_cmd.specs.declared.command.Command.{Command}
-use Rattle.ext_cmd.specs.declared.command.Command.TheVariants.{Init, ImportFs, Remove, Sysext, Confext, Tree, Cat, Compare, Check, Layer, Migrate, Batch, Sample}
+use Rattle.ext_cmd.specs.declared.command.Command.TheVariants.{Init, ImportFs, Remove, Sysext, Confext, Tree, Cat, Compare, Check, Layer, Migrate, Batch, Sample, Sysupdate, Components}
 use Rattle.ext_cmd.specs.declared.refusal.Refusal.TheVariants.{NoStore, StoreExists}
 use Rattle.ext_intents.specs.Cat.{cat_intent}
 use Rattle.ext_intents.specs.Compare.{compare_intent}
@@ -17,6 +17,7 @@ use Rattle.ext_intents.specs.Init.{InitWants}
 use Rattle.ext_intents.specs.Intents.{Seen}
 use Rattle.ext_intents.specs.Migrate.{migrate_intent}
 use Rattle.ext_intents.specs.Remove.{remove_intent}
+use Rattle.ext_intents.specs.Sysupdate.{ComponentsWants, UpdateWants}
 use Rattle.ext_intents.specs.Tree.{meant_path, tree_intent}
 use Rattle.ext_intents.specs.Views.{ViewWants}
 use Rattle.ext_intents.specs.declared.intent.Intent.{Intent}
@@ -37,6 +38,8 @@ WantsOf seen files Layer intent = ⊥
 WantsOf seen files Migrate intent = intent ≡ migrate_intent seen.host seen.newest
 WantsOf seen files Batch intent = ⊥
 WantsOf seen files (Sample images) intent = ⊥
+WantsOf seen files (Sysupdate component verb) intent = UpdateWants seen.host seen.told files component verb intent
+WantsOf seen files Components intent = ComponentsWants seen.host intent
 
 -- of each file of the host both tell one thing
 abbrev pub TellAlike : Host → (HeldFile → Told) → (HeldFile → Told) → Type 0

@@ -1,8 +1,17 @@
 //! The law of what commands want, the contract of a function that does nothing.
 ghost use Rattle.ext_intents.specs.Laws.{OneIntent};
 
+use ext_available::laws::{one_available, one_offers};
+use ext_choice::laws::there_is_one_choice;
+use ext_configs::laws::one_component_list;
+use ext_feature::laws::{
+    a_component_has_its_features_or_a_first_fault, a_component_has_its_transfers_or_a_first_fault,
+};
+use ext_host::Held;
+use ext_installed::laws::one_installed;
 use ext_release::a_file_has_a_release_or_a_faulty_line;
 use ext_tree::laws::{first_fault_of_text, one_tree_of_text};
+use ext_versions::laws::an_ascending_list_is_one;
 use ext_view::laws::there_is_one_survey;
 
 /// A command wants one thing of a host and of what the depot has, where it is told what their files have: never two hosts,
@@ -14,4 +23,12 @@ pub fn a_command_wants_one_thing()
     a_file_has_a_release_or_a_faulty_line();
     one_tree_of_text();
     first_fault_of_text();
+    a_component_has_its_features_or_a_first_fault();
+    a_component_has_its_transfers_or_a_first_fault();
+    one_offers();
+    one_available();
+    one_installed::<Held>();
+    an_ascending_list_is_one();
+    there_is_one_choice();
+    one_component_list::<Held>();
 }

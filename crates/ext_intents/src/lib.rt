@@ -17,7 +17,10 @@ mod migrate;
 mod plan_err;
 mod remove;
 mod steps;
+mod sysupdate;
 mod tree;
+mod updates;
+mod version_items;
 mod view_items;
 mod views;
 

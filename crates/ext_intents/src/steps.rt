@@ -15,6 +15,7 @@ use crate::intent::Intent;
 use crate::migrate::migrate_step;
 use crate::plan_err::PlanErr;
 use crate::remove::remove_step;
+use crate::sysupdate::{components_step, update_step};
 use crate::tree::tree_step;
 use crate::views::view_step;
 use ext_cmd::{Command, Refusal};
@@ -81,6 +82,10 @@ pub fn step<P: Depot, H: Shelf>(
         Command::Check => Ok(Intent::Checks),
         Command::Migrate => Ok(migrate_step(host, newest)?),
         Command::Compare(first, second) => Ok(compare_step(first.bytes(), second.bytes())),
+        Command::Sysupdate { component, verb } => {
+            update_step(alloc, host, component.as_ref(), *verb, depot, shelf)
+        }
+        Command::Components => Ok(components_step(alloc, host)?),
         Command::Layer | Command::Batch | Command::Sample { .. } => unreachable!(),
     }
 }

@@ -47,7 +47,7 @@ use Rattle.ext_cmd.specs.declared.answer.Answer.TheVariants as answers
 use Rattle.ext_cmd.specs.declared.answer.Answer.TheVariants.{Done, Unchanged}
 use Rattle.ext_cmd.specs.declared.command.Chosen.{Chosen}
 use Rattle.ext_cmd.specs.declared.command.Command.{Command}
-use Rattle.ext_cmd.specs.declared.command.Command.TheVariants.{Init, ImportFs, Remove, Sysext, Confext, Tree, Cat, Compare, Check, Layer, Migrate, Batch, Sample}
+use Rattle.ext_cmd.specs.declared.command.Command.TheVariants.{Init, ImportFs, Remove, Sysext, Confext, Tree, Cat, Compare, Check, Layer, Migrate, Batch, Sample, Sysupdate, Components}
 use Rattle.ext_cmd.specs.declared.command.ViewCommand.{ViewCommand}
 use Rattle.ext_cmd.specs.declared.command.ViewCommand.TheVariants as views
 use Rattle.ext_cmd.specs.declared.refusal.Refusal.TheVariants.{NoEntry, NotDirectory, ReadOnly}
@@ -55,7 +55,7 @@ use Rattle.ext_intents.specs.Cat.{cat_at}
 use Rattle.ext_intents.specs.Change.{changed_at}
 use Rattle.ext_intents.specs.Import.{FittingWants, OpenWants, TextWants, TreeWants, sized, within}
 use Rattle.ext_intents.specs.Init.{IsNewHost}
-use Rattle.ext_intents.specs.Intents.{IsFit}
+use Rattle.ext_intents.specs.Intents.{IsFit, IsAnswerOrRefusal}
 use Rattle.ext_intents.specs.Migrate.{migrate_intent}
 use Rattle.ext_intents.specs.Remove.{remove_intent}
 use Rattle.ext_intents.specs.Step.{WantsFirst, WantsOf}
@@ -63,6 +63,7 @@ use Rattle.ext_intents.specs.Tree.{meant_path, text_below, tree_at, tree_intent}
 use Rattle.ext_intents.specs.Views.{MergeWants, RefreshWants, ViewWants, planned}
 use Rattle.ext_intents.specs.declared.intent.Intent.{Intent}
 use Rattle.ext_intents.specs.declared.intent.Intent.TheVariants.{Answers, Changes, Checks, Refuses, Shows}
+use Rattle.ext_intents.proofs.ForCallers.{components_reply, update_replies}
 use Rattle.ext_top.specs.Untouched.{base_in, installed_in, touched}
 
 -- where another host is wanted, this holds of that one
@@ -285,6 +286,13 @@ module _ (path : List (List ℕ)) (g : Generation) (contents : Home → List ℕ
     migrate_keeps : (newest : Bool) → Stays (migrate_intent g.host newest)
     migrate_keeps newest = elim newest as (λ b. Stays (if b then Answers Unchanged else Changes g.host Done)) [ true ↦ tt | false ↦ same_keeps ]
 
+    reply_keeps : (intent : Intent) → IsAnswerOrRefusal intent → Stays intent
+    reply_keeps (Changes next answer) replies = absurd replies
+    reply_keeps (Answers answer) replies = tt
+    reply_keeps Checks replies = tt
+    reply_keeps (Shows held) replies = tt
+    reply_keeps (Refuses refusal) replies = tt
+
     -- each command
     pub wants_keep : (newest : Bool) (told : HeldFile → Told) (files : Option Files) (command : Command) (intent : Intent) → meets (touched command) path ≡ false
         → WantsOf (record { host = g.host; newest = newest; told = told }) files command intent → Stays intent
@@ -301,6 +309,8 @@ module _ (path : List (List ℕ)) (g : Generation) (contents : Home → List ℕ
     wants_keep newest told files Migrate intent apart is = of_same (NextKeeps path (at g contents)) _ intent is (migrate_keeps newest)
     wants_keep newest told files Batch intent apart is = absurd is
     wants_keep newest told files (Sample images) intent apart is = absurd is
+    wants_keep newest told files (Sysupdate component verb) intent apart wants = reply_keeps intent (update_replies g.host told files component verb intent wants)
+    wants_keep newest told files Components intent apart wants = reply_keeps intent (components_reply g.host intent wants)
 
 -- a new host has nothing in its base, and no manifest was installed before
 bare : (b : Bool) (root lower : Entries HeldFile) (q : List (List ℕ)) → root ≡ [] → lower ≡ [] → (if b then lookup lower q else lookup root q) ≡ None
@@ -328,3 +338,5 @@ first_wants_keep path Layer intent is = absurd is
 first_wants_keep path Migrate intent is = of_same (NextKeeps path none) _ intent is tt
 first_wants_keep path Batch intent is = absurd is
 first_wants_keep path (Sample images) intent is = absurd is
+first_wants_keep path (Sysupdate component verb) intent is = of_same (NextKeeps path none) _ intent is tt
+first_wants_keep path Components intent is = of_same (NextKeeps path none) _ intent is tt

@@ -15,18 +15,19 @@ use Rattle.ext_gen.specs.Opening.{KeepsNow}
 use Rattle.ext_gen.specs.Opened.{Generation}
 use Rattle.ext_cmd.proofs.ForCallers.{one_command}
 use Rattle.ext_cmd.specs.declared.command.Command.{Command}
-use Rattle.ext_cmd.specs.declared.command.Command.TheVariants.{Init, ImportFs, Remove, Sysext, Confext, Tree, Cat, Compare, Check, Layer, Migrate, Batch, Sample}
+use Rattle.ext_cmd.specs.declared.command.Command.TheVariants.{Init, ImportFs, Remove, Sysext, Confext, Tree, Cat, Compare, Check, Layer, Migrate, Batch, Sample, Sysupdate, Components}
 use Rattle.ext_cmd.specs.declared.command.ViewCommand.{ViewCommand}
 use Rattle.ext_cmd.specs.declared.command.ViewCommand.TheVariants as views
 use Rattle.ext_cmd.specs.declared.answer.Answer.TheVariants as answers
 use Rattle.ext_cmd.specs.declared.refusal.Refusal.TheVariants as refusals
 use Rattle.ext_intents.specs.Cat.{cat_at}
-use Rattle.ext_intents.specs.Intents.{Seen}
+use Rattle.ext_intents.specs.Intents.{IsAnswerOrRefusal, Seen}
 use Rattle.ext_intents.specs.Step.{Wants, WantsFirst, WantsOf}
 use Rattle.ext_intents.specs.Tree.{meant_path, text_below, tree_at, tree_intent}
 use Rattle.ext_intents.specs.Views.{ListWants, ViewWants}
 use Rattle.ext_intents.specs.declared.intent.Intent.{Intent}
-use Rattle.ext_intents.specs.declared.intent.Intent.TheVariants.{Answers, Refuses}
+use Rattle.ext_intents.specs.declared.intent.Intent.TheVariants.{Answers, Changes, Checks, Refuses, Shows}
+use Rattle.ext_intents.proofs.ForCallers.{components_reply, update_replies}
 use Rattle.ext_top.specs.Applying.{seen_on}
 use Rattle.ext_top.specs.Changing.{StaysUnlessChanging, may_change, may_view_change}
 use Rattle.ext_top.specs.Chain.{LinesRun, RunsOn}
@@ -71,6 +72,13 @@ no_next_of_view host told class (views.Merge force) intent reads wants = cc
 no_next_of_view host told class views.Unmerge intent reads wants = cc
 no_next_of_view host told class (views.Refresh force) intent reads wants = cc
 
+no_next_of_reply : (intent : Intent) → IsAnswerOrRefusal intent → next_of intent ≡ None
+no_next_of_reply (Changes next answer) replies = absurd replies
+no_next_of_reply (Answers answer) replies = refl
+no_next_of_reply Checks replies = refl
+no_next_of_reply (Shows held) replies = refl
+no_next_of_reply (Refuses refusal) replies = refl
+
 no_next_seen : (seen : Seen) (files : Option Files) (command : Command) (intent : Intent) → may_change command ≡ false → WantsOf seen files command intent → next_of intent ≡ None
 no_next_seen seen files (Init arch scope hierarchies) intent reads wants = cc
 no_next_seen seen files (ImportFs resource path) intent reads wants = cc
@@ -85,6 +93,8 @@ no_next_seen seen files Layer intent reads wants = absurd wants
 no_next_seen seen files Migrate intent reads wants = cc
 no_next_seen seen files Batch intent reads wants = absurd wants
 no_next_seen seen files (Sample images) intent reads wants = absurd wants
+no_next_seen seen files (Sysupdate component verb) intent reads wants = no_next_of_reply intent (update_replies seen.host seen.told files component verb intent wants)
+no_next_seen seen files Components intent reads wants = no_next_of_reply intent (components_reply seen.host intent wants)
 
 no_next_first : (command : Command) (intent : Intent) → may_change command ≡ false → WantsFirst command intent → next_of intent ≡ None
 no_next_first (Init arch scope hierarchies) intent reads wants = cc
@@ -100,6 +110,8 @@ no_next_first Layer intent reads wants = absurd wants
 no_next_first Migrate intent reads wants = cc
 no_next_first Batch intent reads wants = absurd wants
 no_next_first (Sample images) intent reads wants = absurd wants
+no_next_first (Sysupdate component verb) intent reads wants = ap next_of wants
+no_next_first Components intent reads wants = ap next_of wants
 
 no_next : (seen : Option Seen) (files : Option Files) (command : Command) (intent : Intent) → may_change command ≡ false → Wants seen files command intent → next_of intent ≡ None
 no_next None files command intent reads wants = no_next_first command intent reads wants
@@ -150,6 +162,8 @@ batch_changes Layer is = cc
 batch_changes Migrate is = cc
 batch_changes Batch is = refl
 batch_changes (Sample images) is = cc
+batch_changes (Sysupdate component verb) is = cc
+batch_changes Components is = cc
 
 kind_stays : (kind : Kind) (command : Command) (old new : DeviceStates) (status : Status) → run_kind command ≡ kind → RunsKind kind command old new status → may_change command ≡ false → BothTold StaysTold old.disk.told new.disk.told
 kind_stays alone command old new status is runs reads = left_alone old new runs.disk

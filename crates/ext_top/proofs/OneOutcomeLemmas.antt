@@ -79,6 +79,12 @@ not_taken old depot files n refusal held path next home written told body why ta
     by_refusal (refusals.NotDirectory place) why is bytes there stamped = why
     by_refusal (refusals.NotFile place) why is bytes there stamped = why
     by_refusal (refusals.BadTree line place) why is bytes there stamped = why
+    by_refusal refusals.NoTransfers why is bytes there stamped = why
+    by_refusal (refusals.BadTransfer line cause file) why is bytes there stamped = why
+    by_refusal (refusals.BadManifest line place) why is bytes there stamped = why
+    by_refusal refusals.NoneNewer why is bytes there stamped = why
+    by_refusal (refusals.BadFeature line cause file) why is bytes there stamped = why
+    by_refusal refusals.NoneOn why is bytes there stamped = why
 
 in_depot : (depot : DepotState) (refusal : Refusal) (held : HeldFile) → WhyNot depot refusal held → (path : List (List ℕ)) × (held.body ≡ Depot path)
 in_depot depot (refusals.NotInDepot path) held why = (path, why.body)
@@ -94,6 +100,12 @@ in_depot depot (refusals.NoEntry path) held why = absurd why
 in_depot depot (refusals.NotDirectory path) held why = absurd why
 in_depot depot (refusals.NotFile path) held why = absurd why
 in_depot depot (refusals.BadTree line path) held why = absurd why
+in_depot depot refusals.NoTransfers held why = absurd why
+in_depot depot (refusals.BadTransfer line cause file) held why = absurd why
+in_depot depot (refusals.BadManifest line place) held why = absurd why
+in_depot depot refusals.NoneNewer held why = absurd why
+in_depot depot (refusals.BadFeature line cause file) held why = absurd why
+in_depot depot refusals.NoneOn held why = absurd why
 
 module _ (old : Stored) (depot : DepotState) (files : Files) (told : depot.contents ≡ Some files) (n : ℕ) where
   -- such a file isn't placed
@@ -188,6 +200,12 @@ module _ (depot : DepotState) (files : Files) (told : depot.contents ≡ Some fi
   why_once (refusals.NotInDepot p) (refusals.NotDirectory path) x y = absurd y
   why_once (refusals.NotInDepot p) (refusals.NotFile path) x y = absurd y
   why_once (refusals.NotInDepot p) (refusals.BadTree line path) x y = absurd y
+  why_once (refusals.NotInDepot p) refusals.NoTransfers x y = absurd y
+  why_once (refusals.NotInDepot p) (refusals.BadTransfer line why file) x y = absurd y
+  why_once (refusals.NotInDepot p) (refusals.BadManifest line place) x y = absurd y
+  why_once (refusals.NotInDepot p) refusals.NoneNewer x y = absurd y
+  why_once (refusals.NotInDepot p) (refusals.BadFeature line why file) x y = absurd y
+  why_once (refusals.NotInDepot p) refusals.NoneOn x y = absurd y
   why_once (refusals.Mismatch p listed found) refusals.NoStore x y = absurd y
   why_once (refusals.Mismatch p listed found) refusals.StoreExists x y = absurd y
   why_once (refusals.Mismatch p listed found) refusals.Merged x y = absurd y
@@ -199,6 +217,12 @@ module _ (depot : DepotState) (files : Files) (told : depot.contents ≡ Some fi
   why_once (refusals.Mismatch p listed found) (refusals.NotDirectory path) x y = absurd y
   why_once (refusals.Mismatch p listed found) (refusals.NotFile path) x y = absurd y
   why_once (refusals.Mismatch p listed found) (refusals.BadTree line path) x y = absurd y
+  why_once (refusals.Mismatch p listed found) refusals.NoTransfers x y = absurd y
+  why_once (refusals.Mismatch p listed found) (refusals.BadTransfer line why file) x y = absurd y
+  why_once (refusals.Mismatch p listed found) (refusals.BadManifest line place) x y = absurd y
+  why_once (refusals.Mismatch p listed found) refusals.NoneNewer x y = absurd y
+  why_once (refusals.Mismatch p listed found) (refusals.BadFeature line why file) x y = absurd y
+  why_once (refusals.Mismatch p listed found) refusals.NoneOn x y = absurd y
   why_once refusals.NoStore y why wherefore = absurd why
   why_once refusals.StoreExists y why wherefore = absurd why
   why_once refusals.Merged y why wherefore = absurd why
@@ -210,6 +234,12 @@ module _ (depot : DepotState) (files : Files) (told : depot.contents ≡ Some fi
   why_once (refusals.NotDirectory path) y why wherefore = absurd why
   why_once (refusals.NotFile path) y why wherefore = absurd why
   why_once (refusals.BadTree line path) y why wherefore = absurd why
+  why_once refusals.NoTransfers y why wherefore = absurd why
+  why_once (refusals.BadTransfer line cause file) y why wherefore = absurd why
+  why_once (refusals.BadManifest line place) y why wherefore = absurd why
+  why_once refusals.NoneNewer y why wherefore = absurd why
+  why_once (refusals.BadFeature line cause file) y why wherefore = absurd why
+  why_once refusals.NoneOn y why wherefore = absurd why
 
 module _ (t : Tree) (s : State) (stands : Stands t s) (files : Files) where
   has_bytes : HasBytes (stored_of s) (contents_of s)
@@ -237,6 +267,12 @@ module _ (t : Tree) (s : State) (stands : Stands t s) (files : Files) where
   why_refused host (refusals.NotDirectory path) refused = absurd refused
   why_refused host (refusals.NotFile path) refused = absurd refused
   why_refused host (refusals.BadTree line path) refused = absurd refused
+  why_refused host refusals.NoTransfers refused = absurd refused
+  why_refused host (refusals.BadTransfer line why file) refused = absurd refused
+  why_refused host (refusals.BadManifest line place) refused = absurd refused
+  why_refused host refusals.NoneNewer refused = absurd refused
+  why_refused host (refusals.BadFeature line why file) refused = absurd refused
+  why_refused host refusals.NoneOn refused = absurd refused
 
   some_none : (which : Which) (o : Option Which) → o ≡ Some which → o ≡ None → ⊥
   some_none which o is free = let wrong : Some which ≡ None = sym is ∙ free in cc

@@ -186,6 +186,12 @@ module _ (from : Option Generation) (next : Host) (old mid : DiskState) (later d
   refused_since (refusals.NotDirectory path) refused = absurd refused
   refused_since (refusals.NotFile path) refused = absurd refused
   refused_since (refusals.BadTree line path) refused = absurd refused
+  refused_since refusals.NoTransfers refused = absurd refused
+  refused_since (refusals.BadTransfer line why file) refused = absurd refused
+  refused_since (refusals.BadManifest line place) refused = absurd refused
+  refused_since refusals.NoneNewer refused = absurd refused
+  refused_since (refusals.BadFeature line why file) refused = absurd refused
+  refused_since refusals.NoneOn refused = absurd refused
 
 met_since : (from : Option Generation) (old mid new : DiskState) (later depot : DepotState) (refusal : Option Refusal) (after : Option Generation) → BothTold KeepsNow old.told mid.told → later.contents ≡ depot.contents → (intent : Intent)
     → Met intent from mid new later refusal after → Met intent from old new depot refusal after

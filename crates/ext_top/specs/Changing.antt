@@ -3,7 +3,7 @@ use Rattle.std.specs.Prelude.{◌≡◌, ℕ, Bool, true, false, List}
 use Rattle.ext_disk.specs.Disk.{BothTold}
 use Rattle.ext_cmd.specs.Words.{IsWellFormed, command_words}
 use Rattle.ext_cmd.specs.declared.command.Command.{Command}
-use Rattle.ext_cmd.specs.declared.command.Command.TheVariants.{Init, ImportFs, Remove, Sysext, Confext, Tree, Cat, Compare, Check, Layer, Migrate, Batch, Sample}
+use Rattle.ext_cmd.specs.declared.command.Command.TheVariants.{Init, ImportFs, Remove, Sysext, Confext, Tree, Cat, Compare, Check, Layer, Migrate, Batch, Sample, Sysupdate, Components}
 use Rattle.ext_cmd.specs.declared.command.ViewCommand.{ViewCommand}
 use Rattle.ext_cmd.specs.declared.command.ViewCommand.TheVariants as views
 use Rattle.ext_top.specs.Devices.{DeviceStates}
@@ -32,6 +32,8 @@ may_change Layer = false
 may_change Migrate = true
 may_change Batch = true
 may_change (Sample images) = false
+may_change (Sysupdate component verb) = false
+may_change Components = false
 
 -- where the words are those of a command that may change nothing, nothing is made, removed or appended, whatever the disk has
 abbrev pub StaysUnlessChanging : List (List ℕ) → DeviceStates → DeviceStates → Type 0

@@ -21,7 +21,9 @@ pub fn may_change(command: &Command) -> bool
         | Command::Compare(_, _)
         | Command::Check
         | Command::Layer
-        | Command::Sample { .. } => false,
+        | Command::Sample { .. }
+        | Command::Sysupdate { .. }
+        | Command::Components => false,
     }
 }
 

@@ -1,7 +1,8 @@
 // The words of commands.
 use ext_case::{Trouble, append_number, append_path, append_str, one};
-use ext_cmd::{Chosen, CmdErr, Command, ViewCommand, read_line, read_words};
+use ext_cmd::{Chosen, CmdErr, Command, UpdateVerb, ViewCommand, read_line, read_words};
 use ext_text::{Names, Path, Text, Words};
+use ext_transfer::Component;
 use std::alloc::Global;
 
 /// What `words WORD..` writes: the command that the words are, or `usage PLACE`.
@@ -90,6 +91,12 @@ fn append_command(alloc: Global, text: &mut Text, command: &Command) -> Result<(
             append_str(text, "Sample ")?;
             append_number(alloc, text, u64::from(*images))
         }
+        Command::Sysupdate { component, verb } => {
+            append_str(text, "Sysupdate ")?;
+            append_component(text, component)?;
+            append_str(text, update_word(*verb))
+        }
+        Command::Components => append_str(text, "Components"),
     }
 }
 
@@ -112,6 +119,27 @@ fn append_texts(text: &mut Text, first: &Text, second: &Text) -> Result<(), Trou
     append_str(text, " ")?;
     text.append(second.bytes())?;
     Ok(())
+}
+
+// The name of a component and that of its folders, each with a space after it.
+fn append_component(text: &mut Text, component: &Option<Component>) -> Result<(), Trouble> {
+    match component {
+        None => Ok(()),
+        Some(component) => {
+            text.append(component.name().bytes())?;
+            append_str(text, " ")?;
+            text.append(component.folder().bytes())?;
+            append_str(text, " ")
+        }
+    }
+}
+
+fn update_word(verb: UpdateVerb) -> &'static str {
+    match verb {
+        UpdateVerb::List => "List",
+        UpdateVerb::CheckNew => "CheckNew",
+        UpdateVerb::Features => "Features",
+    }
 }
 
 fn view_words(view: ViewCommand) -> &'static str {

@@ -26,5 +26,6 @@ mod samples;
 mod searches;
 mod showing;
 mod subject;
+mod updates;
 
 pub use answering::answer;

@@ -1,5 +1,6 @@
 // Refusals, their numbers and their lines.
-use ext_case::{Trouble, digest, five, none, number, number_line, one, one_and_more, path};
+use crate::updates::{bad_feature, bad_transfer};
+use ext_case::{Trouble, digest, five, none, number, number_line, one, one_and_more, path, two};
 use ext_cmd::{Refusal, refusal_text};
 use ext_text::{Text, Which};
 use ext_tree::Stamp;
@@ -30,12 +31,15 @@ fn plain_refusal(word: &[u8]) -> Option<Refusal> {
         b"store-exists" => Some(Refusal::StoreExists),
         b"merged" => Some(Refusal::Merged),
         b"no-host-release" => Some(Refusal::NoHostRelease),
+        b"no-transfers" => Some(Refusal::NoTransfers),
+        b"none-newer" => Some(Refusal::NoneNewer),
+        b"none-on" => Some(Refusal::NoneOn),
         _ => None,
     }
 }
 
-// A refusal that tells more: `bad-host-release LINE`, `limit WHICH`, `bad-tree LINE [PATH]`, a word and a path, or
-// `mismatch PATH SIZE DIGEST SIZE DIGEST`.
+// A refusal that tells more: `bad-host-release LINE`, `limit WHICH`, `bad-transfer LINE WHY FILE`, `bad-feature LINE WHY FILE`,
+// `bad-manifest LINE PATH`, `bad-tree LINE [PATH]`, a word and a path, or `mismatch PATH SIZE DIGEST SIZE DIGEST`.
 fn full_refusal(alloc: Global, word: &[u8], rest: &[Text]) -> Result<Refusal, Trouble> {
     match word {
         b"bad-host-release" => Ok(Refusal::BadHostRelease {
@@ -44,6 +48,9 @@ fn full_refusal(alloc: Global, word: &[u8], rest: &[Text]) -> Result<Refusal, Tr
         b"limit" => Ok(Refusal::Limit {
             which: which_of(one(rest)?.bytes())?,
         }),
+        b"bad-transfer" => bad_transfer(alloc, rest),
+        b"bad-feature" => bad_feature(alloc, rest),
+        b"bad-manifest" => bad_manifest(alloc, rest),
         b"bad-tree" => bad_tree(alloc, rest),
         b"mismatch" => mismatch(alloc, rest),
         _ => refusal_at(alloc, word, one(rest)?),
@@ -61,6 +68,14 @@ fn which_of(word: &[u8]) -> Result<Which, Trouble> {
         b"generations" => Ok(Which::Generations),
         _ => Err(Trouble::Unreadable("no such limit")),
     }
+}
+
+fn bad_manifest(alloc: Global, arguments: &[Text]) -> Result<Refusal, Trouble> {
+    let (line, at) = two(arguments)?;
+    Ok(Refusal::BadManifest {
+        line: number(line, u64::MAX)?,
+        path: path(alloc, at)?,
+    })
 }
 
 fn bad_tree(alloc: Global, arguments: &[Text]) -> Result<Refusal, Trouble> {

@@ -1,5 +1,6 @@
 // Answers and their texts.
 use crate::items::items;
+use crate::updates::{feature_items, version_items};
 use ext_case::{Trouble, digest, four, name, none, number, one, one_and_more, two};
 use ext_cmd::{Answer, answer_text};
 use ext_text::{Names, Text};
@@ -36,7 +37,7 @@ fn plain_answer(word: &[u8]) -> Option<Answer> {
 }
 
 // An answer that tells more: `merged NAME..`, `found ITEM..`, `tree TEXT`, `checked FILES BYTES`,
-// `sample ENTRIES FILES BYTES DIGEST`.
+// `sample ENTRIES FILES BYTES DIGEST`, `versions ITEM..`, `version TEXT`, `features ITEM..`, `components NAME..`.
 fn full_answer(alloc: Global, word: &[u8], rest: &[Text]) -> Result<Answer, Trouble> {
     match word {
         b"merged" => Ok(Answer::Merged(names_of(alloc, rest)?)),
@@ -44,6 +45,10 @@ fn full_answer(alloc: Global, word: &[u8], rest: &[Text]) -> Result<Answer, Trou
         b"tree" => Ok(Answer::Tree(one(rest)?.copy()?)),
         b"checked" => checked(rest),
         b"sample" => sample(rest),
+        b"versions" => Ok(Answer::Versions(version_items(alloc, rest)?)),
+        b"version" => Ok(Answer::Version(one(rest)?.copy()?)),
+        b"features" => Ok(Answer::Features(feature_items(alloc, rest)?)),
+        b"components" => Ok(Answer::Components(names_of(alloc, rest)?)),
         _ => Err(Trouble::Unreadable("no such answer")),
     }
 }

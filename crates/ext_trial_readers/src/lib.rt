@@ -1,4 +1,4 @@
-//! Words of cases for the readers that no command calls yet.
+//! Words of cases for the readers of updates, and for what an update chooses.
 //!
 //! A statement `ini read TEXT` of a case calls [`answer`] with the word `ini` and the arguments `read` and the text, and
 //! what comes is the text that the call's result is written as. Each file has the words of one reader. The program that
@@ -9,6 +9,7 @@ mod ini;
 mod manifests;
 mod pattern;
 mod transfers;
+mod updates;
 
 use ext_case::Trouble;
 use ext_text::Text;
@@ -46,6 +47,9 @@ fn reply(alloc: Global, word: &str, asked: &[u8], rest: &[Text]) -> Result<Optio
         ("transfer", b"read") => transfers::read(alloc, rest)?,
         ("transfer", b"on") => transfers::on_host(alloc, rest)?,
         ("transfer", b"laws") => transfers::laws(alloc, rest)?,
+        ("update", b"choose") => updates::chosen(alloc, rest)?,
+        ("update", b"vacuum") => updates::vacuumed(alloc, rest)?,
+        ("update", b"laws") => updates::laws(alloc, rest)?,
         _ => return Ok(None),
     };
     Ok(Some(text))

@@ -2,7 +2,7 @@
 use ext_case::{Trouble, append_line, append_number, digest, line_of, none, one, three, two};
 use ext_pattern::laws::{
     a_fault_is_the_first, a_name_matches_once, a_pattern_has_its_own_text,
-    names_are_filled_patterns,
+    names_are_filled_patterns, one_first_match,
 };
 use ext_pattern::{Caught, Pattern, PatternErr, read_pattern};
 use ext_text::{Digest, Text};
@@ -98,5 +98,6 @@ pub(crate) fn laws(alloc: Global, rest: &[Text]) -> Result<Text, Trouble> {
     a_fault_is_the_first();
     a_name_matches_once();
     names_are_filled_patterns();
+    one_first_match();
     Ok(Text::new(alloc))
 }

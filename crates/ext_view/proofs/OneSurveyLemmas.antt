@@ -62,7 +62,7 @@ one_image_file es class place name a b x y =
     one_content (part y.image es) (parts (release_text class name)) a b (subst (λ image. LeadsToContent (part image es) (parts (release_text class name)) a) image x.file) y.file
 
 -- of what is told one text is given
-one_given : (t : Told) (held : HeldFile) (a b : List ℕ) → t ≢ untold → IsGiven t held a → IsGiven t held b → a ≡ b
+pub one_given : (t : Told) (held : HeldFile) (a b : List ℕ) → t ≢ untold → IsGiven t held a → IsGiven t held b → a ≡ b
 one_given untold held a b tells x y = absurd (tells refl)
 one_given missing held a b tells x y = absurd x.as_told
 one_given (stored bytes) held a b tells x y = x.as_told ∙ sym y.as_told

@@ -27,7 +27,7 @@ pub use errors::ViewErr;
 pub use merging::{merge, refresh};
 pub use outcome::Merge;
 pub use surveyed::{SurveyItem, SurveyKind};
-pub use surveying::survey;
+pub use surveying::{base_of, survey};
 pub use unmerging::unmerge;
 
 /// What a host has to merge, in the order of versions of the names.

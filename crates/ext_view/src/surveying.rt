@@ -48,8 +48,11 @@ pub fn survey<H: Shelf>(
     survey_of(alloc, host, &base, class, force, shelf)
 }
 
-// The base of a host.
-pub(crate) fn base_of(host: &Host) -> Result<Tree<Held>, OutOfMemory>
+/// The base of a host, as a tree.
+///
+/// # Errors
+/// `OutOfMemory` alone.
+pub fn base_of(host: &Host) -> Result<Tree<Held>, OutOfMemory>
     requires { IsValidHost host.now }
     ensures { IfOk result (IsBaseTree host.now) }
 {

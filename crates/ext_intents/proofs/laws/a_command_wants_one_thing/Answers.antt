@@ -1,5 +1,6 @@
 use Rattle.ext_intents.proofs.OneImportLemmas.{TextLaws}
 use Rattle.ext_intents.proofs.OneIntentLemmas.{one_intent}
+use Rattle.ext_intents.proofs.OneUpdateLemmas.{UpdateLaws}
 use Rattle.ext_intents.proofs.OneViewLemmas.{SurveyLaws}
 use Rattle.ext_intents.proofs.laws.a_command_wants_one_thing.Goals as goal
 
@@ -15,4 +16,14 @@ returns c =
       not_both = c.a_file_has_a_release_or_a_faulty_line.ensures.not_both;
       one_fault = c.a_file_has_a_release_or_a_faulty_line.ensures.one_fault;
     } in
-    one_intent texts surveys
+    let updates : UpdateLaws = record {
+      one_features = c.a_component_has_its_features_or_a_first_fault.ensures;
+      one_active = c.a_component_has_its_transfers_or_a_first_fault.ensures;
+      one_told = c.one_offers.ensures.told;
+      one_available = c.one_available.ensures;
+      one_installed = c.one_installed.ensures;
+      one_versions = c.an_ascending_list_is_one.ensures.versions;
+      one_choice = c.there_is_one_choice.ensures;
+      one_components = c.one_component_list.ensures;
+    } in
+    one_intent texts surveys updates
