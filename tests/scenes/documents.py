@@ -267,13 +267,14 @@ def check_statuses(sources, shown):
 
 
 def commands_of(sources):
-    """The first word of each command, and the words that follow `sysext`."""
+    """The first word of each command, and the words that may follow some of them."""
     text = sources.text("crates/ext_cmd/specs/Words.antt")
     commands = re.findall(r'^command_words .*?=\s+codes "([a-z-]+)"', text, re.M)
     verbs = re.findall(r'^view_words .*?=\s+codes "([a-z-]+)"', text, re.M)
-    if not commands or not verbs:
+    updates = re.findall(r'^update_verb_text .*?=\s+codes "([a-z-]+)"', sources.text("crates/ext_cmd/specs/Keyword.antt"), re.M)
+    if not commands or not verbs or not updates:
         raise Failed("the definitions of words have no commands")
-    return commands, verbs
+    return commands, {"sysext": verbs, "confext": verbs, "sysupdate": updates}
 
 
 def check_commands(sources, shown):
@@ -285,7 +286,7 @@ def check_commands(sources, shown):
     listed = [words for row in first_table(section(readme, "The commands")) for words in quoted(row[0])]
     for command in commands:
         line = next((line.split() for line in grammar if line.split()[0] == command), None)
-        if line is None or (command in ("sysext", "confext") and not set(verbs) <= set(line)):
+        if line is None or not set(verbs.get(command, ())) <= set(line):
             raise Failed(f"the grammar of docs/FORMATS.md lacks `{command}`, or a word of it")
         if command not in told:
             raise Failed(f"no row of docs/FORMATS.md tells what `{command}` does")
@@ -293,9 +294,9 @@ def check_commands(sources, shown):
             raise Failed(f"README.md has no row for `{command}`")
         if not re.search(rf"^  {command}\b", shown, re.M):
             raise Failed(f"--help lacks `{command}`")
-    for verb in verbs:
-        if verb not in told or not any(verb in words.split()[:2] for words in listed) or not re.search(rf"^  sysext {verb}\b", shown, re.M):
-            raise Failed(f"a table or --help lacks `sysext {verb}`")
+    for command, verb in ((command, verb) for command in ("sysext", "sysupdate") for verb in verbs[command]):
+        if verb not in told or not any(verb in words.split() for words in listed) or not re.search(rf"^  {command} ([^ ]+ )?{verb}\b", shown, re.M):
+            raise Failed(f"a table or --help lacks `{command} {verb}`")
 
 
 def check_questions(sources):

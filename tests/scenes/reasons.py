@@ -89,8 +89,9 @@ def a_bad_store_names_the_line_or_the_file(place):
     explains(told(place, "tree"), "bad store", f"{place.store}/current names no generation; {SEE}", 8)
 
 
-COMMANDS = "init, import-fs, remove, sysext, confext, tree, cat, compare, check, layer, migrate, batch, sample"
+COMMANDS = "init, import-fs, remove, sysext, confext, sysupdate, tree, cat, compare, check, layer, migrate, batch, sample"
 INIT = "the words are init ARCH SCOPE [HIERS [HIERS]], where ARCH is x86, x86-64, arm, arm64, riscv64, s390x, ppc64-le or loongarch64, SCOPE is system or initrd, and HIERS are as /usr:/opt"
+UPDATES = "the words are sysupdate [--component=NAME] list, check-new or features, or sysupdate components, where sysupdate.NAME.d is a name, and NAME doesn't begin with a dash"
 VIEWS = "the words are {} list, status, merge [--force], unmerge or refresh [--force]"
 
 
@@ -100,6 +101,8 @@ def words_that_are_no_command_are_explained(place):
         (["init", "x86-64"], 3, f"{INIT}: one is missing"),
         (["sysext", "merge", "--froce"], 3, f"{VIEWS.format('sysext')}: not `--froce`"),
         (["confext"], 2, f"{VIEWS.format('confext')}: one is missing"),
+        (["sysupdate", "--component=x"], 3, f"{UPDATES}: one is missing"),
+        (["sysupdate", "--component=x", "components"], 3, f"{UPDATES}: not `components`"),
         (["import-fs", "a"], 3, "the words are import-fs RES PATH, where RES.tree is in the depot, and PATH begins with a slash: one is missing"),
         (["remove", "/"], 2, "the words are remove PATH, where PATH begins with a slash, and isn't the root: not `/`"),
         (["check", "now"], 2, "the words are check: not `now`"),

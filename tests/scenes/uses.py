@@ -35,6 +35,20 @@ RESOURCES = {
     "y": {f"{IMAGE}y": b"ID=fedora\n", "usr/more": b"more\n"},
     **{name: {f"etc/extension-release.d/extension-release.{name}": RELEASE, f"etc/{name}.conf": name.encode()} for name in "cd"},
 }
+TRANSFER = b"""[Transfer]
+ProtectVersion=1
+Features=beta
+[Source]
+Type=regular-file
+Path=/images
+MatchPattern=foo_@v.raw
+[Target]
+Type=regular-file
+Path=/var/lib/foo
+"""
+RESOURCES["transfers"] = {"10-foo.transfer": TRANSFER, "beta.feature": b"[Feature]\nEnabled=yes\n"}
+RESOURCES["foo"] = {"foo_1.raw": b"one"}
+MANIFEST = f"{hashlib.sha256(b'two').hexdigest()}  foo_2.raw\n".encode()
 # The last command of each look: whatever came before, a change is possible.
 NEXT = "import-fs other /next"
 
@@ -45,6 +59,8 @@ def fill(place):
         place.resource(name, tree_of(files), files)
     place.resource("less", tree_of({"a": b"a", "b": b"b", "c": b"c"}), {"a": b"a", "b": b"b"})
     place.resource("bad", b"hostext-tree 1\nend\nend\n")
+    (place.depot / "images").mkdir()
+    (place.depot / "images/SHA256SUMS").write_bytes(MANIFEST)
 
 
 def an_old_text(place):
@@ -83,7 +99,7 @@ class Use:
     def name(self):
         """Under which it is counted."""
         words = self.command.split(" ")
-        return " ".join(words[:2]) if words[0] in ("sysext", "confext") else words[0]
+        return " ".join(words[:2]) if words[0] in ("sysext", "confext", "sysupdate") else words[0]
 
     @property
     def title(self):
@@ -140,6 +156,7 @@ ROOM_TO_MAKE = ("import-fs many /srv", "remove /srv")
 SAMPLE = b"entries 37\nfiles 23\nbytes 229\nsha256 bb3fd3417f076a5781f53ec623961780a1f6db97f22a19d1f161bace29f6bedc\n"
 WITH_CONFIGURATION = (*ON_HOST, "import-fs c /var/lib/confexts/c")
 CONFIGURED = (*WITH_CONFIGURATION, "confext merge")
+TRANSFERS = (*ON_HOST, "import-fs transfers /etc/sysupdate.d")
 EXISTS, IS_MERGED = b"refused 2 store-exists\n", b"refused 3 merged\n"
 ONE, BOTH, NONE = b"merged 1\nx\n", b"merged 2\nx\ny\n", b"unmerged\n"
 USES = [
@@ -177,6 +194,11 @@ USES = [
     Use("confext merge", b"merged 1\nc\n", WITH_CONFIGURATION, again=IS_MERGED),
     Use("confext refresh", b"merged 2\nc\nd\n", (*CONFIGURED, "import-fs d /var/lib/confexts/d")),
     Use("confext unmerge", NONE, CONFIGURED),
+    Use("sysupdate list", b"2 available\n1 installed protected\n", (*TRANSFERS, "import-fs foo /var/lib/foo")),
+    Use("sysupdate check-new", b"2\n", TRANSFERS),
+    Use("sysupdate check-new", b"refused 20 no-transfers\n", ON_HOST),
+    Use("sysupdate features", b"beta on\n", TRANSFERS),
+    Use("sysupdate components", b"components 0\n", TRANSFERS),
     Use("tree", tree_of(RESOURCES["host"]), ON_HOST),
     Use("tree /etc", tree_of({"os-release": RELEASE}), ON_HOST),
     Use("tree /etc", tree_of({"os-release": RELEASE}), ON_HOST, waits=True),

@@ -104,6 +104,10 @@ USAGES = [
     ("sample of more images than there may be", [b".", b".", b"sample", b"501"], 2),
     ("a number that begins with 0", [b".", b".", b"sample", b"01"], 2),
     ("sample of two numbers", [b".", b".", b"sample", b"1", b"1"], 3),
+    ("sysupdate without a verb", [b".", b".", b"sysupdate"], 2),
+    ("sysupdate of a component without a verb", [b".", b".", b"sysupdate", b"--component=x"], 3),
+    ("components of a component", [b".", b".", b"sysupdate", b"--component=x", b"components"], 3),
+    ("a component whose name begins with a dash", [b".", b".", b"sysupdate", b"--component=-x", b"list"], 2),
     ("a lone argument that is no UTF-8", [b"\xff"], 1),
     ("a store that is no UTF-8", [b"\xff", b".", b"layer"], 1),
     ("a text that is no UTF-8", [*COMPARE, b"1", b"\xff"], 1),
@@ -131,7 +135,7 @@ def of_tables(program):
 def help_shows_each_command(program):
     written, told, status = run(program, [b"--help"])
     expect((b"", told, status), (b"", b"", 0))
-    commands = "init import-fs remove sysext confext tree cat check migrate compare layer batch sample".split()
+    commands = "init import-fs remove sysext confext sysupdate tree cat check migrate compare layer batch sample".split()
     for said in (b"usage: hostext STORE DEPOT COMMAND ..\n", *(f"\n  {word}".encode() for word in commands)):
         if said not in written:
             raise Failed(f"{said!r} isn't in {written!r}")
