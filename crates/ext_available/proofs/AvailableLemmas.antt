@@ -1,5 +1,5 @@
 -- The versions that each source offers.
-use Rattle.std.proofs.Common.{◌≡◌, ◌↔◌, ◌⊎◌, inl, inr, ℕ, ◌<◌, Bool, true, false, cond, ◌||◌, List, [], ◌∷◌, ◌++◌, length, get_or, append-nil, append_assoc, Option, Some, None, refl, sym, ap, subst, ◌∙◌, arith}
+use Rattle.std.proofs.Common.{◌≡◌, ◌↔◌, ◌⊎◌, inl, inr, ℕ, ◌<◌, Bool, true, false, cond, ◌||◌, List, [], ◌∷◌, ◌++◌, length, drop, get_or, append-nil, append_assoc, Option, Some, None, refl, sym, ap, subst, ◌∙◌, arith}
 use Rattle.std.specs.Prelude.{IsSome}
 use Rattle.std.specs.List.{AllByRecursion}
 use Rattle.std.specs.Str.{bytes_eq}
@@ -66,13 +66,27 @@ offered_has (o ∷ os) v is =
       | false ↦ λ _ later. or_right _ _ (offered_has os v later)
     ] refl is
 
--- of the versions of the first source, those that are available are all that are
-pub all_available : (ts : List Transfer) (first : List Offer) (os : List (List Offer)) (found versions : List (List ℕ)) → AreThoseOf ts (first ∷ os) (offered_versions first) found → AreVersions found versions → AreAvailable ts (first ∷ os) versions
+-- and one of the versions is offered
+has_offered : (os : List Offer) (v : List ℕ) → has_version (offered_versions os) v ≡ true → IsSome (find_offer os v)
+has_offered [] v has = absurd (false≢true has)
+has_offered (o ∷ os) v has =
+    elim (bytes_eq o.version v) as (λ b. bytes_eq o.version v ≡ b → IsSome (cond b (Some o) (find_offer os v))) [
+      | true ↦ λ _. refl
+      | false ↦ λ other. elim (or_cases (bytes_eq v o.version) (has_version (offered_versions os) v) has) [
+        | inl same ↦ absurd
+            (false≢true (sym other ∙ subst (λ w. bytes_eq o.version w ≡ true) (sym (equal_bytes v o.version same)) (same_bytes o.version)))
+        | inr later ↦ has_offered os v later
+      ]
+    ] refl
+
+-- of the versions of the first source, those that are available by the others are all that are
+pub all_available : (ts : List Transfer) (first : List Offer) (os : List (List Offer)) (found versions : List (List ℕ)) → AreThoseOf ts os (offered_versions first) found → AreVersions found versions → AreAvailable ts (first ∷ os) versions
 all_available ts first os found versions those are = record {
   order = are.order;
   each = λ v. (
-    (λ has. ((those v).0 (sym (are.same v) ∙ has)).1),
-    (λ is. are.same v ∙ (those v).1 (offered_has first v is.offered.0, is)),
+    (λ has. let both = (those v).0 (sym (are.same v) ∙ has) in
+        record { offered = (has_offered first v both.0, both.1.offered); least = both.1.least }),
+    (λ is. are.same v ∙ (those v).1 (offered_has first v is.offered.0, record { offered = is.offered.1; least = is.least })),
   );
 }
 
@@ -80,8 +94,10 @@ all_available ts first os found versions those are = record {
 pub not_true : (b : Bool) → b ≡ false → ¬ (b ≡ true)
 not_true b is other = false≢true (sym is ∙ other)
 
--- there is a first source, and its offers are those at 0
-pub available_by : (ts : List Transfer) (os : List (List Offer)) (first : List Offer) (found versions : List (List ℕ)) → 0 < length os → first ≡ get_or os 0 first → AreThoseOf ts os (offered_versions first) found → AreVersions found versions → AreAvailable ts os versions
-available_by ts [] first found versions some is those are = absurd (omega arith)
-available_by ts (o ∷ os) first found versions some is those are =
-    all_available ts o os found versions (subst (λ (x : List Offer). AreThoseOf ts (o ∷ os) (offered_versions x) found) is those) are
+-- there is a first source, whose offers are those at 0, and the others come after it
+pub available_by : (ts : List Transfer) (os others : List (List Offer)) (first : List Offer) (found versions : List (List ℕ)) → 0 < length os → first ≡ get_or os 0 first → others ≡ drop 1 os → AreThoseOf ts others (offered_versions first) found → AreVersions found versions → AreAvailable ts os versions
+available_by ts [] others first found versions some is rest those are = absurd (omega arith)
+available_by ts (o ∷ os) others first found versions some is rest those are =
+    all_available ts o os found versions
+    (subst (λ (x : List (List Offer)). AreThoseOf ts x (offered_versions o) found) rest
+    (subst (λ (x : List Offer). AreThoseOf ts others (offered_versions x) found) is those)) are

@@ -28,7 +28,8 @@ pub fn available(
     requires each { length offers.now ≡ length transfers.now }
     ensures { IfOk result (AreAvailable transfers.now offers.now) }
 {
-    let found = available_of(alloc, transfers, offers, offers[0].as_slice())?;
+    let others = offers.split_at(1).1;
+    let found = available_of(alloc, transfers, others, offers[0].as_slice())?;
     Ok(Versions::of(found))
 }
 

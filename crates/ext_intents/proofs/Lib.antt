@@ -6,6 +6,7 @@ pub mod ViewFilesLemmas
 pub mod UpdateFilesLemmas
 pub mod UpdateStepLemmas
 pub mod LeastLemmas
+pub mod KnownLemmas
 pub mod UpdateAlikeLemmas
 pub mod AlikeLemmas
 pub mod ViewsLemmas

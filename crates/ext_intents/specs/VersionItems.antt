@@ -1,5 +1,5 @@
 -- What the code finds out of updates once, before it looks at each version.
-use Rattle.std.specs.Prelude.{◌≡◌, ℕ, ◌||◌, List, Option}
+use Rattle.std.specs.Prelude.{◌≡◌, ℕ, ◌||◌, true, List, Option}
 use Rattle.std.specs.List.{flat_map, list_any}
 use Rattle.std.specs.Option.{option_copied}
 use Rattle.ext_transfer.specs.declared.transfer.Transfer.{Transfer}
@@ -7,6 +7,10 @@ use Rattle.ext_versions.specs.Versions.{has_version}
 use Rattle.ext_intents.specs.Updates.{is_obsolete_by, protected_by, versions_of_items}
 use Rattle.ext_intents.specs.declared.updates.Updates.{Updates}
 use Rattle.ext_intents.specs.declared.version_items.Flags.{Flags}
+
+-- the version is available or has an instance
+abbrev pub IsKnown : Updates → List ℕ → Type 0
+IsKnown updates version = has_version updates.available version || has_version (versions_of_items updates.installed.items) version ≡ true
 
 -- a least version is above a version exactly where one of two is
 abbrev pub IsGreater : Option (List ℕ) → Option (List ℕ) → Option (List ℕ) → Type 0

@@ -4,7 +4,7 @@ ghost use Rattle.std.specs.List.{flat_map};
 ghost use Rattle.std.specs.Option.{option_copied};
 ghost use Rattle.ext_versions.specs.Versions.{AreVersions};
 ghost use Rattle.ext_intents.specs.Updates.{AreItems, AreKnown, is_obsolete_by, presence_of, protected_by, version_item, versions_of_items};
-ghost use Rattle.ext_intents.specs.VersionItems.{AreFlagsOf, IsGreatestLeast, IsGreater};
+ghost use Rattle.ext_intents.specs.VersionItems.{AreFlagsOf, IsGreatestLeast, IsGreater, IsKnown};
 
 use crate::updates::Updates;
 use ext_cmd::{Presence, VersionItem, VersionItems};
@@ -42,7 +42,8 @@ fn items_of(
     flags: &Flags,
     versions: Versions,
 ) -> Result<VersionItems, OutOfMemory>
-    requires { AreFlagsOf updates.now flags.now }
+    requires flags { AreFlagsOf updates.now flags.now }
+    requires known { AreKnown updates.now versions }
     ensures { IfOk result (λ items. items ≡ reverse (map (version_item updates.now) versions)) }
 {
     let mut items = Vec::with_capacity(alloc, versions.len())?;
@@ -53,17 +54,16 @@ fn items_of(
     Ok(VersionItems::from_vec(items))
 }
 
-// What is said of a version.
+// What is said of a version that is available or has an instance. One without an instance is available, and isn't searched for.
 fn item_of(updates: &Updates, flags: &Flags, version: Version) -> VersionItem
-    requires { AreFlagsOf updates.now flags.now }
+    requires flags { AreFlagsOf updates.now flags.now }
+    requires known { IsKnown updates.now version }
     ensures { result ≡ version_item updates.now version }
 {
     let bytes = version.bytes();
-    let available = updates.available.has(bytes);
-    let presence = presence_of(
-        updates.installed.versions.has(bytes),
-        flags.present.has(bytes),
-    );
+    let present = flags.present.has(bytes);
+    let available = !present || updates.available.has(bytes);
+    let presence = presence_of(updates.installed.versions.has(bytes), present);
     let protected = flags.protected.has(bytes);
     let obsolete = is_obsolete_by(flags.least, bytes);
     VersionItem {

@@ -10,5 +10,7 @@ returns c =
     let ts = c.args.transfers.now in
     let os = c.args.offers.now in
     let first = c.index-offers-0.result in
-    available_by ts os first c.in_ok-found.found.items c.of.result (omega (arith, c.requires.some, c.requires.each)) c.index-offers-0.is
-    (subst (λ (x : List Offer). AreThoseOf ts os (offered_versions x) c.in_ok-found.found.items) c.as_slice.ensures.same c.in_ok-found.ensures) c.of.ensures
+    let others = c.split_at.result.1.now in
+    available_by ts os others first c.in_ok-found.found.items c.of.result (omega (arith, c.requires.some, c.requires.each)) c.index-offers-0.is
+    c.split_at.ensures.back
+    (subst (λ (x : List Offer). AreThoseOf ts others (offered_versions x) c.in_ok-found.found.items) c.as_slice.ensures.same c.in_ok-found.ensures) c.of.ensures
