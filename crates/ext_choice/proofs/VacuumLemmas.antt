@@ -213,7 +213,7 @@ module _ (transfers : List Transfer) (coming : Option (List ℕ)) (items : List 
             )
       ]
 
-      goes_here : (item : Instance) → item.transfer ≡ place → has_version gone item.version ≡ true → Goes transfers coming items item
+      pub goes_here : (item : Instance) → item.transfer ≡ place → has_version gone item.version ≡ true → Goes transfers coming items item
       goes_here item at has = record {
         transfer = transfer;
         gone = gone;
@@ -237,7 +237,7 @@ module _ (transfers : List Transfer) (coming : Option (List ℕ)) (items : List 
             }
       ]
 
-      goes_now : (item : Instance) → item.transfer ≡ place → Goes transfers coming items item → has_version gone item.version ≡ true
+      pub goes_now : (item : Instance) → item.transfer ≡ place → Goes transfers coming items item → has_version gone item.version ≡ true
       goes_now item at goes =
           let same = one_transfer goes.transfer (subst (λ n. slice_get transfers n ≡ Some goes.transfer) at goes.there) in
           let theirs = subst (λ (t : Transfer). HasRoom t coming (of_transfer place items) goes.gone) (sym same)

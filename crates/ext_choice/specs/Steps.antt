@@ -18,3 +18,7 @@ after_transfer place items = filter (λ (item : Instance). not (nat_le item.tran
 -- the paths of the instances whose version goes
 abbrev pub gone_paths : List (List ℕ) → List Instance → List (List (List ℕ))
 gone_paths gone items = map (λ (item : Instance). item.path) (filter (λ (item : Instance). has_version gone item.version) items)
+
+-- the paths of the instances whose version stays
+abbrev pub left_paths : List (List ℕ) → List Instance → List (List (List ℕ))
+left_paths gone items = map (λ (item : Instance). item.path) (filter (λ (item : Instance). not (has_version gone item.version)) items)

@@ -1,4 +1,5 @@
--- The paths that go so that each target has room. That they stand in path order, each once, is this project's own.
+-- The paths that go so that each target has room, and those that stay. That those that go stand in path order, each once, is this
+-- project's own.
 use Rattle.std.specs.Prelude.{◌≡◌, ◌↔◌, ℕ, ◌<◌, ◌≤◌, ◌==◌, true, List, [], ◌∷◌, slice_get, Option, Some, Result, Ok, Err}
 use Rattle.std.specs.List.{Contains, filter}
 use Rattle.std.specs.List.Sorted.{IsStrictlySortedBy}
@@ -6,6 +7,7 @@ use Rattle.ext_text.specs.Path.{path_cmp}
 use Rattle.ext_transfer.specs.declared.transfer.Transfer.{Transfer}
 use Rattle.ext_versions.specs.Versions.{has_version}
 use Rattle.ext_installed.specs.declared.instance.Instance.{Instance}
+use Rattle.ext_choice.specs.declared.division.Division.{Division}
 use Rattle.ext_choice.specs.declared.room_err.RoomErr.{RoomErr}
 use Rattle.ext_choice.specs.declared.room_err.RoomErr.TheVariants.{OutOfMemory, NoRoom}
 use Rattle.ext_choice.specs.Room.{HasRoom, LacksRoom}
@@ -62,3 +64,21 @@ abbrev pub Vacuums : List Transfer → Option (List ℕ) → List Instance → R
 Vacuums transfers coming items (Ok paths) = IsVacuum transfers coming items paths
 Vacuums transfers coming items (Err OutOfMemory) = Unit {0}
 Vacuums transfers coming items (Err (NoRoom file count)) = LacksFirst transfers coming items file count
+
+-- the path of an instance that stays
+pub record Stays (transfers : List Transfer) (coming : Option (List ℕ)) (items : List Instance) (path : List (List ℕ)) : Type 0 where
+  pub item : Instance
+  pub among : Contains items item
+  pub at : item.path ≡ path
+  pub stays : ¬ Goes transfers coming items item
+
+-- each transfer has room; the paths that go, and those of all other instances. A path of two instances may be among both
+pub record IsDivision (transfers : List Transfer) (coming : Option (List ℕ)) (items : List Instance) (division : Division) : Type 0 where
+  pub vacuum : IsVacuum transfers coming items division.removed
+  pub others : (path : List (List ℕ)) → Contains division.staying path ↔ Stays transfers coming items path
+
+-- what goes and what stays, or the first transfer that lacks room; memory may run out for any instances
+abbrev pub Divides : List Transfer → Option (List ℕ) → List Instance → Result Division RoomErr → Type 0
+Divides transfers coming items (Ok division) = IsDivision transfers coming items division
+Divides transfers coming items (Err OutOfMemory) = Unit {0}
+Divides transfers coming items (Err (NoRoom file count)) = LacksFirst transfers coming items file count

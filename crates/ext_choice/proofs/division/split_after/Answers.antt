@@ -1,7 +1,7 @@
 use Rattle.std.proofs.Common.{rules, ◌∙◌}
 use Rattle.std.proofs.lemmas.List.Sorted.{IsPartitionPoint-from_clause}
 use Rattle.ext_choice.proofs.VacuumLemmas.{is_up_to, split_here, split_later, up_to_splits}
-use Rattle.ext_choice.proofs.vacuuming.split_after.Goals as goal
+use Rattle.ext_choice.proofs.division.split_after.Goals as goal
 
 pub returns-clause-here : goal.returns-clause-here
 returns-clause-here c =
