@@ -1,0 +1,10 @@
+pub mod ClashLemmas
+pub mod PathsLemmas
+pub mod AboveLemmas
+pub mod PiecesLemmas
+pub mod UpdatedLemmas
+pub mod LoopLemmas
+pub mod ManifestLemmas
+pub mod LawsLemmas
+pub mod KeepingLemmas
+pub mod ForCallers

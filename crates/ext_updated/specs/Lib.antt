@@ -1,0 +1,9 @@
+pub mod Items
+pub mod Clash
+pub mod Steps
+pub mod Pieces
+pub mod Putting
+pub mod Updated
+pub mod Manifests
+pub mod Keeping
+pub mod Laws
