@@ -7,7 +7,7 @@ import time
 
 from scenes.devices import become_nobody
 from scenes.repositories import CARRIED, clone, end, in_each, small
-from scenes.running import TOP, Failed, expect, shortened
+from scenes.running import TOP, VERSION, Failed, expect, shortened
 from scenes.sessions import the_first_session
 
 PROVES = r"""
@@ -127,12 +127,12 @@ def on_another_machine_it_builds(repository):
     expect(repository.run("hostext"), (b"\n", b"hostext: the carried program doesn't run here\n" + BUILT_IT, 23))
 
 
-VERSION = b"hostext 0.1.0\n", b"", 0
+NAMES_ITSELF = VERSION, b"", 0
 
 
 def a_clone_runs_the_carried_program_without_the_kit(repository):
     for _ in range(2):
-        expect(repository.run("hostext", "--version"), VERSION)
+        expect(repository.run("hostext", "--version"), NAMES_ITSELF)
     kept = repository.home / f".cache/hostext{repository.place.resolve()}/hostext.program"
     if not kept.is_file():
         raise Failed(f"nothing is kept at {kept}")
@@ -152,22 +152,22 @@ def a_clone_that_cannot_be_written_runs_it(repository):
         path.chmod(0o755)
     for mode in 0o555, 0o777, 0o777:
         repository.home.chmod(mode)
-        expect(repository.run("hostext", "--version", before=become_nobody), VERSION)
+        expect(repository.run("hostext", "--version", before=become_nobody), NAMES_ITSELF)
     for path in (repository.place, *(path for path in repository.place.rglob("*") if path.is_dir())):
         path.chmod(0o755)
 
 
 def a_clone_with_a_changed_source_builds(repository):
-    expect(repository.run("hostext", "--version"), VERSION)
+    expect(repository.run("hostext", "--version"), NAMES_ITSELF)
     beside = repository.place / "crates/ext_folder_probe/src/main.rt"
     beside.write_text(beside.read_text() + "\n")
-    expect(repository.run("hostext", "--version"), VERSION)
+    expect(repository.run("hostext", "--version"), NAMES_ITSELF)
     source = repository.place / "crates/ext_text/src/lib.rt"
     before = source.read_text()
     source.write_text(before + "\n")
     expect(repository.run("hostext", "--version"), needs_the_kit(OTHER_SOURCES))
     source.write_text(before)
-    expect(repository.run("hostext", "--version"), VERSION)
+    expect(repository.run("hostext", "--version"), NAMES_ITSELF)
     source.with_name("more.rt").touch()
     expect(repository.run("hostext", "--version"), needs_the_kit(OTHER_SOURCES))
     repository.tool("rt", 'mkdir out; printf "#!/bin/sh\\necho built\\n" >out/ext_cli; chmod 755 out/ext_cli')
@@ -176,7 +176,7 @@ def a_clone_with_a_changed_source_builds(repository):
 
 
 def a_clone_with_a_carried_program_of_other_bytes_builds(repository):
-    expect(repository.run("hostext", "--version"), VERSION)
+    expect(repository.run("hostext", "--version"), NAMES_ITSELF)
     with open(repository.place / CARRIED / "hostext", "ab") as program:
         program.write(b"\n")
     expect(repository.run("hostext", "--version"), needs_the_kit(OTHER_BYTES))

@@ -12,6 +12,9 @@ LAYER = [b".", b".", b"layer"]
 COMPARE = [b".", b".", b"compare"]
 MOST_ENTRIES = 262_144
 
+# What `--version` writes.
+VERSION = b"hostext 0.2.0\nproved with rattle-kit-13f logic dac8208d650f15bf\n"
+
 # The digests of no byte, and of `abc`.
 EMPTY = "e3b0c44298fc1c149afbf4c8996fb92427ae41e4649b934ca495991b7852b855"
 ABC = "ba7816bf8f01cfea414140de5dae2223b00361a396177a9cb410ff61f20015ad"

@@ -1,5 +1,5 @@
 """What the words are, and the bytes of standard input: tables of what is run and of what must come of it."""
-from scenes.running import ABC, COMPARE, EMPTY, FULL, HOST, LAYER, MOST_ENTRIES, Failed, directories, expect, named, removing, run, tree_text
+from scenes.running import ABC, COMPARE, EMPTY, FULL, HOST, LAYER, MOST_ENTRIES, VERSION, Failed, directories, expect, named, removing, run, tree_text
 
 MOST_SOURCE = 16_777_216
 
@@ -129,7 +129,7 @@ def of_tables(program):
         yield f"usage: {name}", case(words, HOST, b"", b"hostext: usage %d\n" % place, 2)
     yield "folders that aren't there", case([b"/no/store", b"", b"layer"], HOST, HOST, b"", 0)
     yield "too long: one byte more", case(LAYER, b"\n" * (MOST_SOURCE + 1), b"", b"hostext: input too long\n", 10)
-    yield "--version", case([b"--version"], b"", b"hostext 0.1.0\n", b"", 0)
+    yield "--version", case([b"--version"], b"", VERSION, b"", 0)
 
 
 def help_shows_each_command(program):

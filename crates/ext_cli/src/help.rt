@@ -1,6 +1,8 @@
 // What `--help` and `--version` print.
 
-pub(crate) const VERSION: &str = "hostext 0.1.0";
+/// The version, and the kit that the program is proved with, as README and dist/x86_64-linux/made-from have it.
+pub(crate) const VERSION: &str = "hostext 0.2.0
+proved with rattle-kit-13f logic dac8208d650f15bf";
 
 pub(crate) const HELP: &str = "usage: hostext STORE DEPOT COMMAND ..
 
@@ -54,5 +56,11 @@ It ends with 0 where the command was done, 1 refused, 2 usage, 3 read fault,
 9 unfinished, 10 input too long. `hostext: usage N` says that word N after
 DEPOT is the first that no command has there, or that it is missing.
 
+Where standard error is a terminal, a command that works for more than half a
+second tells there how much of STORE and DEPOT it has read and written so far.
+
 HOSTEXT_EXPLAIN=yes has a second line on standard error say why, also where
-that is no terminal. HOSTEXT_LOCK=no takes no lock on STORE.";
+that is no terminal. HOSTEXT_LOCK=no takes no lock on STORE.
+HOSTEXT_PROGRESS=no tells nothing of what was read and written so far.
+
+`hostext --version` writes the version, and the kit that it is proved with.";

@@ -2,7 +2,9 @@
 //!
 //! It hands the words after DEPOT, the standard streams, and the folders STORE and DEPOT to `run`, and ends with the number
 //! of the status. Where that is 2 or more it prints a line on standard error, and the reason on a second one where somebody
-//! reads it. Both folders must exist. `compare`, `layer` and `sample` look at neither.
+//! reads it. Both folders must exist. `compare`, `layer` and `sample` look at neither. A command that takes its time tells on a
+//! terminal how much of them it has read and written so far: the devices that are handed to `run` count it, and are else those
+//! inside of them.
 //!
 //! STORE is locked while a command works on it: by one that may change it for itself alone, by one that reads it together with
 //! others. A batch may change it, and locks it once its lines were read.
@@ -10,14 +12,21 @@
 
 mod access;
 mod commands;
+mod counted;
 mod ending;
 mod escaping;
 mod help;
+mod pace;
+mod progress;
+mod progress_line;
 mod reasons;
+mod tally;
 mod usage;
+mod wiping_sink;
 
 use access::{Access, WaitingLine};
 use commands::nesting_for;
+use counted::Counted;
 use ending::{Ending, report};
 use ext_cmd::{CmdErr, Command, read_words};
 use ext_folder::{FolderDepot, FolderDisk, LockedDisk, Nesting, ReleasingSink};
@@ -25,8 +34,10 @@ use ext_io::{StdSink, StdSource};
 use ext_text::{OutOfMemory, Text, Words};
 use ext_top::{Devices, Status, run};
 use help::{HELP, VERSION};
+use progress::Progress;
 use std::process::ExitCode;
 use std::{env, io};
+use wiping_sink::WipingSink;
 
 fn main(rt: HostRuntime) -> ExitCode {
     let ending = outcome(&rt);
@@ -117,19 +128,22 @@ fn run_apart(
     let store_root = Text::from_bytes(rt.alloc(), store.as_bytes())?;
     let depot_root = Text::from_bytes(rt.alloc(), depot.as_bytes())?;
     let disk = FolderDisk::private(*rt, store_root);
+    let disk = LockedDisk::new(disk, lock, WaitingLine { rt: *rt });
+    let depot = FolderDepot::new(*rt, depot_root);
+    let progress = Progress::new(*rt);
     let mut devices = Devices {
         source: StdSource::new(rt.stdin()),
-        sink,
-        disk: LockedDisk::new(disk, lock, WaitingLine { rt: *rt }),
-        depot: FolderDepot::new(*rt, depot_root),
+        sink: WipingSink::new(sink, &progress),
+        disk: Counted::new(disk, &progress),
+        depot: Counted::new(depot, &progress),
     };
     let status = run(rt.alloc(), words, &mut devices);
-    let store = store.as_str();
+    progress.wipe();
     reasons::ending_with(
         rt.alloc(),
         status,
-        store,
-        devices.disk.trouble(),
-        devices.depot.trouble(),
+        store.as_str(),
+        devices.disk.inner().trouble(),
+        devices.depot.inner().trouble(),
     )
 }
