@@ -21,6 +21,7 @@ NO_NAMES = frozenset((b"", b".", b".."))
 CONTROL = re.compile(rb"[\x00-\x1f\x7f]")
 OPAQUE = ("trusted.overlay.opaque", "user.overlay.opaque")
 PIECE = 1 << 20
+FOLDER_ONLY = os.O_RDONLY | os.O_DIRECTORY | os.O_NOFOLLOW
 
 
 class Refused(Exception):
@@ -72,11 +73,12 @@ def no_copy(piece):
     """What becomes of a file's bytes where they are read for their digest alone."""
 
 
-def stamp_of(path, copy=no_copy):
-    """The size and the digest of a file, read once; each piece of it is handed to `copy`."""
+def stamp_of(path, copy=no_copy, folder=None):
+    """The size and the digest of a file, read once; each piece of it is handed to `copy`. Its path may be one below the handle of a
+    folder."""
     digest = hashlib.sha256()
     size = 0
-    handle = os.open(path, os.O_RDONLY | os.O_NOFOLLOW)
+    handle = os.open(path, os.O_RDONLY | os.O_NOFOLLOW, dir_fd=folder)
     with open(handle, "rb") as file:
         while piece := file.read(PIECE):
             size += len(piece)
@@ -193,3 +195,35 @@ def tree_text(lines):
     """The text of these lines, with the version that they need."""
     version = b"2" if any(line[:2] in (b"o ", b"w ") for line in lines) else b"1"
     return b"hostext-tree " + version + b"\n" + b"".join(lines) + b"end\n"
+
+
+def write_all(handle, piece):
+    while piece:
+        piece = piece[os.write(handle, piece) :]
+
+
+class Folders:
+    """Handles of the folders on the way to an entry: each is opened in the one above it, and no link is followed."""
+
+    def __init__(self, root):
+        self.names, self.handles = (), [os.open(root, os.O_RDONLY | os.O_DIRECTORY)]
+
+    def __enter__(self):
+        return self
+
+    def __exit__(self, *_):
+        for handle in self.handles:
+            os.close(handle)
+
+    def at(self, names):
+        while self.names != names[: len(self.names)]:
+            os.close(self.handles.pop())
+            self.names = self.names[:-1]
+        for name in names[len(self.names) :]:
+            self.handles.append(self.entered(name))
+            self.names += (name,)
+        return self.handles[-1]
+
+    def entered(self, name):
+        """The handle of a folder in the last one."""
+        return os.open(name, FOLDER_ONLY, dir_fd=self.handles[-1])

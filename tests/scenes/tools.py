@@ -26,7 +26,7 @@ def tool_of_nobody(place, name, *words):
     """The same of a tool that a user runs who may do nothing. It is a copy, which that user may read."""
     tools = beside(place, "tools")
     tools.mkdir()
-    for path in TOOLS / name, TOOLS / "entries.py", place.program:
+    for path in TOOLS / name, *TOOLS.glob("*.py"), place.program:
         shutil.copy(path, tools)
     around = {**os.environ, "HOSTEXT": str(tools / place.program.name)}
     for python in "/usr/bin/python3", sys.executable:
@@ -240,13 +240,10 @@ def the_whole_text_is_looked_through_before_a_file_is_read(place):
     notes, text, out = beside(place, "notes"), beside(place, "text"), beside(place, "out")
     fake = script(beside(place, "fake"), f'echo "$3" >>"{notes}"\ncat "{text}"')
     around = {**os.environ, "HOSTEXT": str(fake)}
-    for line in "d 755 ../a", "f 644 3 x", "l 1 a", "q a", "d 9 a", "d 755 ":
+    for line, reason in ("d 755 ../b", "a name that no path has"), ("d 755 a", "its path doesn't come after the one before"), ("q b", "it is the line of no entry"):
         text.write_bytes(tree_text(f"f 644 3 {ABC} a", line))
-        told = f"unpack: line 3 of the tree text is none: {line}\n".encode()
+        told = f"unpack: what the store gives is no tree text: line 3: {reason}\n".encode()
         expect(tool(place, "unpack", place.store, "/", out, env=around), (b"", told, 1))
-    for cut in b"", b"hostext-tree 1\n", tree_text("d 755 a")[:-4], tree_text("d 755 a", version=3):
-        text.write_bytes(cut)
-        expect(tool(place, "unpack", place.store, "/", out, env=around), (b"", b"unpack: what the store gives is no tree text\n", 1))
     if set(notes.read_text().split()) != {"tree"}:
         raise Failed(f"the commands are {notes.read_text().split()}")
     as_it_was(place, out, False)
@@ -308,8 +305,8 @@ def the_program_is_found_once(place):
     place.expect(("init x86-64 system", DONE), ("import-fs r /", DONE))
     tools, notes = beside(place, "tools"), beside(place, "notes")
     tools.mkdir()
-    for name in "unpack", "entries.py":
-        shutil.copy(TOOLS / name, tools)
+    for path in TOOLS / "unpack", *TOOLS.glob("*.py"):
+        shutil.copy(path, tools)
     script(tools / "program", f'echo "$1" >>"{notes}"\necho "it builds" >&2\necho "{place.program}"')
     around = {name: value for name, value in os.environ.items() if name != "HOSTEXT"}
     found = tool(place, tools / "unpack", place.store, "/", beside(place, "out"), env=around)

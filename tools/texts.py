@@ -1,0 +1,135 @@
+"""Manifests and tree texts, read by the rules of docs/FORMATS.md: what they list, or the first faulty line, counted from 1."""
+import re
+
+from entries import MOST_ENTRIES, MOST_FILE_BYTES, MOST_TARGET_BYTES, Refused, check_path, check_text
+
+# The most bytes of a manifest, and of a tree text, that stand in a depot.
+MOST_TEXT_BYTES = 67_108_864
+LISTED = re.compile(rb"([0-9A-Fa-f]{64}) [ *](.+)", re.S)
+HEADER = re.compile(rb"hostext-tree ([12])")
+MODE = b"(0|[1-7][0-7]{0,3})"
+# The line of each kind, by its first byte. The target of a link may hold spaces.
+DIRECTORY = re.compile(b"([do]) %b (.+)" % MODE, re.S)
+FORMS = {
+    **dict.fromkeys((b"d", b"o"), DIRECTORY),
+    b"f": re.compile(b"(f) %b (0|[1-9][0-9]{0,9}) ([0-9a-f]{64}) (.+)" % MODE, re.S),
+    b"l": re.compile(b"(l) ([1-9][0-9]{0,3}) (.+)", re.S),
+    b"w": re.compile(b"(w) (.+)", re.S),
+}
+
+
+class Faulty(Refused):
+    """The first faulty line of a text, and what is wrong with it."""
+
+    def __init__(self, line, reason):
+        super().__init__(f"line {line}: {reason}")
+        self.line = line
+
+
+def listed_of(line):
+    """The name of a manifest's line, and its digest in lower case."""
+    found = LISTED.fullmatch(line)
+    if not found:
+        raise Refused("it is no digest and name")
+    check_text(found[2], "the name")
+    return found[2], found[1].lower().decode()
+
+
+def lines_of(text):
+    """The lines of a text whose last one may lack its newline."""
+    lines = text.split(b"\n")
+    return lines if lines[-1] else lines[:-1]
+
+
+def read_manifest(text):
+    """The digests of a manifest, by their names."""
+    found = {}
+    for at, line in enumerate(lines_of(text), 1):
+        try:
+            name, digest = listed_of(line)
+        except Refused as reason:
+            raise Faulty(at, reason) from None
+        if found.setdefault(name, digest) != digest:
+            raise Faulty(at, "its name was listed with another digest")
+    return found
+
+
+def link_of(length, rest):
+    """The target and the path of a link's line, from its length on."""
+    target, space, path = rest[:length], rest[length : length + 1], rest[length + 1 :]
+    if length > MOST_TARGET_BYTES or space != b" ":
+        raise Refused("it is the line of no entry")
+    check_text(target, "its target")
+    return b"l", target, path
+
+
+def parts_of(line):
+    """The kind, the fields and the path of a line."""
+    form = FORMS.get(line[:1])
+    found = form and form.fullmatch(line)
+    if not found:
+        raise Refused("it is the line of no entry")
+    if found[1] == b"l":
+        return link_of(int(found[2]), found[3])
+    if found[1] == b"f" and int(found[3]) > MOST_FILE_BYTES:
+        raise Refused(f"a file of more than {MOST_FILE_BYTES:,} bytes")
+    return found.groups()
+
+
+def entry_of(line):
+    """The entry of a line: the kind, its fields, and the path's names."""
+    kind, *fields, path = parts_of(line)
+    names = tuple(path.split(b"/"))
+    check_path(names)
+    return kind, fields, names
+
+
+class Order:
+    """What the entries before a line let stand there: a later path, whose parent is a directory before it."""
+
+    def __init__(self, version):
+        self.version, self.last, self.way, self.has_marks = version, (), (), False
+
+    def take(self, kind, names):
+        self.has_marks |= kind in (b"o", b"w")
+        if self.has_marks and self.version == b"1":
+            raise Refused("version 1 has neither opaque directories nor whiteouts")
+        if names <= self.last:
+            raise Refused("its path doesn't come after the one before")
+        if self.way[: len(names) - 1] != names[:-1]:
+            raise Refused("no directory stands above it")
+        self.last, self.way = names, names if kind in (b"d", b"o") else names[:-1]
+
+    def end(self):
+        if self.version == b"2" and not self.has_marks:
+            raise Refused("version 2 has an opaque directory or a whiteout")
+
+
+def read_entries(lines, order):
+    """The entries of these lines up to an `end`."""
+    found = []
+    for at, line in enumerate(lines, 2):
+        try:
+            if line == b"end":
+                order.end()
+                return found
+            entry = entry_of(line)
+            order.take(entry[0], entry[2])
+        except Refused as reason:
+            raise Faulty(at, reason) from None
+        if len(found) == MOST_ENTRIES:
+            raise Faulty(at, f"a tree has at most {MOST_ENTRIES:,} entries")
+        found.append(entry)
+    raise Faulty(len(lines) + 2, "the text stops early")
+
+
+def read_tree(text):
+    """The entries of a tree text: of each the kind, its fields, and the path's names."""
+    *lines, rest = text.split(b"\n")
+    header = HEADER.fullmatch(lines[0] if lines else b"")
+    if not header:
+        raise Faulty(1, "it is not the first line of a tree text")
+    found = read_entries(lines[1:], Order(header[1]))
+    if rest or len(lines) > len(found) + 2:
+        raise Faulty(len(found) + 3, "something follows the end")
+    return found
