@@ -1,0 +1,168 @@
+# Completes the words of hostext(1) in bash. It needs nothing but bash 4 and awk; bash-completion reads it by itself where it is
+# installed as share/bash-completion/completions/hostext, and otherwise a line `source` does.
+#
+# Names of a store and of a depot may have any byte that stands in a path, and bash breaks words at some of them. So the line is
+# read here once more, and each reply is quoted as the word was begun.
+
+# Cuts the line up to the cursor into `words`, without quotes, the last being the word that is completed. `shared` is how much of
+# that one bash keeps as it stands, and `quote` the quote that is open in it. Variables and a tilde are replaced; nothing is run.
+_hostext_split() {
+    local line=${COMP_LINE:0:COMP_POINT} word='' begun='' before=0 char rest i
+    words=() shared=0 quote=''
+    for ((i = 0; i < ${#line}; i++)); do
+        char=${line:i:1} rest=${line:i+1}
+        case $quote$char in
+            "''" | '""') quote='' shared=$before ;;
+            "'"?) word+=$char ;;
+            '"\') [[ $rest == [\"\\\$\`]* ]] && char=${rest:0:1} && ((i++)); word+=$char ;;
+            '$' | '"$')
+                begun=yes
+                if [[ $rest =~ ^([A-Za-z_][A-Za-z0-9_]*) || $rest =~ ^\{([A-Za-z_][A-Za-z0-9_]*)\} ]]; then
+                    word+=${!BASH_REMATCH[1]-} && ((i += ${#BASH_REMATCH[0]}))
+                else
+                    word+=$char
+                fi
+                ;;
+            '"'?*) word+=$char ;;
+            \' | \") quote=$char before=$shared shared=${#word} begun=yes ;;
+            \\) word+=${rest:0:1} && begun=yes && ((++i)) ;;
+            [[:blank:]])
+                [[ -z $begun ]] || words+=("$word")
+                word='' begun='' shared=0
+                ;;
+            [\;\|\&\(]) words=() word='' begun='' shared=0 ;;
+            \~) [[ -z $begun && $rest == [/[:blank:]]* ]] && char=$HOME; word+=$char begun=yes ;;
+            *)
+                word+=$char begun=yes
+                [[ $COMP_WORDBREAKS != *"$char"* ]] || shared=${#word}
+                ;;
+        esac
+    done
+    words+=("$word")
+}
+
+# Sets `quoted` to a text as it stands in the quote that is open, or with backslashes where none is.
+_hostext_quote() {
+    local special=$' \t"\'\\$`&|;()<>*?[]{}!#~^' i char
+    [[ $quote != \" ]] || special='"\$`'
+    quoted=''
+    if [[ $quote == \' ]]; then
+        quoted=${1//\'/\'\\\'\'}
+        return
+    fi
+    for ((i = 0; i < ${#1}; i++)); do
+        char=${1:i:1}
+        [[ $special != *"$char"* ]] || quoted+=\\
+        quoted+=$char
+    done
+}
+
+# Replies those of the texts that begin with the word.
+_hostext_reply() {
+    local word=${words[-1]} text quoted
+    for text; do
+        [[ $text == "$word"* ]] || continue
+        _hostext_quote "${text:shared}"
+        COMPREPLY+=("$quoted")
+    done
+}
+
+_hostext_option() {
+    compopt "$@" 2>/dev/null
+}
+
+# Runs a command over the store of the line, which takes no lock. It ends by itself where STORE is no store.
+_hostext_run() {
+    [[ -d ${words[1]} ]] || return
+    local limit=()
+    ! command -v timeout >/dev/null || limit=(timeout 5)
+    HOSTEXT_LOCK=no "${limit[@]}" "${words[0]}" "${words[1]}" "${words[2]}" "$@" </dev/null 2>/dev/null
+}
+
+# Writes the entries of the store's directory at a path: of each its kind and its name.
+_hostext_entries() {
+    _hostext_run tree "${1:-/}" | LC_ALL=C awk '
+        { name = $0 }
+        /^[do] / { sub(/^[do] [0-7]+ /, "", name) }
+        /^f / { sub(/^f [0-7]+ [0-9]+ [0-9a-f]+ /, "", name) }
+        /^l / { sub(/^l [0-9]+ /, "", name); name = substr(name, $2 + 2) }
+        /^[dofl] / && name !~ /\// { print ($1 == "o" ? "d" : $1), name }'
+}
+
+# Replies the paths of the store that are of one of the kinds. A directory is also the way to what is in it.
+_hostext_paths() {
+    local folder=${words[-1]%/*} line kind name
+    [[ $folder != */ ]] || return
+    while IFS= read -r line; do
+        kind=${line%% *} name=${line#* }
+        case $kind in
+            d) [[ $1 == *d* ]] && _hostext_reply "$folder/$name" || _hostext_reply "$folder/$name/" ;;
+            *) [[ $1 != *"$kind"* ]] || _hostext_reply "$folder/$name" ;;
+        esac
+        [[ $kind != d || $folder/$name != "${words[-1]}"* ]] || _hostext_option -o nospace
+    done < <(_hostext_entries "$folder")
+}
+
+# Replies the resources of the depot, and folders on the way to some.
+_hostext_resources() {
+    local depot=${words[2]} folder='' path name
+    [[ ${words[-1]} != */* ]] || folder=${words[-1]%/*}/
+    for path in "$depot/$folder"*; do
+        name=${path##*/}
+        if [[ $name == ?*.tree && -f $path ]]; then
+            _hostext_reply "$folder${name%.tree}"
+        elif [[ -d $path && ! -f $path.tree ]]; then
+            _hostext_reply "$folder$name/"
+            [[ $folder$name/ != "${words[-1]}"* ]] || _hostext_option -o nospace
+        fi
+    done
+}
+
+_hostext_components() {
+    local name
+    while IFS= read -r name; do
+        _hostext_reply "--component=$name"
+    done < <(_hostext_run sysupdate components | tail -n +2)
+}
+
+_hostext_updates() {
+    if ((${#words[@]} == 6)); then
+        [[ ${words[4]} != --component=* ]] || _hostext_reply list check-new features
+    elif [[ ${words[4]} == --component=* ]]; then
+        _hostext_components
+    else
+        _hostext_reply list check-new features components --component=
+        [[ ${words[4]} != -* ]] || _hostext_option -o nospace
+    fi
+}
+
+# What may stand after a command, by how many words there are.
+_hostext_arguments() {
+    case ${words[3]}:${#words[@]} in
+        init:5) _hostext_reply x86 x86-64 arm arm64 riscv64 s390x ppc64-le loongarch64 ;;
+        init:6) _hostext_reply system initrd ;;
+        import-fs:5) _hostext_resources ;;
+        import-fs:6 | tree:5) _hostext_paths d ;;
+        remove:5) _hostext_paths dfl ;;
+        cat:5) _hostext_paths f ;;
+        sysext:5 | confext:5) _hostext_reply list status merge unmerge refresh ;;
+        sysext:6 | confext:6) [[ ${words[4]} != merge && ${words[4]} != refresh ]] || _hostext_reply --force ;;
+        sysupdate:5 | sysupdate:6) _hostext_updates ;;
+    esac
+}
+
+_hostext() {
+    local words shared quote
+    COMPREPLY=()
+    _hostext_split
+    case ${#words[@]} in
+        2 | 3)
+            _hostext_option -o filenames -o dirnames
+            ((${#words[@]} == 3)) || [[ ${words[1]} != -* ]] || _hostext_reply --help --version
+            ;;
+        4) _hostext_reply init import-fs remove sysext confext sysupdate tree cat check migrate compare layer batch sample ;;
+        *) _hostext_arguments ;;
+    esac
+}
+
+complete -F _hostext hostext
