@@ -1,0 +1,99 @@
+"""A second reading of the rules of docs/FORMATS.md on the words of commands, which tests/mutations holds the program to: the place of a
+usage fault, and what the reply to a command may look like."""
+import re
+
+from scenes.index_texts import ARCHITECTURES
+from scenes.tree_texts import is_name, names_of
+
+VERBS = {b"list": (), b"status": (), b"merge": (b"--force",), b"unmerge": (), b"refresh": (b"--force",)}
+UPDATES = b"list", b"check-new", b"features"
+NOT_IN_A_LINE = b"layer", b"batch", b"sample"
+
+
+def is_path(word):
+    return word == b"/" or (word[:1] == b"/" and bool(names_of(word[1:])))
+
+
+def is_path_below(word):
+    return word != b"/" and is_path(word)
+
+
+def is_resource(word):
+    return bool(names_of(word)) and bool(names_of(word + b".tree"))
+
+
+def hierarchies_of(word):
+    """The names of hierarchies, or nothing."""
+    names = [part[1:] for part in word.split(b":")]
+    is_sound = all(part[:1] == b"/" and is_name(part[1:]) and part[1:2] != b"-" for part in word.split(b":"))
+    return set(names) if is_sound and len(names) <= 16 and len(set(names)) == len(names) else None
+
+
+def is_component(word):
+    name = word.removeprefix(b"--component=")
+    return word.startswith(b"--component=") and is_name(name) and len(name) <= 243 and name[:1] != b"-"
+
+
+def is_sample(word):
+    return bool(re.fullmatch(rb"[1-9][0-9]{0,2}", word)) and int(word) <= 500
+
+
+def is_any(_word):
+    return True
+
+
+def one_of(words):
+    return lambda word: word in words
+
+
+# What each word after the first may be; `init` and the verbs of views and updates have more to say.
+FORMS = {
+    b"import-fs": [(is_resource, is_path)],
+    b"remove": [(is_path_below,)],
+    b"tree": [(), (is_path,)],
+    b"cat": [(is_path_below,)],
+    b"check": [()],
+    b"migrate": [()],
+    b"compare": [(is_any, is_any)],
+    b"layer": [()],
+    b"batch": [()],
+    b"sample": [(is_sample,)],
+    b"sysupdate": [(one_of(UPDATES),), (is_component, one_of(UPDATES)), (one_of((b"components",)),)],
+    b"init": [(one_of(ARCHITECTURES), one_of((b"system", b"initrd")), *(hierarchies_of,) * count) for count in (0, 1, 2)],
+    **dict.fromkeys(
+        (b"sysext", b"confext"),
+        [form for verb, options in VERBS.items() for form in [(one_of((verb,)),), *((one_of((verb,)), one_of((option,))) for option in options)]],
+    ),
+}
+
+
+def begins(words, form):
+    return len(words) <= len(form) and all(holds(word) for holds, word in zip(form, words))
+
+
+def are_apart(words):
+    """Whether the hierarchies of `init` are of one class each; a class without a list has its default."""
+    given = [hierarchies_of(word) for word in words[3:]]
+    first, second = [*given, *({b"opt", b"usr"}, {b"etc"})[len(given) :]]
+    return not first & second
+
+
+def place_of(words, first_words=FORMS):
+    """The place of the first word that no command has there, or nothing where the words are a command."""
+    for length in range(1, len(words) + 1):
+        name, *others = words[:length]
+        is_begun = name in first_words and any(begins(others, form) for form in FORMS[name])
+        if not is_begun or (name == b"init" and length == 5 and not are_apart(words[:length])):
+            return length
+    is_whole = words and any(len(words) - 1 == len(form) and begins(words[1:], form) for form in FORMS[words[0]])
+    return None if is_whole and (words[0] != b"init" or are_apart(words)) else len(words) + 1
+
+
+IN_A_LINE = [name for name in FORMS if name not in NOT_IN_A_LINE]
+
+TREE = rb"hostext-tree [12]\n(?:[dofl] [^\n]*\n|w [^\n]*\n)*?end\n"
+MERGED = rb"(?:unmerged|merged [0-9]+(?:\n[^\n/]+)*?)\n"
+REFUSED = {
+    b"no-store": 1, b"store-exists": 2, b"merged": 3, b"read-only": 4, b"no-host-release": 5, b"bad-host-release": 6, b"limit": 7, b"no-entry": 8, b"not-directory": 9,
+    b"not-file": 10, b"no-transfers": 20, b"bad-transfer": 21, b"bad-manifest": 22, b"bad-tree": 23, b"not-in-depot": 24, b"mismatch": 25, b"none-newer": 26, b"bad-feature": 32, b"none-on": 33,
+}
