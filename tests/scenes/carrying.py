@@ -5,7 +5,7 @@ import shutil
 from pathlib import Path
 
 from scenes.repositories import CARRIED, Repository, digest, in_each
-from scenes.running import TOP, Failed, Skipped, expect
+from scenes.running import TOP, VERSION, Failed, Skipped, expect
 
 KIT = "rattle-kit-1 logic 2"
 CRATES = b"low:\next_cli: low\next_trial: low more\nmore:\nother: low\n"
@@ -53,7 +53,7 @@ def what_is_carried_runs_and_has_its_sums(repository):
     expect(repository.run("tools/carry", "--compare"), (b"", SAME, 0))
     shutil.rmtree(repository.place / "crates/ext_cli/out")
     (repository.bin / "rt").unlink()
-    expect(repository.run("hostext", "--version"), (b"hostext 0.1.0\n", b"", 0))
+    expect(repository.run("hostext", "--version"), (VERSION, b"", 0))
     expect(repository.run("tools/program", "hostext"), (b"%s/%s/hostext\n" % (os.fsencode(repository.place.resolve()), CARRIED.encode()), b"", 0))
 
 
@@ -129,6 +129,7 @@ def tests_of(folder, program):
     made.write("tests/program", COUNTS % (30, 0, 4, 0))
     made.write("tests/system-calls", COUNTS % (500, 0, 0, 0))
     made.write("tests/hostile", b'#!/bin/sh\necho "$@"\necho "60 passed, 0 failed, 0 skipped: failures of calls 9 (init 9)"\n')
+    made.write("tests/mutations", b'#!/bin/sh\necho "$@"\necho "14 passed, 0 failed, 0 skipped: mutations 6,000 (words 9)"\n')
     made.tool("python3", "")
     made.tool("strace", "")
     return made
@@ -137,15 +138,16 @@ def tests_of(folder, program):
 ALL = b"== cases\ntests/cases/a.cases\n2 passed, 0 failed\n== tests/program\ntold\n30 passed, 0 failed, 4 skipped\n"
 CALLS = b"== tests/system-calls\ntold\n500 passed, 0 failed, 0 skipped\n"
 HOSTILE = b"== tests/hostile\n--short\n60 passed, 0 failed, 0 skipped: failures of calls 9 (init 9)\n"
+HOSTILE += b"== tests/mutations\n--short\n14 passed, 0 failed, 0 skipped: mutations 6,000 (words 9)\n"
 
 
 def the_tests_are_counted_together(repository):
-    expect(repository.run("tests/run"), (ALL + CALLS + HOSTILE + b"592 passed, 0 failed, 4 skipped\n", b"", 0))
+    expect(repository.run("tests/run"), (ALL + CALLS + HOSTILE + b"606 passed, 0 failed, 4 skipped\n", b"", 0))
     repository.write("tests/system-calls", COUNTS % (499, 1, 0, 1))
     told = CALLS.replace(b"500 passed, 0", b"499 passed, 1")
-    expect(repository.run("tests/run"), (ALL + told + HOSTILE + b"591 passed, 1 failed, 4 skipped\n", b"", 1))
+    expect(repository.run("tests/run"), (ALL + told + HOSTILE + b"605 passed, 1 failed, 4 skipped\n", b"", 1))
     repository.write("tests/system-calls", b"#!/bin/sh\nexit 1\n")
-    expect(repository.run("tests/run"), (ALL + b"== tests/system-calls\n" + HOSTILE + b"92 passed, 1 failed, 4 skipped\n", b"", 1))
+    expect(repository.run("tests/run"), (ALL + b"== tests/system-calls\n" + HOSTILE + b"106 passed, 1 failed, 4 skipped\n", b"", 1))
 
 
 def a_missing_tool_ends_the_tests_unless_it_is_skipped(repository):
@@ -155,8 +157,8 @@ def a_missing_tool_ends_the_tests_unless_it_is_skipped(repository):
         told = b"tests/run: %s is missing: install the package %s, or skip what needs it with --skip-missing\n" % (tool.encode(), tool.encode()) + told
         expect(repository.run("tests/run"), (b"", told, 2))
     cases = ALL[: ALL.index(b"== tests/program")]
-    skipped = b"".join(b"skipped: %s: there is no python3\n" % name for name in (b"tests/program", b"tests/system-calls", b"tests/hostile"))
-    expect(repository.run("tests/run", "--skip-missing"), (cases + skipped + b"2 passed, 0 failed, 3 skipped\n", b"", 0))
+    skipped = b"".join(b"skipped: %s: there is no python3\n" % name for name in (b"tests/program", b"tests/system-calls", b"tests/hostile", b"tests/mutations"))
+    expect(repository.run("tests/run", "--skip-missing"), (cases + skipped + b"2 passed, 0 failed, 4 skipped\n", b"", 0))
 
 
 WITH_PROGRAMS = [

@@ -306,6 +306,15 @@ def check_questions(sources):
         raise Failed("docs/DECISIONS.md has no row")
 
 
+def check_kit(sources, written):
+    """The kit that --version names is the one of README, and the one that the carried programs were made with, where some are."""
+    kit = written.partition("\nproved with ")[2].rstrip("\n")
+    lines = {"README.md": f"\nProved with: {kit}\n"}
+    if sources.files("dist/x86_64-linux/made-from"):
+        lines["dist/x86_64-linux/made-from"] = f"kit: {kit}\n"
+    nothing_is_missing(f"--version names `{kit}`, and not the kit of", {path for path, line in lines.items() if line not in sources.text(path)})
+
+
 def help_of(program):
     return run(program, [b"--help"])[0].decode()
 
@@ -325,6 +334,14 @@ def each_refusal_status_and_command_is_told(program):
     check_refusals(Sources())
     check_statuses(Sources(), help_of(program))
     check_commands(Sources(), help_of(program))
+
+
+def the_version_names_the_kit_of_the_documents(program):
+    written = run(program, [b"--version"])[0].decode()
+    check_kit(Sources(), written)
+    for path, begin in ("README.md", "Proved with: "), ("dist/x86_64-linux/made-from", "kit: "):
+        if (TOP / path).exists():
+            is_missed(check_kit, path, begin, written)
 
 
 def each_decision_begins_with_a_question(_program):
@@ -369,5 +386,5 @@ def a_row_that_is_taken_away_is_missed(program):
 
 scenes = named(
     *(each_definition_that_a_contract_cites_is_on_a_row, each_crate_is_in_the_map_and_on_its_floor, each_refusal_status_and_command_is_told),
-    *(each_decision_begins_with_a_question, a_row_that_is_taken_away_is_missed),
+    *(the_version_names_the_kit_of_the_documents, each_decision_begins_with_a_question, a_row_that_is_taken_away_is_missed),
 )

@@ -25,6 +25,7 @@ WAYS = {
     **dict.fromkeys(("read", "pread64", "lseek"), ("EIO", "EINTR")),
     "flock": ("EIO", "ENOLCK", "EINTR"),
     "fcntl": ("EMFILE", "EINTR"),
+    "ioctl": ("ENOTTY", "EIO"),
 }
 # Those that are tried again where they were interrupted.
 TRIED_AGAIN = {"openat", "read", "write", "getdents64", "fsync"}

@@ -14,6 +14,7 @@ import tempfile
 from pathlib import Path
 
 from scenes.running import SECONDS, TOP, Failed, Skipped, shortened
+from scenes.serving import around as without_proxies
 
 
 DOCUMENTS = "README.md", "examples/README.md"
@@ -46,27 +47,27 @@ def sessions(text):
             yield heading, session
 
 
-def shell(commands, folder):
-    """What each of the commands writes, on both outputs, in one shell."""
+def shell(commands, folder, more={}):
+    """What each of the commands writes, on both outputs, in one shell. The environment may have more variables."""
     script = "".join(f"{command}\nprintf '\\0'\n" for command in commands)
     streams = {"stdin": subprocess.DEVNULL, "stdout": subprocess.PIPE, "stderr": subprocess.STDOUT}
-    around = {**os.environ, "LC_ALL": "C", "TMPDIR": str(folder), "HOSTEXT": str(Path(folder, "hostext"))}
+    around = {**without_proxies(), "LC_ALL": "C", "TMPDIR": str(folder), "HOSTEXT": str(Path(folder, "hostext")), **more}
     return subprocess.run(["sh", "-c", script], cwd=folder, env=around, timeout=SECONDS, **streams).stdout.decode().split("\0")
 
 
-def need_tools(command, folder):
+def need_tools(command, folder, more):
     """Skips the scene where a tool that the command starts is missing."""
     words = ["|", *shlex.shlex(command, posix=True, punctuation_chars=True)]
     for before, tool in zip(words, words[1:]):
         starts = before in ("|", ";", "&&", "||", "(") and re.fullmatch(r"[\w./-]+", tool)
-        if starts and not shell([f"command -v {tool}"], folder)[0]:
+        if starts and not shell([f"command -v {tool}"], folder, more)[0]:
             raise Skipped(f"there is no {tool}")
 
 
-def follow(session, folder):
+def follow(session, folder, more={}):
     for command, _ in session:
-        need_tools(command, folder)
-    found = shell([command for command, _ in session], folder)
+        need_tools(command, folder, more)
+    found = shell([command for command, _ in session], folder, more)
     for at, (command, wanted) in enumerate(session):
         written = found[at] if at < len(found) else "nothing"
         if written != wanted:

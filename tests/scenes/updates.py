@@ -23,11 +23,17 @@ PATTERNS = "foo_@v", "foo_@v.x", "@v.foo", "foo_@v_@h", "f@v"
 RANKS = {"~": 0, "": 1, "-": 2, "^": 3, ".": 4}
 
 
+def value_of(digits):
+    """What two numbers are compared by, of any length: how many digits they have, and these."""
+    digits = digits.lstrip("0")
+    return len(digits), digits
+
+
 def tokens_of(version):
     """The tokens of a version, each by its rank and what it is compared by, and the end."""
     found = []
     for text in re.findall(r"[0-9]+|[A-Za-z]+|[~.^-]", version):
-        found.append((6, int(text)) if text.isdigit() else (5, text) if text.isalpha() else (RANKS[text], 0))
+        found.append((6, value_of(text)) if text.isdigit() else (5, text) if text.isalpha() else (RANKS[text], 0))
     return [*found, (RANKS[""], 0)]
 
 
