@@ -1,0 +1,13 @@
+pub mod TextLemmas
+pub mod FittingLemmas
+pub mod DraftLemmas
+pub mod ManifestLemmas
+pub mod FindLemmas
+pub mod StageLemmas
+pub mod HitLemmas
+pub mod NextLemmas
+pub mod RootLemmas
+pub mod PlanLemmas
+pub mod UpdateLemmas
+pub mod LawsLemmas
+pub mod OneLemmas

@@ -1,0 +1,10 @@
+use Rattle.std.proofs.Common.{◌≡◌, ◌++◌, map, drop}
+use Rattle.ext_text.specs.Prefix.{parent}
+use Rattle.ext_update.specs.declared.draft.CurrentLink.{CurrentLink}
+use Rattle.ext_update.proofs.blocking.append_parents.Given as goal
+
+-- the paths so far and those of the links that are left
+abbrev pub invariant-links : goal.invariant-links
+invariant-links l =
+    l.paths.items ++ map (λ (link : CurrentLink). parent link.path) (drop l.link-index l.links)
+    ≡ l.initial.paths.items ++ map (λ (link : CurrentLink). parent link.path) l.links

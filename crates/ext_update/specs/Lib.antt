@@ -1,0 +1,9 @@
+pub mod Writing
+pub mod Stages
+pub mod Untaken
+pub mod Update
+pub mod Vacuum
+pub mod Given
+pub mod Drafts
+pub mod Steps
+pub mod Laws
