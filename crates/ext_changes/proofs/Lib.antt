@@ -1,0 +1,5 @@
+pub mod OrderLemmas
+pub mod StepLemmas
+pub mod BelowLemmas
+pub mod LawsLemmas
+pub mod ForCallers

@@ -1,0 +1,5 @@
+pub mod Changes
+pub mod Told
+pub mod Walking
+pub mod Lines
+pub mod Laws
