@@ -1,0 +1,10 @@
+pub mod SetLemmas
+pub mod NameLemmas
+pub mod ImageLemmas
+pub mod DirectoryLemmas
+pub mod EntryLemmas
+pub mod KeptLemmas
+pub mod UnitLemmas
+pub mod LawsLemmas
+pub mod InspectLemmas
+pub mod ForCallers

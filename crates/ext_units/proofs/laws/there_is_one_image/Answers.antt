@@ -1,0 +1,10 @@
+use Rattle.ext_units.proofs.LawsLemmas.{one_image_law}
+use Rattle.ext_units.proofs.laws.there_is_one_image.Goals as goal
+
+pub returns : goal.returns
+returns c = one_image_law (record {
+  one_found = c.there_is_one_found_list.ensures;
+  one_release = c.a_file_has_one_release.ensures;
+  not_both = c.a_file_has_a_release_or_a_faulty_line.ensures.not_both;
+  one_fault = c.a_file_has_a_release_or_a_faulty_line.ensures.one_fault;
+})

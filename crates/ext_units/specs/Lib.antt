@@ -1,0 +1,10 @@
+pub mod TextSet
+pub mod Image
+pub mod Body
+pub mod Prefixes
+pub mod Units
+pub mod Kept
+pub mod Choosing
+pub mod Errors
+pub mod Inspecting
+pub mod Laws
