@@ -43,10 +43,6 @@ def transfers():
     return chosen(rb"^\[(Source|Transfer)\]$")
 
 
-def features():
-    return chosen(rb"^\[Feature\]$")
-
-
 def releases():
     return chosen(rb"\A[A-Z_]+=")
 
@@ -56,4 +52,4 @@ def manifests():
 
 
 def batches():
-    return [chosen_line for chosen_line in chosen(rb"\A(init|import-fs|tree|check|remove) ?")]
+    return chosen(rb"\A(init|import-fs|tree|check|remove) ?")

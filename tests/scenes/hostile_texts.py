@@ -18,8 +18,8 @@ from scenes.stores import ROOM
 from scenes.transfers import Transfer, read_feature
 from scenes.tree_texts import Faulty, read_sequence, read_tree
 
-# The time by the clock that a stand-in gets.
-CLOCK_SECONDS = 5
+# The time by the clock that a stand-in gets: one that hangs, and any other.
+HANGS, LATE = 6, 60
 # A stand-in runs the real program, and once the file `armed` is beside it these lines.
 STAND_IN = """#!/bin/sh
 [ -e {folder}/armed ] || exec {program} "$@"
@@ -81,9 +81,9 @@ def first_reason(kind):
     return None
 
 
-def tried(program, folder, kind, lines):
+def tried(program, folder, kind, lines, seconds):
     """Why mutations of a kind fail on a stand-in of these lines, and on the real program beforehand."""
-    with Bench(stand_in(program, folder, lines), folder, CLOCK_SECONDS) as bench:
+    with Bench(stand_in(program, folder, lines), folder, seconds) as bench:
         made = kind(bench)
         before = reason_of(made, [made.text(seed) for seed in range(made.many)])
         Path(folder, "armed").touch()
@@ -93,7 +93,7 @@ def tried(program, folder, kind, lines):
 def each_program_that_does_wrong_is_told(program):
     for lines, kind, told in WRONG:
         with tempfile.TemporaryDirectory(dir=ROOM) as folder:
-            before, found = tried(program, folder, kind, lines)
+            before, found = tried(program, folder, kind, lines, HANGS if "in time" in told else LATE)
         if before or not found or not re.search(told, found):
             raise Failed(f"of {lines!r} as {kind.__name__} is told {found}, and of the real program {before}")
 

@@ -103,6 +103,12 @@ def outcome(name, call):
         return "failed"
 
 
+def counted(counts):
+    """The sum and the parts of what was counted by names."""
+    parts = ", ".join(f"{name} {round(count):,}" for name, count in sorted(counts.items()))
+    return f"{round(sum(counts.values())):,} ({parts})"
+
+
 def status_of(found):
     """Counts how scenes ended on a line, and gives the status of the process."""
     print(", ".join(f"{found.count(end)} {end}" for end in ("passed", "failed", "skipped")))

@@ -73,10 +73,6 @@ class Tree:
     def take(self, kind, fields, names):
         self.entries[names], self.last = (kind, fields), names
 
-    @property
-    def has_marks(self):
-        return any(kind in MARKS for kind, _ in self.entries.values())
-
 
 def line_of(names, kind, fields):
     return b" ".join((kind, *fields, b"/".join(names))) + b"\n"
