@@ -1,22 +1,23 @@
 -- The laws of changes.
-use Rattle.std.proofs.Common.{◌≡◌, ◌≢◌, ℕ, true, false, cond, ◌&&◌, List, [], ◌∷◌, Option, Some, None, refl, sym, ap, ◌∙◌, subst}
+use Rattle.std.proofs.Common.{◌≡◌, ◌≢◌, ⊎_elim, ℕ, true, false, cond, ◌&&◌, List, [], ◌∷◌, Option, Some, None, refl, sym, ap, ◌∙◌, subst}
 use Rattle.std.specs.Option.{option_map, unwrap_or}
 use Rattle.std.specs.Ordering.{is_lt, eq_by_cmp}
 use Rattle.std.specs.FinMap.{is_sorted}
 use Rattle.std.specs.FinMap.Entries.{below_all, find-where_key, is_sorted-where_key, same_entries, where_key}
 use Rattle.std.proofs.lemmas.Float.{T_from_true}
 use Rattle.ext_text.specs.Order.{paths_exact, paths_total}
-use Rattle.ext_text.specs.Path.{path_cmp, is_prefix}
+use Rattle.ext_text.specs.Path.{IsPath, path_cmp, is_prefix}
 use Rattle.ext_text.proofs.ForCallers.{true_from_T}
 use Rattle.ext_tree.specs.Tree.{Entries, lookup}
 use Rattle.ext_tree.specs.declared.entry.Entry.{Entry}
 use Rattle.ext_tree.specs.declared.entry.Entry.TheVariants.{Dir, Opaque, File, Link, Hide}
 use Rattle.ext_tree.specs.declared.stamp.Stamp.{Stamp}
-use Rattle.ext_tree.proofs.ForCallers.{find_there}
+use Rattle.ext_tree.proofs.ForCallers.{each_found, find_there}
 use Rattle.ext_changes.specs.Changes.{Changes, DiffersBy, change_at, stamped, stamped_at}
-use Rattle.ext_changes.specs.Laws.{BelowOfAll, EachDiffers, NoneOfEqual, NoneWhereAlike, OneList, OneListBelow, TurnedTheOtherWay, all_turned, turned}
+use Rattle.ext_changes.specs.Laws.{BelowOfAll, EachDiffers, NoneOfEqual, NoneWhereAlike, OneList, OneListBelow, PathsOfTrees, TurnedTheOtherWay, all_turned, turned}
 use Rattle.ext_changes.specs.declared.change.ChangeKind.{ChangeKind}
 use Rattle.ext_changes.specs.declared.change.ChangeKind.TheVariants.{Added, Removed, Changed}
+use Rattle.ext_changes.proofs.StepLemmas.{stands_in}
 
 -- at one path
 
@@ -147,3 +148,8 @@ below_of_all f g prefix earlier later changes are = record {
   each = λ q below. subst (DiffersBy (stamped_at f earlier q) (stamped_at g later q)) (sym (find_below prefix q changes ∙ ap (λ b. cond b (change_at changes q) None) below)) (are.each q);
   elsewhere = λ q apart. find_below prefix q changes ∙ ap (λ b. cond b (change_at changes q) None) apart;
 }
+
+pub paths_of_trees : {A B : Type 0} → PathsOfTrees A B
+paths_of_trees f g earlier later changes old new are =
+    each_found path_cmp paths_total IsPath changes
+    (λ q found. ⊎_elim (old.paths q) (new.paths q) (stands_in f g (lookup earlier q) (lookup later q) (change_at changes q) (are.each q) found))

@@ -46,12 +46,12 @@ abbrev pub change_at : Changes → List (List ℕ) → Option ChangeKind
 change_at changes path = find path_cmp path changes
 
 -- the changes between two trees: each path at which they differ, once and in path order, and no other path
-pub record AreChanges {A B : Type 0} (f : A → Stamp) (g : B → Stamp) (earlier : Entries A) (later : Entries B) (changes : Changes) : Type 0 where
+pub record AreChanges {A B : Type 0} (old_stamp : A → Stamp) (new_stamp : B → Stamp) (earlier : Entries A) (later : Entries B) (changes : Changes) : Type 0 where
   pub sorted : IsTrue (is_sorted path_cmp changes)
-  pub each : (path : List (List ℕ)) → DiffersBy (stamped_at f earlier path) (stamped_at g later path) (change_at changes path)
+  pub each : (path : List (List ℕ)) → DiffersBy (stamped_at old_stamp earlier path) (stamped_at new_stamp later path) (change_at changes path)
 
 -- the changes at and below a path alone
-pub record AreChangesBelow {A B : Type 0} (f : A → Stamp) (g : B → Stamp) (prefix : List (List ℕ)) (earlier : Entries A) (later : Entries B) (changes : Changes) : Type 0 where
+pub record AreChangesBelow {A B : Type 0} (old_stamp : A → Stamp) (new_stamp : B → Stamp) (prefix : List (List ℕ)) (earlier : Entries A) (later : Entries B) (changes : Changes) : Type 0 where
   pub sorted : IsTrue (is_sorted path_cmp changes)
-  pub each : (path : List (List ℕ)) → IsTrue (is_prefix prefix path) → DiffersBy (stamped_at f earlier path) (stamped_at g later path) (change_at changes path)
+  pub each : (path : List (List ℕ)) → IsTrue (is_prefix prefix path) → DiffersBy (stamped_at old_stamp earlier path) (stamped_at new_stamp later path) (change_at changes path)
   pub elsewhere : (path : List (List ℕ)) → is_prefix prefix path ≡ false → change_at changes path ≡ None

@@ -12,7 +12,7 @@ use ext_tree::Tree;
 use std::alloc::Global;
 
 /// The changes from the earlier to the later tree: each path at which they differ, once and in path order, with how. The
-/// paths are borrowed from the trees. It is one pass over both, and it takes memory for the changes alone, two words each.
+/// paths are borrowed from the trees. It is one pass over both, and it takes memory for the changes alone, two words for each.
 ///
 /// # Errors
 /// `OutOfMemory` alone.
@@ -29,8 +29,8 @@ pub fn changes<'a, A: Stamped, B: Stamped>(
 }
 
 /// The changes from the earlier to the later tree at and below a path, as [`changes`] gives them: at and below the root
-/// these are all. The path itself is borrowed where it is one of them. It is a search in both trees, and one pass over what
-/// they have below the path.
+/// these are all. Where the path itself is one of them, it is borrowed from the caller. It is a search in both trees, and
+/// one pass over what they have below the path.
 ///
 /// # Errors
 /// `OutOfMemory` alone.

@@ -1,5 +1,5 @@
 //! Laws of changes, each the contract of a function that does nothing: what holds of the changes between any two trees.
-ghost use Rattle.ext_changes.specs.Laws.{BelowOfAll, EachDiffers, NoneOfEqual, NoneWhereAlike, OneList, OneListBelow, TurnedTheOtherWay};
+ghost use Rattle.ext_changes.specs.Laws.{BelowOfAll, EachDiffers, NoneOfEqual, NoneWhereAlike, OneList, OneListBelow, OneListOfText, PathsOfTrees, TurnedTheOtherWay};
 
 /// Two trees have one list of changes, and one at and below each path: the order of the lines is settled too.
 pub fn one_list<A, B>()
@@ -28,4 +28,11 @@ pub fn turned_the_other_way<A, B>()
 /// The changes at and below a path are those of all changes that have a path there.
 pub fn below_of_all<A, B>()
     ensures { BelowOfAll A B }
+{}
+
+/// The lines of changes are those of one list, where each path is within the limits of one, as the paths of trees are: so
+/// whoever reads the lines knows what differs.
+pub fn one_list_of_text<A, B>()
+    ensures paths { PathsOfTrees A B }
+    ensures text { OneListOfText }
 {}

@@ -4,8 +4,8 @@
 //! changed; [`changes_below`] gives those at and below a path. Nothing is copied, and both trees are passed once. Files are
 //! compared by their stamps ([`Stamped`]), so that it makes no difference where a tree has its bytes. [`changes_text`]
 //! prints changes, a line each. Laws say what holds of every list of changes: there is one, it is empty exactly for equal
-//! trees, and the other way round it is the same with what was added and what was removed exchanged. The commands that tell
-//! what a merge changes, and what has changed since some state, stand on this.
+//! trees, the other way round it is the same with what was added and what was removed exchanged, and its lines tell it.
+//! Whoever tells what a merge changes, or what has changed since some state, stands on this.
 #![tactic(auto)]
 
 mod change;

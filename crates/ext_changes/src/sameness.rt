@@ -1,7 +1,7 @@
 // How two entries at one path differ.
-ghost use Rattle.std.specs.Prelude.{◌≡◌, ◌↔◌, IsTrue, Some};
-ghost use Rattle.ext_changes.specs.Changes.{IsChanged, DiffersBy, stamped};
+ghost use Rattle.std.specs.Prelude.{◌≡◌, ◌↔◌, IsTrue};
 ghost use Rattle.std.specs.Option.{option_copied, option_map};
+ghost use Rattle.ext_changes.specs.Changes.{DiffersBy, IsChanged, stamped};
 
 use crate::change::ChangeKind;
 use crate::stamped::Stamped;

@@ -1,6 +1,7 @@
 ghost use Rattle.std.specs.Prelude.{◌≡◌};
 ghost use Rattle.ext_tree.specs.declared.stamp.Stamp.{Stamp};
 
+use ext_host::Held;
 use ext_tree::Stamp;
 
 /// Contents of files whose stamps are known.
@@ -18,5 +19,13 @@ impl Stamped for Stamp {
 
     fn stamp(&self) -> &Stamp {
         self
+    }
+}
+
+impl Stamped for Held {
+    ghost stamp = { λ held. held.stamp };
+
+    fn stamp(&self) -> &Stamp {
+        Held::stamp(self)
     }
 }
