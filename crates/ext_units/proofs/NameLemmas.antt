@@ -10,7 +10,8 @@ use Rattle.ext_lines.specs.ByteOrder.{bytes_cmp}
 use Rattle.ext_lines.specs.Words.{words_of}
 use Rattle.ext_lines.specs.Split.{IsSplit, Lacks}
 use Rattle.ext_lines.proofs.ForCallers.{split_of-lacks, split_of-split}
-use Rattle.ext_units.specs.Prefixes.{allows_by, first_forbidden, first_or_whole, first_part, last_name, prefixes_key}
+use Rattle.ext_units.specs.ImageName.{first_or_whole, first_part, last_name}
+use Rattle.ext_units.specs.Prefixes.{allows_by, first_forbidden, prefixes_key}
 use Rattle.ext_units.specs.TextSet.{is_one_of}
 use Rattle.ext_units.specs.Units.{HasPrefix, is_unit_separator}
 

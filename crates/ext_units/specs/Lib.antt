@@ -1,5 +1,6 @@
 pub mod TextSet
 pub mod Image
+pub mod ImageName
 pub mod Body
 pub mod Prefixes
 pub mod Units

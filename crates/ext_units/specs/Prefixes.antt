@@ -4,23 +4,8 @@ use Rattle.std.specs.Prelude.{ℕ, Bool, true, not, if◌then◌else◌, ◌==�
 use Rattle.std.specs.FinMap.{FinMap, get}
 use Rattle.std.specs.List.{find}
 use Rattle.ext_lines.specs.ByteOrder.{bytes_cmp}
-use Rattle.ext_lines.specs.Split.{split_of}
 use Rattle.ext_lines.specs.Words.{has_word}
-
--- the last name of a path; nothing of the root
-abbrev pub last_name : List (List ℕ) → List ℕ
-last_name [] = []
-last_name (n ∷ []) = n
-last_name (n ∷ m ∷ path) = last_name (m ∷ path)
-
--- the text before the first of two parts, or the whole text where there are no two
-abbrev pub first_or_whole : List ℕ → Option (List ℕ × List ℕ) → List ℕ
-first_or_whole text None = text
-first_or_whole text (Some parts) = parts.0
-
--- what stands in a name before its first `_`: in the name of an image, as `foobar_47.11`, a version stands after it
-abbrev pub first_part : List ℕ → List ℕ
-first_part name = first_or_whole name (split_of 95 name)
+use Rattle.ext_units.specs.ImageName.{first_part, last_name}
 
 -- the prefixes that count: those given, or where none is given the first part of the image's name
 abbrev pub prefixes_of : List (List ℕ) → List (List ℕ) → List (List ℕ)

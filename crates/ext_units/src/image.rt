@@ -5,8 +5,10 @@ ghost use Rattle.std.specs.Option.{IfSome, option_copied};
 ghost use Rattle.ext_text.specs.declared.arch.Arch.{Arch};
 ghost use Rattle.ext_walk.specs.Leads.{LeadsToDirectory};
 ghost use Rattle.ext_units.specs.Image.{ImagePlace, is_image_of};
+ghost use Rattle.ext_units.specs.ImageName.{image_name};
 ghost use Rattle.ext_units.specs.declared.image.Image.TheVariants as images;
 
+use crate::image_name::last_name;
 use ext_find::laws::there_is_one_found_list;
 use ext_find::{FoundItem, FoundKind, find};
 use ext_host::Held;
@@ -22,6 +24,18 @@ pub enum Image {
     Named(Name),
     /// The directory to which this path leads.
     At(Path),
+}
+
+impl Image {
+    /// Its name: the one that is given, or the last of its path.
+    pub fn name(&self) -> &[u8]
+        ensures { result.now ≡ image_name self.now }
+    {
+        match self {
+            Image::Named(name) => name.bytes(),
+            Image::At(path) => last_name(path),
+        }
+    }
 }
 
 /// Where an image is in the base: the place that [`find`] tells of an image of portable services of this name, or the path

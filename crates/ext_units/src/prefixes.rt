@@ -2,11 +2,11 @@
 ghost use Rattle.std.specs.Prelude.{◌≡◌, not, IfOk};
 ghost use Rattle.std.specs.List.{find};
 ghost use Rattle.std.specs.Option.{option_copied};
-ghost use Rattle.ext_units.specs.Prefixes.{first_forbidden, first_part, last_name, prefixes_of};
+ghost use Rattle.ext_units.specs.Prefixes.{first_forbidden, prefixes_of};
 ghost use Rattle.ext_units.specs.TextSet.{is_one_of};
 
+use crate::image_name::{first_part, last_name};
 use crate::text_set::TextSet;
-use ext_lines::split_at_byte;
 use ext_release::Release;
 use ext_text::{ListOf, Name, Names, OutOfMemory, Path, Text};
 use std::alloc::Global;
@@ -42,26 +42,6 @@ fn texts_of(alloc: Global, names: &[Name]) -> Result<Prefixes, OutOfMemory>
         texts.push(Text::from_bytes(alloc, name.bytes())?)?;
     }
     Ok(Prefixes::from_vec(texts))
-}
-
-// The last name of a path; nothing of the root.
-fn last_name(path: &Path) -> &[u8]
-    ensures { result.now ≡ last_name path.now }
-{
-    match path.names().split_last() {
-        None => b"",
-        Some((_above, name)) => name,
-    }
-}
-
-// The name up to its first `_`, or whole where it has none.
-fn first_part(name: &[u8]) -> &[u8]
-    ensures { result.now ≡ first_part name.now }
-{
-    match split_at_byte(name, b'_') {
-        None => name,
-        Some((part, _rest)) => part,
-    }
 }
 
 /// The first of the prefixes that an image of this release does not allow; `None` exactly where it allows all. An image allows the

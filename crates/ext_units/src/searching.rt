@@ -58,7 +58,7 @@ pub fn units_in<C>(alloc: Global, tree: &Tree<C>, prefixes: &Prefixes) -> Result
     'directories: for index in 0..count_of_directories() {
         keep_directory(&search, index, &mut kept)?;
     }
-    units_of(alloc, kept)
+    units_kept(alloc, kept)
 }
 
 // Keeps what is new in the directory of units with this index.
@@ -131,7 +131,7 @@ fn keep_entry(
 }
 
 // The units among what was kept, in their order.
-fn units_of(alloc: Global, kept: Kept) -> Result<Units, OutOfMemory>
+fn units_kept(alloc: Global, kept: Kept) -> Result<Units, OutOfMemory>
     ensures units { IfOk result (λ units. units ≡ filter_map (λ e. unit_with e.0 e.1) kept.entries) }
     ensures ordered { IsOrdered bytes_cmp kept }
 {

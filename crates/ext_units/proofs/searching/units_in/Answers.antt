@@ -15,8 +15,8 @@ returns g c =
     let reached : c.directories.index ≡ c.count_of_directories-index-end.result = omega (arith, c.directories-test.false) in
     let kept = c.directories.kept in
     let keeps = subst (λ i. KeepsUnits c.args.tree.now c.in_ok-set.set (earlier_entries i) kept) (reached ∙ c.count_of_directories-index-end.ensures) c.directories.invariant in
-    if_ok (λ units. units ≡ filter_map (λ e. unit_with e.0 e.1) kept.entries) (AreUnits c.args.tree.now c.args.prefixes.now) c.units_of.result
+    if_ok (λ units. units ≡ filter_map (λ e. unit_with e.0 e.1) kept.entries) (AreUnits c.args.tree.now c.args.prefixes.now) c.units_kept.result
     (λ units same. subst (AreUnits c.args.tree.now c.args.prefixes.now) (sym same)
     (units_by c.args.tree.now c.in_ok-set.set c.args.prefixes.now (λ text. c.in_ok-set.ensures text ∙ ap (λ texts. is_one_of texts text) c.as_slice.ensures)
-    (filter_map (λ e. unit_with e.0 e.1) kept.entries) (units_kept c.args.tree.now c.in_ok-set.set kept keeps c.units_of.ensures.ordered)))
-    c.units_of.ensures.units
+    (filter_map (λ e. unit_with e.0 e.1) kept.entries) (units_kept c.args.tree.now c.in_ok-set.set kept keeps c.units_kept.ensures.ordered)))
+    c.units_kept.ensures.units

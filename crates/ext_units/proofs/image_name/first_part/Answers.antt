@@ -1,5 +1,5 @@
 use Rattle.ext_units.proofs.NameLemmas.{split_part, whole_part}
-use Rattle.ext_units.proofs.prefixes.first_part.Goals as goal
+use Rattle.ext_units.proofs.image_name.first_part.Goals as goal
 
 pub returns-in-None : goal.returns-in-None
 returns-in-None c = whole_part c.args.name.now c.in-None.ensures
