@@ -10,14 +10,14 @@ use Rattle.ext_disk.specs.Disk.{Node, Place, Places, Told, DiskState, BothTold, 
 use Rattle.ext_disk.specs.Calls.{Allows, IsWithin, MayCall, Does, DoesTold, reached_place, rename, renamed, synced_in, sync_dir}
 use Rattle.ext_store_files.specs.Names.{current_name, current_path, index_path, next_name, next_path}
 use Rattle.ext_store_files.specs.Writing.{is_at}
-use Rattle.ext_store_files.proofs.ForCallers.{told_map, told_then}
+use Rattle.ext_store_files.proofs.ForCallers.{told_map, told_then, within_same, within_then}
 use Rattle.ext_gen.specs.Opened.{Generation}
 use Rattle.ext_gen.specs.Store.{State, Points, Stands}
 use Rattle.ext_gen.specs.Sound.{IsGenerationPath, base_folder, base_index, base_home, IsBaseDurable, MayHold, as_now, as_before, as_after, with_current, IsEither, IsDurably, IsReady, StandsSince}
 use Rattle.ext_gen.specs.Committing.{HasPaths, IsOneOf, IsPrepared, MayCommit, PointsAfter, SwitchesNow, is_switched, CommitsTold}
 use Rattle.ext_gen.proofs.StatesLemmas.{either_left, durably_is_either, durably_marks, stands_same, stands_with, stands_without, with_apart}
 use Rattle.ext_gen.proofs.DurableLemmas.{stands_since_then}
-use Rattle.ext_gen.proofs.SyncingLemmas.{durable_synced, durably_synced, no_more, now_synced, sync_works, within_since}
+use Rattle.ext_gen.proofs.SyncingLemmas.{durable_synced, durably_synced, now_synced, sync_works, within_since}
 
 -- what a state rests on lies apart from `next`, too
 next_apart : (s : State) (p : List (List ℕ)) → IsGenerationPath s p → eq_by_cmp path_cmp next_path p ≡ false
@@ -231,14 +231,12 @@ node_renaming d x p out (inr (inl same)) = ap (λ (f : Places). (f p).node) same
 node_renaming d x p out (inr (inr half)) = ap (λ (f : Places). (f p).node) half.1 ∙ node_switched half.0 d p out
 
 rename_now : (done : Bool) (d e : Told) → DoesTold (rename next_path current_path) done d e → SwitchesNow d e
-rename_now true d e does = record { now = λ p out. node_renaming d.places e.places p out (inl does.ends.0); appended = no_more _ _ does.ends.1 }
-rename_now false d e does = record { now = λ p out. node_renaming d.places e.places p out (inr does.ends.0); appended = no_more _ _ does.ends.1 }
+rename_now true d e does = record { now = λ p out. node_renaming d.places e.places p out (inl does.ends.0); appended = within_same 0 d.appended e.appended does.ends.1 }
+rename_now false d e does = record { now = λ p out. node_renaming d.places e.places p out (inr does.ends.0); appended = within_same 0 d.appended e.appended does.ends.1 }
 
 switches_then : (c d e : Told) → SwitchesNow c d → SwitchesNow d e → SwitchesNow c e
 switches_then c d e one two =
-    let first = one.appended in
-    let second = two.appended in
-    record { now = λ p out. two.now p out ∙ one.now p out; appended = omega arith }
+    record { now = λ p out. two.now p out ∙ one.now p out; appended = within_then 0 0 0 c.appended d.appended e.appended (omega arith) one.appended two.appended }
 
 two_names : next_path ≡ current_path → ⊥
 two_names same = false≢true (ap (λ (p : List (List ℕ)). eq_by_cmp path_cmp next_path p) (sym same) ∙ refl)

@@ -32,3 +32,5 @@ pub use Rattle.ext_gen.proofs.PreparingLeftLemmas.{few_same, few_stood, few_lost
 pub use Rattle.ext_gen.proofs.PreparingChangeLemmas.{needed_not_left}
 -- the generation before is needed
 pub use Rattle.ext_gen.proofs.PreparingFilesLemmas.{before_needed}
+-- where the files of a host come from that was placed over another one: from a home that was listed before, or from a new one
+pub use Rattle.ext_gen.proofs.PreparingOpenedLemmas.{IsFrom, before, coming, host_from}

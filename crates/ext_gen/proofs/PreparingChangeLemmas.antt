@@ -13,11 +13,12 @@ use Rattle.ext_host.specs.Held.{HeldFile}
 use Rattle.ext_host.specs.declared.body.Body.TheVariants.{Kept}
 use Rattle.ext_host.specs.declared.home.Home.{Home}
 use Rattle.ext_host.specs.declared.host.Host.{Host}
+use Rattle.ext_store_files.specs.Appended.{raised, RaisesTold, Raises}
 use Rattle.ext_store_files.specs.HeldFiles.{node_told, told_at}
 use Rattle.ext_store_files.specs.LeftOvers.{is_left_over, is_left_path}
 use Rattle.ext_store_files.specs.Names.{IsGeneration, current_text, generation_name, generation_of, generation_path, home_path, next_name, next_path}
 use Rattle.ext_store_files.specs.Writing.{Holds, IsMade}
-use Rattle.ext_store_files.proofs.ForCallers.{holds_map, left_is, named_generation, rose_since, told_then}
+use Rattle.ext_store_files.proofs.ForCallers.{holds_map, left_is, named_generation, raised_then, rose_since, told_then, within_none}
 use Rattle.ext_homes.specs.Giving.{home_told, lists_kept, stored_by, trees_before}
 use Rattle.ext_homes.specs.Placed.{IsHostPlaced, Stored}
 use Rattle.ext_store_files.specs.declared.fault.StoreFault.TheVariants as store_faults
@@ -152,7 +153,7 @@ both_and R S Q gives (Some d) None one two = absurd one
 both_and R S Q gives (Some d) (Some e) one two = gives d e one two
 
 record OpensTold (needed : ℕ → Bool) (n : ℕ) (d e : Told) : Type 0 where
-  appended : e.appended ≤ d.appended
+  appended : e.appended ≡ d.appended
   names : HasNames needed n e.places
 
 record GoesOn (n files most : ℕ) (written : List (List ℕ)) (d e : Told) : Type 0 where
@@ -161,19 +162,26 @@ record GoesOn (n files most : ℕ) (written : List (List ℕ)) (d e : Told) : Ty
 
 record IsThere (needed : ℕ → Bool) (n : ℕ) (written : List (List ℕ)) (d e : Told) : Type 0 where
   filled : IsFilled n written e.places
-  appended : e.appended ≤ d.appended + sum_by length written
+  appended : e.appended ≡ raised d.appended (sum_by length written)
   names : HasNames needed n e.places
+
+record MakesAndRaises (n most : ℕ) (d e : Told) : Type 0 where
+  makes : MakesTold n 0 most d e
+  raises : RaisesTold most d e
 
 record GoesToEnd (n most : ℕ) (text : List ℕ) (d e : Told) : Type 0 where
   completes : CompletesGeneration n text d e
   makes : MakesTold n 0 most d e
+  raises : RaisesTold most d e
 
 changed_end : (needed : ℕ → Bool) (n : ℕ) (host : Host) (written : List (List ℕ)) (c d e : Told) → IsThere needed n written c d → GoesToEnd n (length (coming_index n host) + length (current_text n)) (coming_index n host) d e
     → ChangedTold needed n host written c e
 unfolding HasNames
 changed_end needed n host written c d e there ends = record {
   complete = ends.completes written there.filled;
-  appended = omega (arith, there.appended, ends.makes.appended);
+  appended =
+      let ours = length (coming_index n host) + length (current_text n) in
+      ends.raises ∙ ap (λ k. raised k ours) there.appended ∙ raised_then c.appended (sum_by length written) ours;
   names = names_make needed n 0 (length (coming_index n host) + length (current_text n)) d e ends.makes there.names;
 }
 
@@ -181,18 +189,20 @@ changed_end needed n host written c d e there ends = record {
 pub changed_told : (needed : ℕ → Bool) (n files most : ℕ) (host : Host) (written : List (List ℕ)) (r s t u : DiskState) → Changes needed n 0 0 r s → Holds (IsGenerationOpen needed n) s
     → BothTold (FillsTold n written) s.told t.told → Makes n files most s t
     → BothTold (CompletesGeneration n (coming_index n host)) t.told u.told → Makes n 0 (length (coming_index n host) + length (current_text n)) t u
-    → BothTold (ChangedTold needed n host written) r.told u.told
-changed_told needed n files most host written r s t u opens is fills makes completes ends =
+    → Raises (length (coming_index n host) + length (current_text n)) t u → BothTold (ChangedTold needed n host written) r.told u.told
+changed_told needed n files most host written r s t u opens is fills makes completes ends raises =
     told_then (IsThere needed n written) (GoesToEnd n (length (coming_index n host) + length (current_text n)) (coming_index n host)) (ChangedTold needed n host written)
     (changed_end needed n host written) r.told t.told u.told
     (told_then (OpensTold needed n) (GoesOn n files most written) (IsThere needed n written)
-    (λ c d e one two. record { filled = two.fills.filled; appended = omega (arith, one.appended, two.fills.appended); names = names_make needed n files most d e two.makes one.names })
+    (λ c d e one two. record { filled = two.fills.filled; appended = two.fills.appended ∙ ap (λ k. raised k (sum_by length written)) one.appended; names = names_make needed n files most d e two.makes one.names })
     r.told s.told t.told
     (both_with (ChangesTold (is_left_path needed) n 0 0) (OpensTold needed n) (IsGenerationOpen needed n)
-    (λ d e changes one. record { appended = omega (arith, changes.appended); names = names_open needed n e.places one }) r.told s.told opens.told is)
+    (λ d e changes one. record { appended = within_none d.appended e.appended changes.appended; names = names_open needed n e.places one }) r.told s.told opens.told is)
     (both_and (FillsTold n written) (MakesTold n files most) (GoesOn n files most written) (λ d e one two. record { fills = one; makes = two }) s.told t.told fills makes.told))
-    (both_and (CompletesGeneration n (coming_index n host)) (MakesTold n 0 (length (coming_index n host) + length (current_text n)))
-    (GoesToEnd n (length (coming_index n host) + length (current_text n)) (coming_index n host)) (λ d e one two. record { completes = one; makes = two }) t.told u.told completes ends.told)
+    (both_and (CompletesGeneration n (coming_index n host)) (MakesAndRaises n (length (coming_index n host) + length (current_text n)))
+    (GoesToEnd n (length (coming_index n host) + length (current_text n)) (coming_index n host)) (λ d e one two. record { completes = one; makes = two.makes; raises = two.raises }) t.told u.told completes
+    (both_and (MakesTold n 0 (length (coming_index n host) + length (current_text n))) (RaisesTold (length (coming_index n host) + length (current_text n)))
+    (MakesAndRaises n (length (coming_index n host) + length (current_text n))) (λ d e one two. record { makes = one; raises = two }) t.told u.told ends.told raises))
 
 -- the homes, seen from the disk at the beginning
 pub homes_since : (from : Option Generation) → IfSome from IsOpened → (old mid : DiskState) (depot : DepotState) (n : ℕ) (next host : Host) (written : List (List ℕ)) → Spares (is_left_path (is_needed from)) old mid

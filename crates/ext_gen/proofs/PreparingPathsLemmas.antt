@@ -15,7 +15,7 @@ use Rattle.ext_store_files.specs.Removal.{AppendsNothing, AllStand, AreGone, Los
 use Rattle.ext_store_files.specs.Writing.{is_at, nowhere, Works, WorksTold}
 use Rattle.ext_store_files.specs.declared.errors.CleanErr.{CleanErr}
 use Rattle.ext_store_files.specs.declared.errors.CleanErr.TheVariants.{DiskFault, OutOfMemory, Unfinished}
-use Rattle.ext_store_files.proofs.ForCallers.{is_left, told_map, told_then, told_itself}
+use Rattle.ext_store_files.proofs.ForCallers.{is_left, told_map, told_then, told_itself, within_same, within_then}
 use Rattle.ext_gen.specs.PreparingPaths.{is_coming, IsComing, next, generation, index, folder, file, MakesTold, Makes, ChangesAt, stays, gone, made, ChangesTold, Changes}
 
 pub contraposed : (a b : Bool) → (a ≡ true → b ≡ true) → b ≡ false → a ≡ false
@@ -81,7 +81,7 @@ top_coming n files name coming = top_of n files (name ∷ []) name refl coming
 pub makes_nothing : (n files most : ℕ) (s : DiskState) → Makes n files most s s
 makes_nothing n files most s = record {
   spares = spares_itself (is_coming n) s;
-  told = told_itself (MakesTold n files most) (λ d. record { now = λ p. inl refl; appended = omega arith }) s.told;
+  told = told_itself (MakesTold n files most) (λ d. record { now = λ p. inl refl; appended = within_same most d.appended d.appended refl }) s.told;
 }
 
 -- calls that work within its reach, and change at its paths alone
@@ -102,7 +102,7 @@ pub makes_then : (n less more files a b most : ℕ) (r s t : DiskState) → less
 makes_then n less more files a b most r s t few many fits one two = record {
   spares = spares_then (is_coming n) r s t one.spares two.spares;
   told = told_then (MakesTold n less a) (MakesTold n more b) (MakesTold n files most)
-      (λ c d e x y. record { now = λ p. both c d e p (x.now p) (y.now p); appended = omega (arith, x.appended, y.appended, fits) }) r.told s.told t.told one.told two.told;
+      (λ c d e x y. record { now = λ p. both c d e p (x.now p) (y.now p); appended = within_then a b most c.appended d.appended e.appended fits x.appended y.appended }) r.told s.told t.told one.told two.told;
 }
   where
     both : (c d e : Told) (p : List (List ℕ)) → ((d.places p).node ≡ (c.places p).node) ⊎ IsComing n less p → ((e.places p).node ≡ (d.places p).node) ⊎ IsComing n more p
@@ -137,7 +137,7 @@ lost_at reach n files d e lost are p (inr out) = stays (are.now p ∙ cond-false
 loses_changes : (reach : List (List ℕ) → Bool) (n files most : ℕ) (count : ℕ → Type 0) (d e : Told) → Loses reach d.places e.places count → AppendsNothing d e → ChangesTold reach n files most d e
 loses_changes reach n files most count d e loses sum = record {
   now = λ p. lost_at reach n files d.places e.places loses.0 loses.1 p (cases_Bool (is_one_of p loses.0));
-  appended = omega (arith, sum);
+  appended = within_same most d.appended e.appended sum;
 }
 
 removed_changes : {T : Type 0} (reach : List (List ℕ) → Bool) (n files most many : ℕ) (r : Result T CleanErr) (d e : Told) → Removes many reach r d e → AppendsNothing d e
@@ -164,7 +164,7 @@ removal_changes needed n files most many r old new spares removes sum = record {
 pub changes_nothing : (needed : ℕ → Bool) (n files most : ℕ) (s : DiskState) → Changes needed n files most s s
 changes_nothing needed n files most s = record {
   spares = spares_itself (is_left_path needed) s;
-  told = told_itself (ChangesTold (is_left_path needed) n files most) (λ d. record { now = λ p. stays refl; appended = omega arith }) s.told;
+  told = told_itself (ChangesTold (is_left_path needed) n files most) (λ d. record { now = λ p. stays refl; appended = within_same most d.appended d.appended refl }) s.told;
 }
 
 -- the removal, and then a part that makes something
@@ -174,7 +174,7 @@ changes_then needed n less more files a b most r s t is free few many fits one t
   spares = spares_then (is_left_path needed) r s t one.spares
       (spares_wider (is_coming n) (is_left_path needed) s t (λ p out. contraposed (is_coming n p) (is_left_path needed p) (coming_left needed n p is free) out) two.spares);
   told = told_then (ChangesTold (is_left_path needed) n less a) (MakesTold n more b) (ChangesTold (is_left_path needed) n files most)
-      (λ c d e x y. record { now = λ p. both c d e p (x.now p) (y.now p); appended = omega (arith, x.appended, y.appended, fits) }) r.told s.told t.told one.told two.told;
+      (λ c d e x y. record { now = λ p. both c d e p (x.now p) (y.now p); appended = within_then a b most c.appended d.appended e.appended fits x.appended y.appended }) r.told s.told t.told one.told two.told;
 }
   where
     both : (c d e : Told) (p : List (List ℕ)) → ChangesAt (is_left_path needed) n less c.places d.places p → ((e.places p).node ≡ (d.places p).node) ⊎ IsComing n more p

@@ -9,11 +9,12 @@ use Rattle.ext_text.specs.Path.{is_prefix}
 use Rattle.ext_text.proofs.ForCallers.{prefix_self, same_name}
 use Rattle.ext_disk.specs.Disk.{Node, Places, Told, DiskState, BothTold, IsDisk, IsTree, is_durable, is_folder, is_synced}
 use Rattle.ext_disk.specs.Fixed.{IsUnchangedAt, Stays}
+use Rattle.ext_store_files.specs.Appended.{raised}
 use Rattle.ext_store_files.specs.LeftOvers.{is_left_path}
 use Rattle.ext_store_files.specs.Names.{IsGeneration, current_text, generation_name, generation_path, home_folder, home_path, index_name, index_path, next_name, next_path}
 use Rattle.ext_store_files.specs.Removal.{IsClear, Removes}
 use Rattle.ext_store_files.specs.Writing.{is_at, nowhere, Holds, IsMade, Works, WorksTold}
-use Rattle.ext_store_files.proofs.ForCallers.{holds_map, holds_both, holds_then, told_map, told_then, is_left}
+use Rattle.ext_store_files.proofs.ForCallers.{holds_map, holds_both, holds_then, told_map, told_then, is_left, within_none}
 use Rattle.ext_store_files.specs.declared.errors.CleanErr.{CleanErr}
 use Rattle.ext_depot.specs.Depot.{DepotState}
 use Rattle.ext_host.specs.declared.host.Host.{Host}
@@ -135,12 +136,12 @@ both_with R S P gives None (Some e) both is = absurd both
 both_with R S P gives (Some d) None both is = absurd both
 both_with R S P gives (Some d) (Some e) both is = gives d e both is
 
--- with as many bytes as they have
+-- and nothing else was appended
 pub fills_told : (n : ℕ) (written : List (List ℕ)) (r s t : DiskState) → BothTold (Writes n 0 written) r.told s.told → Works nowhere nowhere 0 s t → Holds (IsFilled n written) t
     → BothTold (FillsTold n written) r.told t.told
 fills_told n written r s t writes syncing filled =
-    both_with (λ d e. e.appended ≤ d.appended + sum_by length written) (FillsTold n written) (IsFilled n written) (λ d e sum is. record { filled = is; appended = sum }) r.told t.told
-    (told_then (Writes n 0 written) (WorksTold nowhere 0) (λ d e. e.appended ≤ d.appended + sum_by length written) (λ c d e x y. omega (arith, x.appended, y.appended)) r.told s.told t.told writes syncing.told)
+    both_with (λ d e. e.appended ≡ raised d.appended (sum_by length written)) (FillsTold n written) (IsFilled n written) (λ d e sum is. record { filled = is; appended = sum }) r.told t.told
+    (told_then (Writes n 0 written) (WorksTold nowhere 0) (λ d e. e.appended ≡ raised d.appended (sum_by length written)) (λ c d e x y. within_none d.appended e.appended y.appended ∙ x.appended) r.told s.told t.told writes syncing.told)
     filled
 
 -- the folders of the files stand

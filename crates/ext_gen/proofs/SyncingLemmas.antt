@@ -1,12 +1,12 @@
 -- The store folder synced: a store that stands for a state then does so durably; and what a stop within a call leaves.
-use Rattle.std.proofs.Common.{◌≡◌, ◌⊎◌, ℕ, ◌+◌, ◌<◌, ◌≤◌, Bool, true, false, cond, not, List, [], ◌∷◌, Option, Some, None, IfSome, refl, sym, ap, ◌∙◌, subst, inl, inr, arith}
+use Rattle.std.proofs.Common.{◌≡◌, ◌⊎◌, ℕ, ◌<◌, ◌≤◌, Bool, true, false, cond, not, List, [], ◌∷◌, Option, Some, None, IfSome, refl, sym, ap, ◌∙◌, subst, inl, inr, arith}
 use Rattle.std.proofs.lemmas.Bool.{cases_lt, and_parts, and_from}
 use Rattle.ext_disk.specs.Disk.{Tree, Place, Places, Told, DiskState, IsDisk, MayLeave, at_prefixes, is_durable, is_folder, is_synced, now, root_place}
 use Rattle.ext_disk.specs.Calls.{Allows, Call, IsWithin, Does, DoesTold, MayCall, is_child, synced, synced_in, sync_dir}
 use Rattle.ext_disk.specs.Since.{Since}
 use Rattle.ext_store_files.specs.Names.{current_path}
 use Rattle.ext_store_files.specs.Writing.{WorksTold}
-use Rattle.ext_store_files.proofs.ForCallers.{still_synced}
+use Rattle.ext_store_files.proofs.ForCallers.{still_synced, within_same}
 use Rattle.ext_gen.specs.Store.{State, Stands}
 use Rattle.ext_gen.specs.Sound.{IsBaseDurable, IsDurably, StandsSince}
 use Rattle.ext_gen.proofs.StatesLemmas.{stands_same}
@@ -61,13 +61,10 @@ pub within_since : (P : State → Type 0) (call : Call) (done : Bool) (d e : Tol
 within_since P call done d e disk does gives =
     λ t since. moment_of P call done d e t disk does (λ x. gives x t) since (cases_lt d.clock since.moment)
 
-pub no_more : (a b : ℕ) → a ≡ b → a ≤ b + 0
-no_more a b same = omega (arith, same)
-
 -- what stands is the same, and nothing is appended
 pub sync_works : (at : List (List ℕ) → Bool) (done : Bool) (d e : Told) → DoesTold (sync_dir []) done d e → WorksTold at 0 d e
-sync_works at true d e does = record { now = λ p out. ap (λ (f : Places). (f p).node) does.ends.0 ∙ now_synced [] d.places p; appended = no_more _ _ does.ends.1 }
-sync_works at false d e does = record { now = λ p out. ap (λ (x : Told). (x.places p).node) does.ends; appended = no_more _ _ (ap (λ (x : Told). x.appended) does.ends) }
+sync_works at true d e does = record { now = λ p out. ap (λ (f : Places). (f p).node) does.ends.0 ∙ now_synced [] d.places p; appended = within_same 0 d.appended e.appended does.ends.1 }
+sync_works at false d e does = record { now = λ p out. ap (λ (x : Told). (x.places p).node) does.ends; appended = within_same 0 d.appended e.appended (ap (λ (x : Told). x.appended) does.ends) }
 
 may_sync_at : (x : Option Told) → IfSome x IsDisk → IfSome x (λ d. Allows (sync_dir []) d.places)
 may_sync_at None disk = tt

@@ -1,5 +1,5 @@
 -- Preparing a change: the coming generation is written beside the current one, so that a switch is all that is left to do.
-use Rattle.std.specs.Prelude.{◌≡◌, ◌⊎◌, ℕ, ◌+◌, ◌<◌, ◌≤◌, ◌==◌, Bool, true, false, ◌||◌, nat_lt, if◌then◌else◌, List, [], ◌∷◌, ◌++◌, length, slice_get, unwrap_or, Option, Some, None, IfSome, Result, Ok, Err}
+use Rattle.std.specs.Prelude.{◌≡◌, ◌⊎◌, ℕ, ◌+◌, ◌<◌, ◌==◌, Bool, true, false, ◌||◌, nat_lt, if◌then◌else◌, List, [], ◌∷◌, ◌++◌, length, slice_get, unwrap_or, Option, Some, None, IfSome, Result, Ok, Err}
 use Rattle.std.specs.List.{AllByRecursion, flat_map, list_any, sum_by}
 use Rattle.std.specs.Option.{is_some, option_map}
 use Rattle.ext_text.specs.Causes.{Rose}
@@ -19,6 +19,7 @@ use Rattle.ext_host.specs.declared.home.Home.{Home}
 use Rattle.ext_host.specs.declared.host.Host.{Host}
 use Rattle.ext_host.specs.declared.past.Past.{Past}
 use Rattle.ext_host.specs.Home.{last_generation}
+use Rattle.ext_store_files.specs.Appended.{raised}
 use Rattle.ext_store_files.specs.LeftOvers.{is_left_path}
 use Rattle.ext_store_files.specs.Names.{IsGeneration, current_text, generation_path}
 use Rattle.ext_index.specs.ValidIndex.{most_index_bytes}
@@ -132,8 +133,8 @@ pub record PreparesTold (from : Option Generation) (coming : Generation) (writte
   -- whichever state the disk durably stood for, all is there for the coming one
   pub ready : (s : State) → IsDurably s d.places → IsReady s (at coming (contents_after coming.number written s)) e.places
   pub prepared : IsPrepared coming e.places
-  -- what was written, the index, and the line of `next`
-  pub appended : e.appended ≤ d.appended + (sum_by length written + (length (coming_index coming.number coming.host) + length (current_text coming.number)))
+  -- exactly what was written, the index, and the line of `next`
+  pub appended : e.appended ≡ raised d.appended (sum_by length written + (length (coming_index coming.number coming.host) + length (current_text coming.number)))
   -- of generations there is the coming one, and those that were needed
   pub generations : (m : ℕ) → IsGeneration m → is_some (e.places (generation_path m)).node ≡ true → (m ≡ coming.number) ⊎ (is_needed from m ≡ true)
 

@@ -1,9 +1,10 @@
 -- The paths at which a change makes something before its last move, and what the parts of a change leave there.
-use Rattle.std.specs.Prelude.{◌≡◌, ◌⊎◌, ℕ, ◌+◌, ◌<◌, ◌≤◌, Bool, true, not, ◌&&◌, ◌||◌, List, None, Result, Ok, Err}
+use Rattle.std.specs.Prelude.{◌≡◌, ◌⊎◌, ℕ, ◌<◌, Bool, true, not, ◌&&◌, ◌||◌, List, None, Result, Ok, Err}
 use Rattle.std.specs.Option.{is_some}
 use Rattle.ext_text.specs.Path.{is_prefix}
 use Rattle.ext_disk.specs.Disk.{Places, Told, DiskState, BothTold}
 use Rattle.ext_disk.specs.Fixed.{Spares}
+use Rattle.ext_store_files.specs.Appended.{RaisesWithin}
 use Rattle.ext_store_files.specs.LeftOvers.{is_left_path, most_left_overs}
 use Rattle.ext_store_files.specs.Names.{generation_path, home_folder, home_path, index_path, next_path}
 use Rattle.ext_store_files.specs.Removal.{AtMost, Loses, MoreThan}
@@ -27,7 +28,7 @@ pub data IsComing (n files : ℕ) : List (List ℕ) → Type 0 where
 -- what stands changes at those paths alone, and no more than so many bytes were appended
 pub record MakesTold (n files most : ℕ) (d e : Told) : Type 0 where
   pub now : (p : List (List ℕ)) → ((e.places p).node ≡ (d.places p).node) ⊎ IsComing n files p
-  pub appended : e.appended ≤ d.appended + most
+  pub appended : RaisesWithin most d.appended e.appended
 
 -- what is out of the coming generation's reach stays as it was
 pub record Makes (n files most : ℕ) (old new : DiskState) : Type 0 where
@@ -43,7 +44,7 @@ pub data ChangesAt (left : List (List ℕ) → Bool) (n files : ℕ) (d e : Plac
 -- and no more than so many bytes were appended
 pub record ChangesTold (left : List (List ℕ) → Bool) (n files most : ℕ) (d e : Told) : Type 0 where
   pub now : (p : List (List ℕ)) → ChangesAt left n files d.places e.places p
-  pub appended : e.appended ≤ d.appended + most
+  pub appended : RaisesWithin most d.appended e.appended
 
 -- what is out of reach stays as it was: each path that is no left-over's nor below one
 pub record Changes (needed : ℕ → Bool) (n files most : ℕ) (old new : DiskState) : Type 0 where

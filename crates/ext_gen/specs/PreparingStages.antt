@@ -1,10 +1,11 @@
 -- What stands of a coming generation, and what of it is synced, from one part of a change to the next.
-use Rattle.std.specs.Prelude.{◌≡◌, ℕ, ◌+◌, ◌<◌, ◌≤◌, Bool, true, false, List, [], ◌∷◌, ◌++◌, length, Option, None, Some}
+use Rattle.std.specs.Prelude.{◌≡◌, ℕ, ◌<◌, Bool, true, false, List, [], ◌∷◌, ◌++◌, length, Option, None, Some}
 use Rattle.std.specs.List.{sum_by}
 use Rattle.std.specs.Option.{is_some}
 use Rattle.ext_depot.specs.Depot.{DepotState}
 use Rattle.ext_disk.specs.Disk.{folder, file, Places, Told, DiskState, BothTold, is_durable, is_folder, is_synced}
 use Rattle.ext_host.specs.declared.host.Host.{Host}
+use Rattle.ext_store_files.specs.Appended.{raised}
 use Rattle.ext_store_files.specs.LeftOvers.{is_left_path}
 use Rattle.ext_store_files.specs.Names.{current_text, generation_path, home_folder, home_path, index_path, next_path}
 use Rattle.ext_store_files.specs.Writing.{IsMade, IsWritten}
@@ -75,10 +76,10 @@ pub record IsComplete (n : ℕ) (written : List (List ℕ)) (text : List ℕ) (d
   pub durable : (k : ℕ) → k < length written → is_durable d (home_path n k) ≡ true
   pub files : AreWritten n 0 written d
 
--- the files are written, with so many bytes
+-- the files are written, and nothing else was appended
 pub record FillsTold (n : ℕ) (written : List (List ℕ)) (d e : Told) : Type 0 where
   pub filled : IsFilled n written e.places
-  pub appended : e.appended ≤ d.appended + sum_by length written
+  pub appended : e.appended ≡ raised d.appended (sum_by length written)
 
 -- the host has its homes, and the files that the store lacked are written
 pub record Fills (from : Option Host) (n : ℕ) (host : Host) (old new : DiskState) (depot : DepotState) (placed : Placed) : Type 0 where

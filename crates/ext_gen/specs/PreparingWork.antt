@@ -1,10 +1,11 @@
 -- A change that is written whole, in paths of the store: what is complete, and what is gone.
-use Rattle.std.specs.Prelude.{◌≡◌, ◌⊎◌, ℕ, ◌+◌, ◌≤◌, Bool, true, List, [], ◌∷◌, length, Option}
+use Rattle.std.specs.Prelude.{◌≡◌, ◌⊎◌, ℕ, ◌+◌, Bool, true, List, [], ◌∷◌, length, Option}
 use Rattle.std.specs.List.{sum_by}
 use Rattle.std.specs.Option.{is_some}
 use Rattle.ext_depot.specs.Depot.{DepotState}
 use Rattle.ext_disk.specs.Disk.{Told, DiskState, BothTold}
 use Rattle.ext_host.specs.declared.host.Host.{Host}
+use Rattle.ext_store_files.specs.Appended.{raised}
 use Rattle.ext_store_files.specs.LeftOvers.{is_left_over}
 use Rattle.ext_store_files.specs.Names.{current_text, generation_name, next_name}
 use Rattle.ext_homes.specs.Giving.{stored_by}
@@ -14,10 +15,11 @@ use Rattle.ext_gen.specs.Preparing.{coming_number, host_before, is_needed}
 use Rattle.ext_gen.specs.PreparingIndex.{coming_index}
 use Rattle.ext_gen.specs.PreparingStages.{IsComplete}
 
--- the coming generation is complete, what was appended is what it has, and of the left-overs nothing is there but its names
+-- The coming generation is complete, and of the left-overs nothing is there but its names. What was appended is exactly its files
+-- that were written, its index and the line of `next`.
 pub record ChangedTold (needed : ℕ → Bool) (n : ℕ) (host : Host) (written : List (List ℕ)) (d e : Told) : Type 0 where
   pub complete : IsComplete n written (coming_index n host) e.places
-  pub appended : e.appended ≤ d.appended + (sum_by length written + (length (coming_index n host) + length (current_text n)))
+  pub appended : e.appended ≡ raised d.appended (sum_by length written + (length (coming_index n host) + length (current_text n)))
   pub names : (name : List ℕ) → is_left_over needed name ≡ true → is_some (e.places (name ∷ [])).node ≡ true → (name ≡ next_name) ⊎ (name ≡ generation_name n)
 
 -- the host has its homes, and is one of a generation

@@ -9,8 +9,8 @@ use Rattle.ext_tree.specs.Tree.{Entries}
 use Rattle.ext_host.specs.Held.{HeldFile}
 use Rattle.ext_host.specs.declared.host.Host.{Host}
 use Rattle.ext_store_files.specs.Names.{generation_path}
-use Rattle.ext_store_files.specs.Writing.{Holds, IsMade}
-use Rattle.ext_store_files.proofs.ForCallers.{holds_map}
+use Rattle.ext_store_files.specs.Writing.{Holds, IsMade, Works}
+use Rattle.ext_store_files.proofs.ForCallers.{holds_map, works_itself}
 use Rattle.ext_homes.specs.Brought.{brought}
 use Rattle.ext_homes.specs.Comparing.{stored_in}
 use Rattle.ext_homes.specs.Giving.{AreBefore, AreHomesBefore, Gives, stored_by, trees_before}
@@ -19,11 +19,12 @@ use Rattle.ext_homes.specs.Placed.{AreBothPlaced}
 use Rattle.ext_homes.specs.Placing.{Placing}
 use Rattle.ext_homes.specs.Refused.{HomesCause}
 use Rattle.ext_homes.specs.Sought.{AreSought, EntryAmong, IsSought, is_sought}
-use Rattle.ext_homes.specs.Written.{HasHomes}
+use Rattle.ext_homes.specs.Written.{HasHomes, is_below}
 use Rattle.ext_homes.specs.declared.errors.HomesErr.{HomesErr}
 use Rattle.ext_homes.specs.declared.giving.Placed.{Placed}
 use Rattle.ext_homes.specs.declared.kept_files.KeptFile.{KeptFile}
 use Rattle.ext_homes.proofs.StoredLemmas.{IsAlike, entries_alike, homes_cause_since}
+use Rattle.ext_homes.proofs.WritingLemmas.{only_folder_works}
 
 -- in the new folder of a generation no file has its home
 no_homes : (n : ℕ) (e : Places) → IsMade (generation_path n) e → HasHomes n 0 e
@@ -32,6 +33,10 @@ no_homes n e made = record {
   folders = λ k less. absurd (omega arith);
   only = λ p below some. absurd (false≢true (ap is_some (sym (made.empty p below)) ∙ some));
 }
+
+-- nothing was done
+pub nothing_works : (n most : ℕ) (s : DiskState) → Works (is_below n) (is_below n) most s s
+nothing_works n most s = only_folder_works n most s s (works_itself (is_below n) (is_below n) s)
 
 pub new_homes : (n : ℕ) (s : DiskState) → Holds (IsMade (generation_path n)) s → Holds (HasHomes n 0) s
 new_homes n s made = holds_map (IsMade (generation_path n)) (HasHomes n 0) (no_homes n) s.told made

@@ -1,6 +1,6 @@
 -- The files of a coming host, given their homes one after another: nothing, one file more, and what stops it.
 use Rattle.std.proofs.Common.{◌≡◌, ℕ, zero, suc, ◌+◌, ◌^◌, ◌<◌, ◌≤◌, true, false, cond, List, [], ◌∷◌, ◌++◌, length, Option, Some, None, IfSome, refl, sym, ap, ◌∙◌, subst, arith, append_assoc, append-nil, length-append, set, drop, take, get_or, drop-cons}
-use Rattle.std.specs.List.{AllByRecursion}
+use Rattle.std.specs.List.{AllByRecursion, sum_by}
 use Rattle.std.proofs.lemmas.List.Concat.{flat_map-append}
 use Rattle.std.proofs.lemmas.List.Sums.{sum_by-append}
 use Rattle.std.proofs.lemmas.Bool.{false≢true}
@@ -18,10 +18,11 @@ use Rattle.ext_host.specs.declared.body.Body.{Body}
 use Rattle.ext_host.specs.declared.body.Body.TheVariants.{Here, Kept, Depot}
 use Rattle.ext_host.specs.declared.home.Home.{Home}
 use Rattle.ext_disk.proofs.ForCallers.{rests_itself}
+use Rattle.ext_store_files.specs.Appended.{raised}
 use Rattle.ext_store_files.specs.HeldFiles.{node_told, told_at}
 use Rattle.ext_store_files.specs.Names.{home_path}
 use Rattle.ext_store_files.specs.Writing.{Holds, IsWritten, Works, WorksTold}
-use Rattle.ext_store_files.proofs.ForCallers.{holds_map, kept_itself, kept_then, told_then, works_itself, works_then, works_wider}
+use Rattle.ext_store_files.proofs.ForCallers.{holds_map, kept_itself, kept_then, raised_then, told_then, works_itself, works_then, works_wider}
 use Rattle.ext_homes.specs.Brought.{AreSmall, brought, brought_stamps, bytes_of_all, is_brought}
 use Rattle.ext_homes.specs.Comparing.{stored_in}
 use Rattle.ext_homes.specs.Giving.{AreBefore, home_told}
@@ -47,7 +48,7 @@ writes_nothing n k d has = record {
   files = tt;
   homes = same_number n k d.places has;
   earlier = λ j bytes less written. written;
-  appended = omega arith;
+  appended = refl;
 }
 
 -- files have their homes where nothing changed
@@ -111,7 +112,8 @@ writes_then n k xs ys c d e one two =
       files = written_both n k xs ys e.places (keeps_list n k xs d e two.earlier one.files) two.files;
       homes = subst (λ i. HasHomes n i e.places) sum two.homes;
       earlier = λ j bytes less was. two.earlier j bytes (omega arith) (one.earlier j bytes less was);
-      appended = let first = one.appended in let second = two.appended in omega (arith, sum_by-append (λ (b : List ℕ). length b) xs ys);
+      appended = two.appended ∙ ap (λ k. raised k (sum_by length ys)) one.appended ∙ raised_then c.appended (sum_by length xs) (sum_by length ys)
+          ∙ ap (λ k. raised c.appended k) (sym (sum_by-append (λ (b : List ℕ). length b) xs ys));
     }
 
 placed_one : (old : Stored) (depot : DepotState) (n : ℕ) (p : List (List ℕ)) (e : Entry HeldFile) (next : ℕ) (new : Entry HeldFile) (written : List (List ℕ))

@@ -1,6 +1,7 @@
 -- A brought file written as the file of a number: what stands before, between and after.
 use Rattle.std.proofs.Common.{◌≡◌, ◌≢◌, ◌⊎◌, ℕ, ◌+◌, ◌-◌, ◌%◌, ◌<◌, ◌≤◌, true, false, List, [], ◌∷◌, length, take, drop, Option, Some, None, IfSome, refl, sym, ap, ◌∙◌, subst, inl, inr, arith}
 use Rattle.std.proofs.lemmas.Bool.{cases_Bool, cases_lt}
+use Rattle.std.specs.List.{sum_by}
 use Rattle.std.specs.Option.{is_some}
 use Rattle.ext_lines.specs.Hexadecimal.{five_digits}
 use Rattle.ext_text.specs.Path.{is_prefix}
@@ -11,8 +12,9 @@ use Rattle.ext_disk.specs.Fixed.{IsUnchangedAt}
 use Rattle.ext_tree.specs.declared.stamp.Stamp.{Stamp}
 use Rattle.ext_host.specs.Shelf as shelf
 use Rattle.ext_store_files.specs.Names.{generation_path, home_folder, home_path}
+use Rattle.ext_store_files.specs.Appended.{raised, RaisesTold, RaisesWithin, Raises}
 use Rattle.ext_store_files.specs.Writing.{is_at, Works, WorksTold, IsMade, IsWritten, Holds}
-use Rattle.ext_store_files.proofs.ForCallers.{holds_map, holds_then, proper_append, works_then, works_wider}
+use Rattle.ext_store_files.proofs.ForCallers.{holds_map, holds_then, proper_append, within_none, works_then, works_wider}
 use Rattle.ext_homes.specs.Written.{is_below, HasOnlyHomes, HasHomes, Writes}
 use Rattle.ext_homes.specs.Writing.{IsNumberOpen, Opens, IsPut, WritesBrought}
 use Rattle.ext_homes.proofs.HomePathsLemmas.{apart_from_folder, apart_from_home, home_no_folder, new_folder, not_at, one_home_path, outside, out_of_folder, out_of_home, same_folder}
@@ -150,9 +152,16 @@ may_make_file n k old new opens = go old.told new.told opens
       path_absent = opens.open'.free;
     }
 
-wrote : (n k most : ℕ) (bytes : List ℕ) (c d e : Told) → k < 262144 → length bytes ≡ most → d.appended ≤ c.appended + 0 → Opens n k c d
-    → ((p : List (List ℕ)) → is_prefix (home_path n k) p ≡ false → IsUnchangedAt d e p) → WorksTold (is_at (home_path n k)) most d e → IsWritten (home_path n k) bytes e.places → Writes n k (bytes ∷ []) c e
-wrote n k most bytes c d e high long before opens unchanged works written = record {
+-- nothing was appended, and then these bytes
+raised_by : (bytes : List ℕ) (before amid after : ℕ) → RaisesWithin 0 before amid → after ≡ raised amid (length bytes) → after ≡ raised before (sum_by length (bytes ∷ []))
+raised_by bytes before amid after first then =
+    let one : length bytes ≡ sum_by length (bytes ∷ []) = omega arith in
+    then ∙ ap (λ k. raised k (length bytes)) (within_none before amid first) ∙ ap (λ k. raised before k) one
+
+wrote : (n k most : ℕ) (bytes : List ℕ) (c d e : Told) → k < 262144 → RaisesWithin 0 c.appended d.appended → Opens n k c d
+    → ((p : List (List ℕ)) → is_prefix (home_path n k) p ≡ false → IsUnchangedAt d e p) → WorksTold (is_at (home_path n k)) most d e → IsWritten (home_path n k) bytes e.places
+    → RaisesTold (length bytes) d e → Writes n k (bytes ∷ []) c e
+wrote n k most bytes c d e high before opens unchanged works written raises = record {
   files = (written, tt);
   homes = record {
     root = works.now (generation_path n) (other_at (home_path n k) (generation_path n) (λ same. let more = ap length same in absurd (omega arith))) ∙ opens.open'.root;
@@ -161,26 +170,26 @@ wrote n k most bytes c d e high long before opens unchanged works written = reco
   };
   earlier = λ j other less was.
       stays_written (home_path n j) other d e (unchanged (home_path n j) (apart_from_home n j k (omega arith) high (omega arith))) (opens.earlier j other less was);
-  appended = let after = works.appended in omega (arith, long, before, after);
+  appended = raised_by bytes c.appended d.appended e.appended before raises;
 }
 
-pub file_written : (n k most : ℕ) (bytes : List ℕ) (old mid new : DiskState) → k < 262144 → length bytes ≡ most → Works (is_below n) (is_below n) 0 old mid → BothTold (Opens n k) old.told mid.told
-    → Works (is_prefix (home_path n k)) (is_at (home_path n k)) most mid new → Holds (IsWritten (home_path n k) bytes) new → BothTold (Writes n k (bytes ∷ [])) old.told new.told
-file_written n k most bytes old mid new high long first opens works written = go old.told mid.told new.told first.told opens works.spares.told works.told written
+pub file_written : (n k most : ℕ) (bytes : List ℕ) (old mid new : DiskState) → k < 262144 → Works (is_below n) (is_below n) 0 old mid → BothTold (Opens n k) old.told mid.told
+    → Works (is_prefix (home_path n k)) (is_at (home_path n k)) most mid new → Holds (IsWritten (home_path n k) bytes) new → Raises (length bytes) mid new → BothTold (Writes n k (bytes ∷ [])) old.told new.told
+file_written n k most bytes old mid new high first opens works written raises = go old.told mid.told new.told first.told opens works.spares.told works.told written raises
   where
     go : (x y z : Option Told) → BothTold (WorksTold (is_below n) 0) x y → BothTold (Opens n k) x y → BothTold (λ d e. (p : List (List ℕ)) → is_prefix (home_path n k) p ≡ false → IsUnchangedAt d e p) y z
-        → BothTold (WorksTold (is_at (home_path n k)) most) y z → IfSome z (λ e. IsWritten (home_path n k) bytes e.places) → BothTold (Writes n k (bytes ∷ [])) x z
-    go None None None first opens unchanged works written = tt
-    go None None (Some e) first opens unchanged works written = absurd works
-    go None (Some d) z first opens unchanged works written = absurd opens
-    go (Some c) None z first opens unchanged works written = absurd opens
-    go (Some c) (Some d) None first opens unchanged works written = absurd works
-    go (Some c) (Some d) (Some e) first opens unchanged works written = wrote n k most bytes c d e high long first.appended opens unchanged works written
+        → BothTold (WorksTold (is_at (home_path n k)) most) y z → IfSome z (λ e. IsWritten (home_path n k) bytes e.places) → BothTold (RaisesTold (length bytes)) y z → BothTold (Writes n k (bytes ∷ [])) x z
+    go None None None first opens unchanged works written raises = tt
+    go None None (Some e) first opens unchanged works written raises = absurd works
+    go None (Some d) z first opens unchanged works written raises = absurd opens
+    go (Some c) None z first opens unchanged works written raises = absurd opens
+    go (Some c) (Some d) None first opens unchanged works written raises = absurd works
+    go (Some c) (Some d) (Some e) first opens unchanged works written raises = wrote n k most bytes c d e high first.appended opens unchanged works written raises
 
 pub put_written : (n k : ℕ) (brought : shelf.Told) (stamp : Stamp) (old mid new : DiskState) → k < 262144 → Works (is_below n) (is_below n) 0 old mid → BothTold (Opens n k) old.told mid.told
-    → Works (is_prefix (home_path n k)) (is_at (home_path n k)) stamp.size mid new → IsPut brought stamp (home_path n k) new → WritesBrought n k brought stamp old new
+    → Works (is_prefix (home_path n k)) (is_at (home_path n k)) stamp.size mid new → IsPut brought stamp (home_path n k) mid new → WritesBrought n k brought stamp old new
 put_written n k brought stamp old mid new high first opens works put =
-    (put.0, put.1, put.2, file_written n k stamp.size put.0 old mid new high (sym put.2.size) first opens works put.3)
+    (put.0, put.1, put.2, file_written n k stamp.size put.0 old mid new high first opens works put.3 put.4)
 
 -- however the writing of the file ends
 pub file_only : (n k most : ℕ) (old mid new : DiskState) → BothTold (Opens n k) old.told mid.told → Works (is_prefix (home_path n k)) (is_at (home_path n k)) most mid new

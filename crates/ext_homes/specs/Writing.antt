@@ -1,5 +1,5 @@
 -- The steps in which a brought file is written.
-use Rattle.std.specs.Prelude.{◌≡◌, ℕ, ◌+◌, ◌<◌, List, [], ◌∷◌, None, Some}
+use Rattle.std.specs.Prelude.{◌≡◌, ℕ, ◌+◌, ◌<◌, List, [], ◌∷◌, length, None, Some}
 use Rattle.ext_text.specs.Causes.{Rose}
 use Rattle.ext_depot.specs.Depot.{DepotState}
 use Rattle.ext_disk.specs.Disk.{folder, Places, Told, DiskState, BothTold}
@@ -8,6 +8,7 @@ use Rattle.ext_host.specs.Held.{HeldFile, IsStampOf}
 use Rattle.ext_host.specs.Shelf as shelf
 use Rattle.ext_host.specs.Shelf.{IsTold}
 use Rattle.ext_host.specs.declared.body.Body.TheVariants.{Depot}
+use Rattle.ext_store_files.specs.Appended.{Raises}
 use Rattle.ext_store_files.specs.Copying.{IsMissing, IsReadStamp}
 use Rattle.ext_store_files.specs.Names.{generation_path, home_folder, home_path}
 use Rattle.ext_store_files.specs.declared.errors.CopyErr.{CopyErr}
@@ -35,9 +36,10 @@ pub record Opens (generation number : ℕ) (d e : Told) : Type 0 where
   pub open' : IsNumberOpen generation number e.places
   pub earlier : KeepsEarlier generation number d e
 
--- the brought bytes, which have the stamp, stand at the path, synced
-abbrev pub IsPut : shelf.Told → Stamp → List (List ℕ) → DiskState → Type 0
-IsPut brought stamp path new = (bytes : List ℕ) × IsTold brought bytes × IsStampOf bytes stamp × Holds (IsWritten path bytes) new
+-- the brought bytes, which have the stamp, stand at the path, synced, and no others were appended
+abbrev pub IsPut : shelf.Told → Stamp → List (List ℕ) → DiskState → DiskState → Type 0
+IsPut brought stamp path old new =
+    (bytes : List ℕ) × IsTold brought bytes × IsStampOf bytes stamp × Holds (IsWritten path bytes) new × Raises (length bytes) old new
 
 -- the brought bytes, which have the stamp, were written as the file of this number
 abbrev pub WritesBrought : ℕ → ℕ → shelf.Told → Stamp → DiskState → DiskState → Type 0

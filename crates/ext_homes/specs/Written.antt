@@ -1,11 +1,12 @@
 -- What stands in the folder of a coming generation while its files are written: files 0, 1 and so on at their homes, in
 -- folders of 256 each, and nothing else.
-use Rattle.std.specs.Prelude.{◌≡◌, ℕ, ◌+◌, ◌<◌, ◌≤◌, ◌⊎◌, Bool, true, List, [], ◌∷◌, length, Some}
+use Rattle.std.specs.Prelude.{◌≡◌, ℕ, ◌+◌, ◌<◌, ◌⊎◌, Bool, true, List, [], ◌∷◌, length, Some}
 use Rattle.std.specs.List.{sum_by}
 use Rattle.std.specs.Option.{is_some}
 use Rattle.ext_text.specs.Path.{is_proper_prefix}
 use Rattle.ext_disk.specs.Disk.{folder, Places, Told}
 use Rattle.ext_store_files.specs.Names.{generation_path, home_folder, home_path}
+use Rattle.ext_store_files.specs.Appended.{raised}
 use Rattle.ext_store_files.specs.Writing.{IsWritten}
 
 -- below the folder of the generation
@@ -28,9 +29,9 @@ abbrev pub AreWritten : ℕ → ℕ → List (List ℕ) → Places → Type 0
 AreWritten generation number [] e = Unit {0}
 AreWritten generation number (bytes ∷ more) e = IsWritten (home_path generation number) bytes e × AreWritten generation (number + 1) more e
 
--- files of these bytes were written from this number on, in pieces of at most as many bytes together; those before them stay
+-- files of these bytes were written from this number on, and nothing else was appended; those before them stay
 pub record Writes (generation number : ℕ) (written : List (List ℕ)) (d e : Told) : Type 0 where
   pub files : AreWritten generation number written e.places
   pub homes : HasHomes generation (number + length written) e.places
   pub earlier : (k : ℕ) (bytes : List ℕ) → k < number → IsWritten (home_path generation k) bytes d.places → IsWritten (home_path generation k) bytes e.places
-  pub appended : e.appended ≤ d.appended + sum_by length written
+  pub appended : e.appended ≡ raised d.appended (sum_by length written)

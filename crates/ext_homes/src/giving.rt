@@ -64,6 +64,7 @@ pub fn give_homes<D: Disk, P: Depot>(
     ensures only { Holds (HasOnlyHomes generation (length (brought (host.root ++ host.lower)))) (D.state disk.new) }
     ensures kept { IsKept (P.state depot.old) (P.state depot.new) }
 
+    // Where all have their homes, what is appended is exactly the files that are written.
     ensures placed { IfOk result (Gives (option_copied from.entry) generation host (D.state disk.old) (D.state disk.new)
         (P.state depot.old)) }
     ensures cause { IfErr result (HomesCause (D.state disk.old) (D.state disk.new) (P.state depot.old) (P.state depot.new)

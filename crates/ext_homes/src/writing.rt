@@ -87,7 +87,8 @@ fn put_file<D: Disk, P: Depot>(
     requires size { held.now.stamp.size < 2 ^ 63 }
     ensures works { Works (is_prefix path.now) (is_at path.now) held.now.stamp.size (D.state disk.old) (D.state disk.new) }
     ensures kept { IsKept (P.state depot.old) (P.state depot.new) }
-    ensures put { OnOk result (IsPut (brought_told (P.state depot.old) held.now.body) held.now.stamp path.now (D.state disk.new)) }
+    ensures put { OnOk result (IsPut (brought_told (P.state depot.old) held.now.body) held.now.stamp path.now (D.state disk.old)
+        (D.state disk.new)) }
     ensures cause { IfErr result (WriteCause (D.state disk.old) (D.state disk.new) (P.state depot.old) (P.state depot.new) held.now) }
 {
     match held.body() {

@@ -18,11 +18,12 @@ use Rattle.ext_host.specs.Shelf.{untold, missing, stored, IsTold}
 use Rattle.ext_store_files.specs.declared.errors.CopyErr.{CopyErr}
 use Rattle.ext_store_files.specs.declared.errors.CopyErr.TheVariants.{OutOfMemory, DiskFault, DepotFault, NotInDepot, Mismatch}
 use Rattle.ext_io.specs.Pieces.{IsPieceAt}
+use Rattle.ext_store_files.specs.Appended.{Raises}
 use Rattle.ext_store_files.specs.Writing.{is_at, nowhere, Works, IsFileWith, Holds, Appends}
 use Rattle.ext_store_files.specs.Copying.{bytes_told, contents_told, depot_told, IsReadUpTo, IsCopied, IsFed, CopyKeeps, CopyCause, FeedCause, IsPieceTold, IsThere, ReadDepotCause, BeginsTold}
 use Rattle.ext_store_files.proofs.ReadingLemmas.{begins_more, whole_read}
 use Rattle.ext_store_files.proofs.HashingLemmas.{piece_read}
-use Rattle.ext_store_files.proofs.WritingLemmas.{HasAppended, appended_no_folder, appended_within, appended_then, works_itself, works_then, works_wider, holds_map, synced_written, still_no_folder, and_synced}
+use Rattle.ext_store_files.proofs.WritingLemmas.{HasAppended, appended_no_folder, appended_nothing, appended_within, appended_then, raises_after, raises_before, works_itself, works_then, works_wider, holds_map, synced_written, still_no_folder, and_synced}
 
 -- a count that rose lately rose since an earlier time
 pub rose_since : (before amid after : ℕ) → before ≤ amid → Rose amid after → Rose before after
@@ -103,21 +104,21 @@ feeds_nothing from path s d holds size there empty fed = record {
   within = omega arith;
   fed = fed;
   begins = begins_nothing d.contents from there;
-  appended = record { works = works_itself (is_prefix path) (is_at path) s; file = empty };
+  appended = appended_nothing path s empty;
   kept = kept_itself d;
 }
 
 pub feeds_more : (from path : List (List ℕ)) (old mid new : DiskState) (before amid after : DepotState) (held holds : List ℕ → Type 0) (size at n : ℕ) (piece : List ℕ)
     → Feeding (depot_told before from) path old mid before amid held size at → IsKept amid after → length piece ≡ n → at + n ≤ size → ((m : List ℕ) → held m → holds (m ++ piece))
-    → IsPieceTold (depot_told amid from) at piece → Works (is_prefix path) (is_at path) (length piece) mid new → BothTold (Appends path piece) mid.told new.told
+    → IsPieceTold (depot_told amid from) at piece → Works (is_prefix path) (is_at path) (length piece) mid new → BothTold (Appends path piece) mid.told new.told → Raises (length piece) mid new
     → Feeding (depot_told before from) path old new before after holds size (at + n)
-feeds_more from path old mid new before amid after held holds size at n piece has kept long fits feeds next works more = record {
+feeds_more from path old mid new before amid after held holds size at n piece has kept long fits feeds next works more raises = record {
   bytes = has.bytes ++ piece;
   long = omega (arith, length-append has.bytes piece, has.long);
   within = fits;
   fed = feeds has.bytes has.fed;
   begins = begins_then (depot_told before from) has.bytes piece at has.long has.begins (subst (λ t. IsPieceTold t at piece) (kept_told before amid from has.kept) next);
-  appended = appended_then path old mid new has.bytes piece (has.bytes ++ piece) refl has.appended works more;
+  appended = appended_then path old mid new has.bytes piece (has.bytes ++ piece) refl has.appended works more raises;
   kept = kept_then before amid after has.kept kept;
 }
 
@@ -132,7 +133,7 @@ none_of size at n (inr past) fits = absurd (omega arith)
 pub feeds_end : (from path : List (List ℕ)) (old mid : DiskState) (before amid : DepotState) (held holds : List ℕ → Type 0) (size at n : ℕ) (piece : List ℕ) (found : Stamp)
     → Feeding (depot_told before from) path old mid before amid held size at → length piece ≡ n → at + n ≤ size + 1 → (n ≡ 0) ⊎ (size < at + n)
     → ((m : List ℕ) → held m → holds (m ++ piece)) → IsPieceTold (depot_told amid from) at piece → ((m : List ℕ) → holds m → length m ≡ at + n → IsStampOf m found)
-    → IsFed (depot_told before from) size path mid found
+    → IsFed (depot_told before from) size path old mid found
 feeds_end from path old mid before amid held holds size at n piece found has long most end feeds next stamps =
     let full : length (has.bytes ++ piece) ≡ at + n = omega (arith, length-append has.bytes piece, has.long) in
     let stamped : IsStampOf (has.bytes ++ piece) found = stamps (has.bytes ++ piece) (feeds has.bytes has.fed) full in (
@@ -140,8 +141,11 @@ feeds_end from path old mid before amid held holds size at n piece found has lon
       stamped,
       read_up_to (depot_told before from) size at n has.bytes piece has.long long has.within most end has.begins
           (subst (λ t. IsPieceTold t at piece) (kept_told before amid from has.kept) next),
-      λ fits. same_bytes path mid has.bytes piece
-          (no_piece piece (long ∙ none_of size at n end (omega (arith, stamped.size, full)))) has.appended.file,
+      λ fits.
+          let none : piece ≡ [] = no_piece piece (long ∙ none_of size at n end (omega (arith, stamped.size, full))) in (
+            same_bytes path mid has.bytes piece none has.appended.file,
+            subst (λ l. Raises (length l) old mid) (sym (ap (λ (l : List ℕ). has.bytes ++ l) none ∙ append-nil has.bytes)) has.appended.raises,
+          ),
     )
 
 pub feeding_keeps : (told : shelf.Told) (path : List (List ℕ)) (old mid : DiskState) (before amid after : DepotState) (holds : List ℕ → Type 0) (size at : ℕ)
@@ -227,15 +231,23 @@ told_whole (stored all) size bytes read fits = read ∙ take_all (size + 1) all 
     short : (all : List ℕ) → bytes ≡ take (size + 1) all → length all ≤ size + 1
     short all same = omega (arith, ap length same, length-take (size + 1) all)
 
-pub copied_whole : (told : shelf.Told) (listed found : Stamp) (path : List (List ℕ)) (mid new : DiskState) → found ≡ listed → IsFed told listed.size path mid found → Works nowhere nowhere 0 mid new
-    → Holds (λ e. (e path).unsynced_bytes ≡ false) new → IsCopied told listed path new
-copied_whole told listed found path mid new same fed works hard =
-    let sized : found.size ≡ listed.size = ap (λ (s : Stamp). s.size) same in (
+pub copied_whole : (told : shelf.Told) (listed found : Stamp) (path : List (List ℕ)) (old mid new : DiskState) → found ≡ listed → IsFed told listed.size path old mid found → Works nowhere nowhere 0 mid new
+    → Holds (λ e. (e path).unsynced_bytes ≡ false) new → IsCopied told listed path old new
+copied_whole told listed found path old mid new same fed works hard =
+    let sized : found.size ≡ listed.size = ap (λ (s : Stamp). s.size) same in
+    let within = fed.3 (omega (arith, sized)) in (
       fed.0,
       subst (IsStampOf fed.0) same fed.1,
       told_whole told listed.size fed.0 fed.2 (omega (arith, fed.1.size, sized)),
-      synced_written path fed.0 mid new (fed.3 (omega (arith, sized))) works hard,
+      synced_written path fed.0 mid new within.0 works hard,
+      raises_before nowhere nowhere (length fed.0) old mid new within.1 works,
     )
+
+-- the file was made, and then copied
+pub copied_then : (told : shelf.Told) (listed : Stamp) (path : List (List ℕ)) (old mid new : DiskState) → Works (is_prefix path) (is_at path) 0 old mid → IsCopied told listed path mid new
+    → IsCopied told listed path old new
+copied_then told listed path old mid new works copied =
+    (copied.0, copied.1, copied.2, copied.3, raises_after (is_prefix path) (is_at path) (length copied.0) old mid new works copied.4)
 
 pub not_last : (b : Bool) (n left : ℕ) → ((n ≡ 0) ⊎ (left < n) → b ≡ true) → b ≡ false → n ≤ left
 not_last b n left tells out = elim (cases_lt left n) [

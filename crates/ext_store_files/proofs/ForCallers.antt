@@ -10,6 +10,14 @@ pub use Rattle.ext_store_files.proofs.LeftOversLemmas.{distinct_no_more}
 pub use Rattle.ext_store_files.proofs.ToldLemmas.{told_map, told_then, told_itself, told_same}
 -- what is made of calls that make and write: nothing, one after another, with a wider reach, and what only rests
 pub use Rattle.ext_store_files.proofs.WritingLemmas.{works_itself, works_then, works_wider, rests_works}
+-- how the sum of the appended bytes goes up: so many and then so many more, no further than by all of them
+pub use Rattle.ext_store_files.proofs.AppendedLemmas.{raised_then, raised_most}
+-- by at most so many: where it stays the same, where none may be appended, with a higher limit, one after another, as a sum
+pub use Rattle.ext_store_files.proofs.AppendedLemmas.{within_same, within_none, within_wider, within_then, within_most}
+-- by exactly so many, from one state of a disk to another: nothing, one after another, as an equal number
+pub use Rattle.ext_store_files.proofs.AppendedLemmas.{raises_itself, raises_then, raises_same}
+-- where work may append nothing it appends nothing, also before or after what appends exactly so many bytes
+pub use Rattle.ext_store_files.proofs.WritingLemmas.{works_raise, raises_after, raises_before}
 -- what holds of a disk where it is told: a weaker fact, two facts, and a fact of the disk that follows
 pub use Rattle.ext_store_files.proofs.WritingLemmas.{holds_map, holds_both, holds_then}
 -- what is synced stays synced where a folder is synced

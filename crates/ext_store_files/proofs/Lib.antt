@@ -1,5 +1,6 @@
 pub mod NamesLemmas
 pub mod ToldLemmas
+pub mod AppendedLemmas
 pub mod ReadingLemmas
 pub mod RemovalLemmas
 pub mod ClearingLemmas

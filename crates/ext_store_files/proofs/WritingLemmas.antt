@@ -1,5 +1,5 @@
 -- What calls that make, write and sync leave, and how they compose.
-use Rattle.std.proofs.Common.{◌≡◌, ℕ, ◌+◌, ◌-◌, ◌^◌, ◌≤◌, min, Bool, true, false, cond, not, List, [], ◌∷◌, ◌++◌, length, take, drop, Option, Some, None, IfSome, Result, Ok, Err, refl, sym, ap, ◌∙◌, subst, inl, inr, arith, length-append, length-take}
+use Rattle.std.proofs.Common.{◌≡◌, ℕ, ◌+◌, ◌-◌, ◌<◌, ◌≤◌, Bool, true, false, cond, not, List, [], ◌∷◌, ◌++◌, length, take, drop, Option, Some, None, IfSome, Result, Ok, Err, refl, sym, ap, ◌∙◌, subst, inl, inr, arith, length-append, length-take}
 use Rattle.std.specs.Prelude.{OnOk}
 use Rattle.std.specs.Option.{is_some}
 use Rattle.std.specs.List.{between}
@@ -16,8 +16,10 @@ use Rattle.ext_disk.specs.Since.{Rests}
 use Rattle.ext_disk.specs.Calls.{Call, make_dir, make_file, append, sync_file, sync_dir, IsFree, Does, DoesTold, EndsTold, IsWithin, Fails, put, with_unsynced_name, written, bytes_of, synced, is_child, child_name}
 use Rattle.ext_disk.specs.Fixed.{touches}
 use Rattle.ext_disk.proofs.ForCallers.{spares_then, spares_wider, spares_itself, rests_spares, call_spares_out_of_reach}
+use Rattle.ext_store_files.specs.Appended.{RaisesTold, Raises}
 use Rattle.ext_store_files.specs.Writing.{is_at, nowhere, WorksTold, Works, IsMade, IsWritten, IsFileWith, Holds, is_synced_to, SyncsIn, Appends}
 use Rattle.ext_store_files.proofs.ToldLemmas.{told_map, told_then, told_same, told_itself}
+use Rattle.ext_store_files.proofs.AppendedLemmas.{raised_some, raises_itself, raises_same, raises_then, within_none, within_same, within_then, within_wider}
 use Rattle.ext_store_files.proofs.RemovalLemmas.{contrapose, none_or_some}
 use Rattle.ext_store_files.proofs.ClearingLemmas.{stands_above, rest_of}
 
@@ -58,32 +60,29 @@ synced_node : (b : Bool) (x : Place) → (cond b (synced x) x).node ≡ x.node
 synced_node true x = refl
 synced_node false x = refl
 
-min_below : (a b : ℕ) → min a b ≤ a
-min_below a b = omega arith
-
 dir_works : (p : List (List ℕ)) (done : Bool) (d e : Told) → EndsTold (make_dir p) done d e → WorksTold (is_at p) 0 d e
-dir_works p true d e ends = record { now = made_dir_node p d.places e.places (inl ends.0); appended = omega (arith, ends.1) }
-dir_works p false d e ends = record { now = made_dir_node p d.places e.places (inr ends.0); appended = omega (arith, ends.1) }
+dir_works p true d e ends = record { now = made_dir_node p d.places e.places (inl ends.0); appended = within_same 0 d.appended e.appended ends.1 }
+dir_works p false d e ends = record { now = made_dir_node p d.places e.places (inr ends.0); appended = within_same 0 d.appended e.appended ends.1 }
 
 file_works : (p : List (List ℕ)) (done : Bool) (d e : Told) → EndsTold (make_file p) done d e → WorksTold (is_at p) 0 d e
-file_works p true d e ends = record { now = made_file_node p d.places e.places (inl ends.0); appended = omega (arith, ends.1) }
-file_works p false d e ends = record { now = made_file_node p d.places e.places (inr ends.0); appended = omega (arith, ends.1) }
+file_works p true d e ends = record { now = made_file_node p d.places e.places (inl ends.0); appended = within_same 0 d.appended e.appended ends.1 }
+file_works p false d e ends = record { now = made_file_node p d.places e.places (inr ends.0); appended = within_same 0 d.appended e.appended ends.1 }
 
-append_works : (p : List (List ℕ)) (b : List ℕ) (done : Bool) (d e : Told) → EndsTold (append p b) done d e → WorksTold (is_at p) (length b) d e
-append_works p b true d e ends = record { now = appended_node p b d.places e.places (inl ends.0); appended = subst (λ n. n ≤ d.appended + length b) (sym ends.1) (min_below (d.appended + length b) (2 ^ 64 - 1)) }
-append_works p b false d e ends = record { now = appended_node p b d.places e.places (inr ends.0); appended = omega (arith, ends.1) }
+append_works : (p : List (List ℕ)) (b : List ℕ) (done : Bool) → 0 < length b → (d e : Told) → EndsTold (append p b) done d e → WorksTold (is_at p) (length b) d e
+append_works p b true some d e ends = record { now = appended_node p b d.places e.places (inl ends.0); appended = (length b, omega arith, ends.1 ∙ raised_some d.appended (length b) some) }
+append_works p b false some d e ends = record { now = appended_node p b d.places e.places (inr ends.0); appended = within_same (length b) d.appended e.appended ends.1 }
 
 same_works : (d e : Told) → e ≡ d → WorksTold nowhere 0 d e
-same_works d e same = record { now = λ q out. ap (λ (t : Told). (t.places q).node) same; appended = omega (arith, ap (λ (t : Told). t.appended) same) }
+same_works d e same = record { now = λ q out. ap (λ (t : Told). (t.places q).node) same; appended = within_same 0 d.appended e.appended (ap (λ (t : Told). t.appended) same) }
 
 sync_file_works : (p : List (List ℕ)) (done : Bool) (d e : Told) → EndsTold (sync_file p) done d e → WorksTold nowhere 0 d e
-sync_file_works p true d e ends = record { now = λ q out. synced_file_node p d.places e.places ends.0 q; appended = omega (arith, ends.1) }
+sync_file_works p true d e ends = record { now = λ q out. synced_file_node p d.places e.places ends.0 q; appended = within_same 0 d.appended e.appended ends.1 }
 sync_file_works p false d e ends = same_works d e ends
 
 sync_dir_works : (p : List (List ℕ)) (done : Bool) (d e : Told) → EndsTold (sync_dir p) done d e → WorksTold nowhere 0 d e
 sync_dir_works p true d e ends = record {
   now = λ q out. ap (λ (x : Places). (x q).node) ends.0 ∙ synced_node (is_child p q) (d.places q);
-  appended = omega (arith, ends.1);
+  appended = within_same 0 d.appended e.appended ends.1;
 }
 sync_dir_works p false d e ends = same_works d e ends
 
@@ -102,8 +101,8 @@ make_dir_works p done old new does = call_works (is_prefix p) (is_at p) 0 (make_
 pub make_file_works : (p : List (List ℕ)) (done : Bool) (old new : DiskState) → Does (make_file p) old new done → Works (is_prefix p) (is_at p) 0 old new
 make_file_works p done old new does = call_works (is_prefix p) (is_at p) 0 (make_file p) done old new (λ q out. out) (file_works p done) does
 
-pub append_call_works : (p : List (List ℕ)) (b : List ℕ) (done : Bool) (old new : DiskState) → Does (append p b) old new done → Works (is_prefix p) (is_at p) (length b) old new
-append_call_works p b done old new does = call_works (is_prefix p) (is_at p) (length b) (append p b) done old new (λ q out. out) (append_works p b done) does
+pub append_call_works : (p : List (List ℕ)) (b : List ℕ) (done : Bool) (old new : DiskState) → 0 < length b → Does (append p b) old new done → Works (is_prefix p) (is_at p) (length b) old new
+append_call_works p b done old new some does = call_works (is_prefix p) (is_at p) (length b) (append p b) done old new (λ q out. out) (append_works p b done some) does
 
 pub sync_file_call_works : (p : List (List ℕ)) (done : Bool) (old new : DiskState) → Does (sync_file p) old new done → Works nowhere nowhere 0 old new
 sync_file_call_works p done old new does = call_works nowhere nowhere 0 (sync_file p) done old new (λ q out. refl) (sync_file_works p done) does
@@ -115,7 +114,7 @@ sync_dir_call_works p done old new does = call_works nowhere nowhere 0 (sync_dir
 pub works_itself : (reach at : List (List ℕ) → Bool) (s : DiskState) → Works reach at 0 s s
 works_itself reach at s = record {
   spares = spares_itself reach s;
-  told = told_itself (WorksTold at 0) (λ d. record { now = λ q out. refl; appended = omega arith }) s.told;
+  told = told_itself (WorksTold at 0) (λ d. record { now = λ q out. refl; appended = within_same 0 d.appended d.appended refl }) s.told;
 }
 
 -- one stretch of work after another
@@ -125,7 +124,7 @@ works_then reach at n m most r s t fits one two = record {
   told = told_then (WorksTold at n) (WorksTold at m) (WorksTold at most)
       (λ c d e x y. record {
         now = λ q out. y.now q out ∙ x.now q out;
-        appended = omega (arith, x.appended, y.appended, fits);
+        appended = within_then n m most c.appended d.appended e.appended fits x.appended y.appended;
       }) r.told s.told t.told one.told two.told;
 }
 
@@ -135,14 +134,14 @@ pub works_wider : (near far at to : List (List ℕ) → Bool) (n most : ℕ) (ol
 works_wider near far at to n most old new fits reach within works = record {
   spares = spares_wider near far old new reach works.spares;
   told = told_map (WorksTold at n) (WorksTold to most)
-      (λ d e x. record { now = λ q out. x.now q (within q out); appended = omega (arith, x.appended, fits) }) old.told new.told works.told;
+      (λ d e x. record { now = λ q out. x.now q (within q out); appended = within_wider n most d.appended e.appended fits x.appended }) old.told new.told works.told;
 }
 
 -- what rests works nowhere
 pub rests_works : (reach at : List (List ℕ) → Bool) (old new : DiskState) → Rests old new → Works reach at 0 old new
 rests_works reach at old new rests = record {
   spares = rests_spares reach old new rests;
-  told = told_same (WorksTold at 0) (λ d. record { now = λ q out. refl; appended = omega arith }) old.told new.told rests.told;
+  told = told_same (WorksTold at 0) (λ d. record { now = λ q out. refl; appended = within_same 0 d.appended d.appended refl }) old.told new.told rests.told;
 }
 
 from_told : (P : Places → Type 0) (R : Told → Told → Type 0) → ((d e : Told) → R d e → P e.places) → (x y : Option Told) → BothTold R x y → IfSome y (λ e. P e.places)
@@ -231,6 +230,10 @@ appended_more p b d e told = λ bytes is.
 pub append_more : (p : List (List ℕ)) (b : List ℕ) (x y : Option Told) → BothTold (DoesTold (append p b) true) x y → BothTold (Appends p b) x y
 append_more p b x y does = told_map (DoesTold (append p b) true) (Appends p b) (appended_more p b) x y does
 
+-- exactly as many bytes as the piece has
+pub append_raises : (p : List (List ℕ)) (b : List ℕ) (x y : Option Told) → 0 < length b → BothTold (DoesTold (append p b) true) x y → BothTold (RaisesTold (length b)) x y
+append_raises p b x y some does = told_map (DoesTold (append p b) true) (RaisesTold (length b)) (λ d e told. told.ends.1 ∙ raised_some d.appended (length b) some) x y does
+
 pub file_synced : (p : List (List ℕ)) (x y : Option Told) → BothTold (DoesTold (sync_file p) true) x y → IfSome y (λ e. (e.places p).unsynced_bytes ≡ false)
 file_synced p x y does = from_told (λ e. (e p).unsynced_bytes ≡ false) (DoesTold (sync_file p) true)
     (λ d e told. ap (λ (x : Place). x.unsynced_bytes) (put_place p (record (d.places p) { unsynced_bytes = false }) d.places e.places told.ends.0)) x y does
@@ -289,6 +292,7 @@ folder_synced dir x y does = told_map (DoesTold (sync_dir dir) true) (SyncsIn di
 pub record HasAppended (path : List (List ℕ)) (old new : DiskState) (bytes : List ℕ) : Type 0 where
   pub works : Works (is_prefix path) (is_at path) (length bytes) old new
   pub file : Holds (IsFileWith path bytes) new
+  pub raises : Raises (length bytes) old new
 
 pub on_done : {T E : Type 0} (call : Call) (old new : DiskState) (P : Type 0) (r : Result T E) → (Does call old new true → P) → Does call old new (is_ok r) → OnOk r P
 on_done call old new P (Ok t) gives does = gives does
@@ -304,13 +308,14 @@ pub appended_no_folder : (p : List (List ℕ)) (bytes : List ℕ) (x : Option To
 appended_no_folder p bytes x is = holds_map (IsFileWith p bytes) (λ d. is_no_folder (d p).node ≡ true) (λ d is. ap is_no_folder is) x is
 
 pub appended_nothing : (p : List (List ℕ)) (s : DiskState) → Holds (IsFileWith p []) s → HasAppended p s s []
-appended_nothing p s is = record { works = works_itself (is_prefix p) (is_at p) s; file = is }
+appended_nothing p s is = record { works = works_itself (is_prefix p) (is_at p) s; file = is; raises = raises_itself s }
 
 pub appended_then : (p : List (List ℕ)) (r s t : DiskState) (bytes piece now : List ℕ) → now ≡ bytes ++ piece → HasAppended p r s bytes → Works (is_prefix p) (is_at p) (length piece) s t
-    → BothTold (Appends p piece) s.told t.told → HasAppended p r t now
-appended_then p r s t bytes piece now is has works more = subst (HasAppended p r t) (sym is) (record {
+    → BothTold (Appends p piece) s.told t.told → Raises (length piece) s t → HasAppended p r t now
+appended_then p r s t bytes piece now is has works more raises = subst (HasAppended p r t) (sym is) (record {
   works = works_then (is_prefix p) (is_at p) (length bytes) (length piece) (length (bytes ++ piece)) r s t (omega (arith, length-append bytes piece)) has.works works;
   file = holds_then (IsFileWith p bytes) (IsFileWith p (bytes ++ piece)) (Appends p piece) (λ d e there gives. gives bytes there) s.told t.told has.file more;
+  raises = raises_same (length bytes + length piece) (length (bytes ++ piece)) r t (sym (length-append bytes piece)) (raises_then (length bytes) (length piece) r s t has.raises raises);
 })
 
 -- no more was appended than there is to append
@@ -354,6 +359,18 @@ and_synced p most r s t one two =
 
 pub only_made : (p : List (List ℕ)) (most : ℕ) (r s : DiskState) → Works (is_prefix p) (is_at p) 0 r s → Works (is_prefix p) (is_at p) most r s
 only_made p most r s works = works_wider (is_prefix p) (is_prefix p) (is_at p) (is_at p) 0 most r s (omega arith) (λ q out. out) (λ q out. out) works
+
+-- nothing was appended where nothing might be
+pub works_raise : (reach at : List (List ℕ) → Bool) (old new : DiskState) → Works reach at 0 old new → Raises 0 old new
+works_raise reach at old new works = told_map (WorksTold at 0) (RaisesTold 0) (λ d e told. within_none d.appended e.appended told.appended) old.told new.told works.told
+
+-- a call before that appends nothing
+pub raises_after : (reach at : List (List ℕ) → Bool) (n : ℕ) (r s t : DiskState) → Works reach at 0 r s → Raises n s t → Raises n r t
+raises_after reach at n r s t works raises = raises_same (0 + n) n r t (omega arith) (raises_then 0 n r s t (works_raise reach at r s works) raises)
+
+-- a call afterwards that appends nothing
+pub raises_before : (reach at : List (List ℕ) → Bool) (n : ℕ) (r s t : DiskState) → Raises n r s → Works reach at 0 s t → Raises n r t
+raises_before reach at n r s t raises works = raises_same (n + 0) n r t (omega arith) (raises_then n 0 r s t raises (works_raise reach at s t works))
 
 -- however the making of a file ends, no folder stands there
 file_ends : (p : List (List ℕ)) (done : Bool) (d e : Told) → IsFree d.places p → EndsTold (make_file p) done d e → is_no_folder (e.places p).node ≡ true

@@ -9,6 +9,7 @@ use Rattle.ext_host.specs.Held.{IsStampOf}
 use Rattle.ext_host.specs.Shelf as shelf
 use Rattle.ext_host.specs.Shelf.{untold, missing, stored, IsTold}
 use Rattle.ext_io.specs.Pieces.{IsPieceAt}
+use Rattle.ext_store_files.specs.Appended.{Raises}
 use Rattle.ext_store_files.specs.Writing.{is_at, Works, IsWritten, IsFileWith, Holds}
 use Rattle.ext_store_files.specs.declared.errors.CopyErr.{CopyErr}
 use Rattle.ext_store_files.specs.declared.errors.CopyErr.TheVariants.{OutOfMemory, DiskFault, DepotFault, NotInDepot, Mismatch}
@@ -43,13 +44,17 @@ IsMissing untold = Unit {0}
 IsMissing missing = Unit {0}
 IsMissing (stored bytes) = ⊥
 
--- the file at the path has the bytes of the depot's, which have the listed stamp, and they are synced
-abbrev pub IsCopied : shelf.Told → Stamp → List (List ℕ) → DiskState → Type 0
-IsCopied told listed path new = (bytes : List ℕ) × IsStampOf bytes listed × IsTold told bytes × Holds (IsWritten path bytes) new
+-- the file at the path has the bytes of the depot's, which have the listed stamp, and they are synced; no others were appended
+abbrev pub IsCopied : shelf.Told → Stamp → List (List ℕ) → DiskState → DiskState → Type 0
+IsCopied told listed path old new =
+    (bytes : List ℕ) × IsStampOf bytes listed × IsTold told bytes × Holds (IsWritten path bytes) new × Raises (length bytes) old new
 
--- the file at the path has the bytes that were read of the depot's, if they are no more than so many; they have this stamp
-abbrev pub IsFed : shelf.Told → ℕ → List (List ℕ) → DiskState → Stamp → Type 0
-IsFed told size path new found = (bytes : List ℕ) × IsStampOf bytes found × IsReadUpTo told size bytes × (found.size ≤ size → Holds (IsFileWith path bytes) new)
+-- the file at the path has the bytes that were read of the depot's, if they are no more than so many, and no others were appended;
+-- they have this stamp
+abbrev pub IsFed : shelf.Told → ℕ → List (List ℕ) → DiskState → DiskState → Stamp → Type 0
+IsFed told size path old new found =
+    (bytes : List ℕ) × IsStampOf bytes found × IsReadUpTo told size bytes
+    × (found.size ≤ size → Holds (IsFileWith path bytes) new × Raises (length bytes) old new)
 
 -- what a copy leaves, however it ends: on the disk it made and wrote at the path alone, where no folder stands, and the depot
 -- has what it had

@@ -6,6 +6,7 @@ pub mod Reading
 pub mod Removal
 pub mod HeldFiles
 pub mod GenShelf
+pub mod Appended
 pub mod Writing
 pub mod Copying
 pub mod Beside

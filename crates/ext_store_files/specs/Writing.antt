@@ -1,9 +1,10 @@
 -- Making, writing and syncing things of the store: what changes, and what stands afterwards.
-use Rattle.std.specs.Prelude.{◌≡◌, ℕ, ◌+◌, ◌≤◌, Bool, true, false, List, [], ◌∷◌, ◌++◌, None, Some, IfSome}
+use Rattle.std.specs.Prelude.{◌≡◌, ℕ, Bool, true, false, List, [], ◌∷◌, ◌++◌, None, Some, IfSome}
 use Rattle.std.specs.Ordering.{eq_by_cmp}
 use Rattle.ext_text.specs.Path.{path_cmp, is_proper_prefix}
 use Rattle.ext_disk.specs.Disk.{folder, file, Places, Told, DiskState, BothTold, is_synced, is_durable, at_prefixes}
 use Rattle.ext_disk.specs.Fixed.{Spares}
+use Rattle.ext_store_files.specs.Appended.{RaisesWithin}
 
 -- the path itself
 abbrev pub is_at : List (List ℕ) → List (List ℕ) → Bool
@@ -16,7 +17,7 @@ nowhere p = false
 -- what stands changes at these paths alone, and no more than so many bytes were appended
 pub record WorksTold (at : List (List ℕ) → Bool) (most : ℕ) (d e : Told) : Type 0 where
   pub now : (p : List (List ℕ)) → at p ≡ false → (e.places p).node ≡ (d.places p).node
-  pub appended : e.appended ≤ d.appended + most
+  pub appended : RaisesWithin most d.appended e.appended
 
 -- what is made of calls that make and write: what is out of reach stays as it was, and what stands changes at some paths alone
 pub record Works (reach at : List (List ℕ) → Bool) (most : ℕ) (old new : DiskState) : Type 0 where

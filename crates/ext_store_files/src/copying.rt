@@ -8,6 +8,7 @@ ghost use Rattle.ext_disk.specs.Disk.{BothTold, is_no_folder};
 ghost use Rattle.ext_disk.specs.Calls.{make_file, MayCall};
 ghost use Rattle.ext_depot.specs.Depot.{IsKept, DepotState};
 ghost use Rattle.ext_store_files.specs.Reading.{IsFileAt};
+ghost use Rattle.ext_store_files.specs.Appended.{Raises};
 ghost use Rattle.ext_store_files.specs.Writing.{is_at, nowhere, Works, IsFileWith, Holds, Appends};
 ghost use Rattle.ext_store_files.specs.Copying.{depot_told, IsThere, IsCopied, IsFed, IsPieceTold, CopyKeeps, CopyCause, FeedCause, ReadDepotCause};
 ghost use Rattle.ext_host.specs.Held.{IsStampOf};
@@ -45,7 +46,8 @@ pub fn copy_from_depot<D: Disk, P: Depot>(
     requires free { MayCall (make_file path.now) (D.state disk.old) }
     requires size { listed.now.size < 2 ^ 63 }
     ensures keeps { CopyKeeps path.now listed.now.size (D.state disk.old) (D.state disk.new) (P.state depot.old) (P.state depot.new) }
-    ensures copied { OnOk result (IsCopied (depot_told (P.state depot.old) from.now) listed.now path.now (D.state disk.new)) }
+    ensures copied { OnOk result (IsCopied (depot_told (P.state depot.old) from.now) listed.now path.now (D.state disk.old)
+        (D.state disk.new)) }
     ensures cause { IfErr result (CopyCause (D.state disk.old) (D.state disk.new) (P.state depot.old) (P.state depot.new)
         (depot_told (P.state depot.old) from.now) listed.now) }
 {
@@ -69,7 +71,8 @@ fn copy_there<D: Disk, P: Depot>(
     requires size { listed.now.size < 2 ^ 63 }
     requires there { IsThere (P.state depot.old) from.now }
     ensures keeps { CopyKeeps path.now listed.now.size (D.state disk.old) (D.state disk.new) (P.state depot.old) (P.state depot.new) }
-    ensures copied { OnOk result (IsCopied (depot_told (P.state depot.old) from.now) listed.now path.now (D.state disk.new)) }
+    ensures copied { OnOk result (IsCopied (depot_told (P.state depot.old) from.now) listed.now path.now (D.state disk.old)
+        (D.state disk.new)) }
     ensures cause { IfErr result (CopyCause (D.state disk.old) (D.state disk.new) (P.state depot.old) (P.state depot.new)
         (depot_told (P.state depot.old) from.now) listed.now) }
 {
@@ -94,7 +97,8 @@ fn fill<D: Disk, P: Depot>(
     requires there { IsThere (P.state depot.old) from.now }
     requires room { length buffer.old ≡ min most_of_piece (listed.now.size + 1) }
     ensures keeps { CopyKeeps path.now listed.now.size (D.state disk.old) (D.state disk.new) (P.state depot.old) (P.state depot.new) }
-    ensures copied { OnOk result (IsCopied (depot_told (P.state depot.old) from.now) listed.now path.now (D.state disk.new)) }
+    ensures copied { OnOk result (IsCopied (depot_told (P.state depot.old) from.now) listed.now path.now (D.state disk.old)
+        (D.state disk.new)) }
     ensures cause { IfErr result (CopyCause (D.state disk.old) (D.state disk.new) (P.state depot.old) (P.state depot.new)
         (depot_told (P.state depot.old) from.now) listed.now) }
 {
@@ -135,7 +139,7 @@ fn feed<D: Disk, P: Depot>(
     requires size { size < 2 ^ 63 }
     requires room { length buffer.old ≡ min most_of_piece (size + 1) }
     ensures keeps { CopyKeeps path.now size (D.state disk.old) (D.state disk.new) (P.state depot.old) (P.state depot.new) }
-    ensures fed { IfOk result (IsFed (depot_told (P.state depot.old) from.now) size path.now (D.state disk.new)) }
+    ensures fed { IfOk result (IsFed (depot_told (P.state depot.old) from.now) size path.now (D.state disk.old) (D.state disk.new)) }
     ensures cause { IfErr result (FeedCause (D.state disk.old) (D.state disk.new) (P.state depot.old) (P.state depot.new)) }
 {
     let mut hasher = <Sha256 as sha2::Digest>::new();
@@ -167,6 +171,7 @@ fn append_copied<D: Disk>(disk: &mut D, path: &Path, piece: &[u8]) -> Result<(),
     ensures works { Works (is_prefix path.now) (is_at path.now) (length piece.now) (D.state disk.old) (D.state disk.new) }
     ensures file { Holds (λ e. is_no_folder (e path.now).node ≡ true) (D.state disk.new) }
     ensures more { OnOk result (BothTold (Appends path.now piece.now) (D.state disk.old).told (D.state disk.new).told) }
+    ensures raises { OnOk result (Raises (length piece.now) (D.state disk.old) (D.state disk.new)) }
     ensures cause { IfErr result (λ e. (e ≡ errors.DiskFault) × Rose (D.state disk.old).faults (D.state disk.new).faults) }
 {
     match append_piece(disk, path, piece) {

@@ -5,6 +5,7 @@ ghost use Rattle.ext_text.specs.Path.{is_prefix};
 ghost use Rattle.ext_disk.specs.Disk.{BothTold, is_no_folder};
 ghost use Rattle.ext_disk.specs.Lookups.{MayList};
 ghost use Rattle.ext_disk.specs.Calls.{make_dir, make_file, MayCall};
+ghost use Rattle.ext_store_files.specs.Appended.{Raises};
 ghost use Rattle.ext_store_files.specs.Writing.{is_at, nowhere, Works, IsMade, IsWritten, IsFileWith, Holds, SyncsIn, Appends};
 ghost use Rattle.ext_store_files.specs.Reading.{IsFileAt};
 ghost use Rattle.ext_disk.specs.Since.{Rests};
@@ -36,6 +37,7 @@ pub fn write_file<D: Disk>(disk: &mut D, path: &Path, bytes: &[u8]) -> Result<()
     ensures works { Works (is_prefix path.now) (is_at path.now) (length bytes.now) (D.state disk.old) (D.state disk.new) }
     ensures file { Holds (λ e. is_no_folder (e path.now).node ≡ true) (D.state disk.new) }
     ensures written { OnOk result (Holds (IsWritten path.now bytes.now) (D.state disk.new)) }
+    ensures raises { OnOk result (Raises (length bytes.now) (D.state disk.old) (D.state disk.new)) }
     ensures cause { HasCause result (D.state disk.old).faults (D.state disk.new).faults }
 {
     make_empty(disk, path)?;
@@ -77,6 +79,7 @@ fn append_all<D: Disk>(disk: &mut D, path: &Path, bytes: &[u8]) -> Result<(), Fa
     ensures works { Works (is_prefix path.now) (is_at path.now) (length bytes.now) (D.state disk.old) (D.state disk.new) }
     ensures file { Holds (λ e. is_no_folder (e path.now).node ≡ true) (D.state disk.new) }
     ensures all { OnOk result (Holds (IsFileWith path.now bytes.now) (D.state disk.new)) }
+    ensures raises { OnOk result (Raises (length bytes.now) (D.state disk.old) (D.state disk.new)) }
     ensures cause { HasCause result (D.state disk.old).faults (D.state disk.new).faults }
 {
     let mut at = 0;
@@ -98,6 +101,7 @@ pub(crate) fn append_piece<D: Disk>(disk: &mut D, path: &Path, piece: &[u8]) -> 
     ensures works { Works (is_prefix path.now) (is_at path.now) (length piece.now) (D.state disk.old) (D.state disk.new) }
     ensures file { Holds (λ e. is_no_folder (e path.now).node ≡ true) (D.state disk.new) }
     ensures more { OnOk result (BothTold (Appends path.now piece.now) (D.state disk.old).told (D.state disk.new).told) }
+    ensures raises { OnOk result (Raises (length piece.now) (D.state disk.old) (D.state disk.new)) }
     ensures cause { HasCause result (D.state disk.old).faults (D.state disk.new).faults }
 {
     disk.append(path, piece)

@@ -1,6 +1,7 @@
 // The last moves of a change before the switch: the index, and then `next`.
 ghost use Rattle.std.specs.Prelude.{◌+◌, length, IfErr, OnOk};
 ghost use Rattle.ext_disk.specs.Disk.{BothTold};
+ghost use Rattle.ext_store_files.specs.Appended.{Raises};
 ghost use Rattle.ext_store_files.specs.Names.{IsGeneration, current_text, generation_path, index_path, next_path};
 ghost use Rattle.ext_store_files.specs.Writing.{Holds};
 ghost use Rattle.ext_gen.specs.PreparingCauses.{MoveCause};
@@ -32,6 +33,8 @@ pub(crate) fn finish_generation<D: Disk>(
         (D.state disk.old) (D.state disk.new) }
     ensures completes { OnOk result (BothTold (CompletesGeneration generation (coming_index generation host.now))
         (D.state disk.old).told (D.state disk.new).told) }
+    ensures raises { OnOk result (Raises (length (coming_index generation host.now) + length (current_text generation))
+        (D.state disk.old) (D.state disk.new)) }
     ensures cause { IfErr result (MoveCause (D.state disk.old).faults (D.state disk.new).faults) }
 {
     // The folder of the generation is synced with its index, so that all of the generation is there before `next` names it.

@@ -7,6 +7,7 @@ ghost use Rattle.ext_text.specs.Path.{is_prefix};
 ghost use Rattle.ext_disk.specs.Calls.{make_file, MayCall};
 ghost use Rattle.ext_disk.specs.Disk.{BothTold};
 ghost use Rattle.ext_host.specs.Home.{most_files_of_generation};
+ghost use Rattle.ext_store_files.specs.Appended.{Raises};
 ghost use Rattle.ext_store_files.specs.Names.{IsFileNumber, current_text, generation_path, home_folder, index_path, next_path};
 ghost use Rattle.ext_store_files.specs.Writing.{is_at, nowhere, Holds, IsMade, SyncsIn, Works};
 ghost use Rattle.ext_gen.specs.PreparingCauses.{MoveCause};
@@ -104,6 +105,7 @@ pub(crate) fn put_index<D: Disk>(
         (length (coming_index generation host.now)) (D.state disk.old) (D.state disk.new) }
     ensures put { OnOk result (Holds (IsPutSynced (generation_path generation) (index_path generation)
         (coming_index generation host.now)) (D.state disk.new)) }
+    ensures raises { OnOk result (Raises (length (coming_index generation host.now)) (D.state disk.old) (D.state disk.new)) }
     ensures cause { IfErr result (MoveCause (D.state disk.old).faults (D.state disk.new).faults) }
 {
     let text = coming_index(alloc, host, generation)?;
@@ -125,6 +127,7 @@ pub(crate) fn put_next<D: Disk>(
     requires { Holds (IsAbsent next_path) (D.state disk.old) }
     ensures works { Works (is_prefix next_path) (is_at next_path) (length (current_text generation)) (D.state disk.old) (D.state disk.new) }
     ensures put { OnOk result (Holds (IsPutSynced [] next_path (current_text generation)) (D.state disk.new)) }
+    ensures raises { OnOk result (Raises (length (current_text generation)) (D.state disk.old) (D.state disk.new)) }
     ensures cause { IfErr result (MoveCause (D.state disk.old).faults (D.state disk.new).faults) }
 {
     let text = current_text(alloc, generation)?;
@@ -151,6 +154,7 @@ fn put_synced<D: Disk>(disk: &mut D, folder: &Path, path: &Path, bytes: &[u8]) -
     requires other { is_at path.now folder.now ≡ false }
     ensures works { Works (is_prefix path.now) (is_at path.now) (length bytes.now) (D.state disk.old) (D.state disk.new) }
     ensures put { OnOk result (Holds (IsPutSynced folder.now path.now bytes.now) (D.state disk.new)) }
+    ensures raises { OnOk result (Raises (length bytes.now) (D.state disk.old) (D.state disk.new)) }
     ensures cause { HasCause result (D.state disk.old).faults (D.state disk.new).faults }
 {
     write_file(disk, path, bytes)?;

@@ -294,5 +294,5 @@ returns-clause-changed g c =
       opened = coming_is_opened from n c.args.next host s depot fills.written c.host_of-before.ensures.opened c.requires.number c.requires.positive c.requires.valid c.requires.drawn c.requires.kept
           c.requires.past c.requires.fits fills.homes c.well_formed_host.ensures;
       told = changed_told (is_needed from) n files bytes host fills.written r s t u opens (subst (λ f. Holds (IsGenerationOpen f n) s) same c.in_ok-open_generation.ensures.open) fills.told
-          c.fill_generation.ensures.makes c.in_ok-finish_generation.ensures.completes c.finish_generation.ensures.makes;
+          c.fill_generation.ensures.makes c.in_ok-finish_generation.ensures.completes c.finish_generation.ensures.makes c.in_ok-finish_generation.ensures.raises;
     }

@@ -1,8 +1,17 @@
-use Rattle.std.proofs.Common.{refl}
+use Rattle.std.proofs.Common.{◌++◌, refl}
 use Rattle.std.specs.Option.{option_copied}
 use Rattle.std.proofs.lemmas.Result.{err_from_is_err_and}
-use Rattle.ext_homes.proofs.GivingLemmas.{host_cause, host_given, listed_before, new_homes}
+use Rattle.ext_homes.specs.Brought.{brought, bytes_of_all}
+use Rattle.ext_homes.proofs.GivingLemmas.{host_cause, host_given, listed_before, new_homes, nothing_works}
 use Rattle.ext_homes.proofs.giving.give_homes.Goals as goal
+
+pub returns-in_err-sought-clause-works : goal.returns-in_err-sought-clause-works
+returns-in_err-sought-clause-works g c =
+    nothing_works c.args.generation (bytes_of_all (brought (c.args.host.root ++ c.args.host.lower))) (g.D.Disk.state c.args.disk.now)
+
+pub returns-in_err-kept-clause-works : goal.returns-in_err-kept-clause-works
+returns-in_err-kept-clause-works g c =
+    nothing_works c.args.generation (bytes_of_all (brought (c.args.host.root ++ c.args.host.lower))) (g.D.Disk.state c.args.disk.now)
 
 pub place_both-requires-clause-before : goal.place_both-requires-clause-before
 place_both-requires-clause-before g c = listed_before c.args.generation (option_copied c.args.from) c.in_ok-sought.sought c.in_ok-kept.kept c.in_ok-kept.ensures c.requires.earlier

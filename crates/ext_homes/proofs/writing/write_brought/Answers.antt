@@ -28,9 +28,9 @@ returns-clause-only g c =
 pub returns-clause-written : goal.returns-clause-written
 returns-clause-written g c =
     let brought = brought_told (g.P.Depot.state c.args.depot.now) c.args.held.now.body in
-    on_ok_weaker {P = IsPut brought c.args.held.now.stamp c.in_ok-path.path (g.D.Disk.state c.put_file.new.disk)}
+    on_ok_weaker {P = IsPut brought c.args.held.now.stamp c.in_ok-path.path (g.D.Disk.state c.make_home_folder.new.disk) (g.D.Disk.state c.put_file.new.disk)}
     {Q = WritesBrought c.args.generation c.args.number brought c.args.held.now.stamp (g.D.Disk.state c.args.disk.now) (g.D.Disk.state c.put_file.new.disk)} c.put_file.result
     (λ put. put_written c.args.generation c.args.number brought c.args.held.now.stamp (g.D.Disk.state c.args.disk.now) (g.D.Disk.state c.make_home_folder.new.disk) (g.D.Disk.state c.put_file.new.disk)
     c.requires.number c.in_ok-make_home_folder.ensures.works c.in_ok-make_home_folder.ensures.opens
     (subst (λ p. Works (is_prefix p) (is_at p) c.args.held.now.stamp.size (g.D.Disk.state c.make_home_folder.new.disk) (g.D.Disk.state c.put_file.new.disk)) c.in_ok-path.ensures c.put_file.ensures.works)
-    (subst (λ p. IsPut brought c.args.held.now.stamp p (g.D.Disk.state c.put_file.new.disk)) c.in_ok-path.ensures put)) c.put_file.ensures.put
+    (subst (λ p. IsPut brought c.args.held.now.stamp p (g.D.Disk.state c.make_home_folder.new.disk) (g.D.Disk.state c.put_file.new.disk)) c.in_ok-path.ensures put)) c.put_file.ensures.put

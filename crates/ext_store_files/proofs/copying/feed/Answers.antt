@@ -27,4 +27,4 @@ pieces-preserved g c =
     feeds_more c.args.from.now c.args.path.now (g.D.Disk.state c.args.disk.now) (g.D.Disk.state c.pieces.disk) (g.D.Disk.state c.append_copied.new.disk) (g.P.Depot.state c.args.depot.now)
     (g.P.Depot.state c.pieces.depot) (g.P.Depot.state c.hash_piece.new.depot) (Holds256 c.pieces.hasher) (Holds256 c.hash_piece.new.hasher) c.args.size c.pieces.at c.in_ok-count.count
     (take c.in_ok-count.count c.hash_piece.new.buffer) c.pieces.invariant c.in_ok-count.ensures.kept read.1 (omega (arith, left, c.pieces.invariant.within)) read.2 read.3
-    c.in_ok-append_copied.ensures.works c.in_ok-append_copied.ensures.more
+    c.in_ok-append_copied.ensures.works c.in_ok-append_copied.ensures.more c.in_ok-append_copied.ensures.raises

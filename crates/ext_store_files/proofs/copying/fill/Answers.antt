@@ -11,5 +11,5 @@ pub returns-then-eq-clause-copied : goal.returns-then-eq-clause-copied
 returns-then-eq-clause-copied g c =
     on_ok_weaker c.sync.result
     (λ hard. copied_whole (depot_told (g.P.Depot.state c.args.depot.now) c.args.from.now) c.args.listed.now c.in_ok-found.found c.args.path.now
-    (g.D.Disk.state c.feed.new.disk) (g.D.Disk.state c.sync.new.disk) (equal_stamps c.in_ok-found.found c.args.listed.now c.if-eq.ensures) c.in_ok-found.ensures.fed c.sync.ensures.works hard)
+    (g.D.Disk.state c.args.disk.now) (g.D.Disk.state c.feed.new.disk) (g.D.Disk.state c.sync.new.disk) (equal_stamps c.in_ok-found.found c.args.listed.now c.if-eq.ensures) c.in_ok-found.ensures.fed c.sync.ensures.works hard)
     c.sync.ensures.synced

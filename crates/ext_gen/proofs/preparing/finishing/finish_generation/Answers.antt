@@ -3,6 +3,7 @@ use Rattle.std.proofs.lemmas.Result.{on_ok_weaker}
 use Rattle.ext_text.specs.Path.{is_prefix}
 use Rattle.ext_store_files.specs.Names.{current_text, index_path, next_path}
 use Rattle.ext_store_files.specs.Writing.{is_at}
+use Rattle.ext_store_files.proofs.ForCallers.{raises_then}
 use Rattle.ext_gen.specs.PreparingIndex.{coming_index}
 use Rattle.ext_gen.proofs.PreparingPathsLemmas.{at_index, at_next, below_is_coming, index_below, makes_then, makes_wider, next_is_coming, works_make}
 use Rattle.ext_gen.proofs.PreparingStagesLemmas.{completed}
@@ -31,3 +32,11 @@ returns-clause-completes g c =
     (λ last. completed n text (length text) (length (current_text n)) _ (g.D.Disk.state c.put_index.new.disk) _ (g.met.D.Disk.holds_a_tree c.put_next.new.disk)
     c.put_index.ensures.works c.in_ok-put_index.ensures.put c.put_next.ensures.works last)
     c.put_next.ensures.put
+
+pub returns-clause-raises : goal.returns-clause-raises
+returns-clause-raises g c =
+    let n = c.args.generation in
+    on_ok_weaker c.put_next.result
+    (λ last. raises_then (length (coming_index n c.args.host.now)) (length (current_text n)) (g.D.Disk.state c.args.disk.now) (g.D.Disk.state c.put_index.new.disk) (g.D.Disk.state c.put_next.new.disk)
+    c.in_ok-put_index.ensures.raises last)
+    c.put_next.ensures.raises
