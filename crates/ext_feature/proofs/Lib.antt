@@ -9,3 +9,4 @@ pub mod ReadingLemmas
 pub mod ChoiceLemmas
 pub mod StepLemmas
 pub mod LawsLemmas
+pub mod ForCallers

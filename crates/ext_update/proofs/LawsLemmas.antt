@@ -62,6 +62,7 @@ pub record IsWanted (host : Host) (writes : Writes) (next : Host) : Type 0 where
   pub fits : AllFit writes
   pub updated : IsUpdated host.root writes.removed (written_pieces writes) next.root
   pub kept : AreKept host writes next.root next.kept
+  pub rest : next ≡ record host { root = next.root; kept = next.kept }
 
 wanted_sized : (host : Host) (writes : Writes) (next : Host) (root : Entries HeldFile) (limit : Option Which) → NoClash host.root (items_of writes) → AllFit writes
     → IsUpdated host.root writes.removed (written_pieces writes) root → SizedWants host writes root limit (plans.Next next) → IsWanted host writes next
@@ -72,6 +73,7 @@ wanted_sized host writes next root None apart fits updated (kept, are, is) =
       fits = fits;
       updated = subst (λ (h : Host). IsUpdated host.root writes.removed (written_pieces writes) h.root) (sym same) updated;
       kept = subst (λ (h : Host). AreKept host writes h.root h.kept) (sym same) are;
+      rest = subst (λ (h : Host). h ≡ record host { root = h.root; kept = h.kept }) (sym same) refl;
     }
 wanted_sized host writes next root (Some which) apart fits updated is = absurd (no_refusal next _ is)
 
@@ -107,7 +109,7 @@ filter_fits (p ∷ ps) fits =
     ap (λ b. cond b (p.path ∷ filter is_within_limits (paths_of ps)) (filter is_within_limits (paths_of ps))) fits.0.path
     ∙ ap (λ (qs : List (List (List ℕ))). p.path ∷ qs) (filter_fits ps fits.1)
 
-pieces_written : (writes : Writes) → AllFit writes → paths_of (written_pieces writes) ≡ written (items_of writes)
+pub pieces_written : (writes : Writes) → AllFit writes → paths_of (written_pieces writes) ≡ written (items_of writes)
 pieces_written writes fits =
     map-append (λ (piece : Piece HeldFile). piece.path) writes.resources writes.links
     ∙ ap (λ (ps : List (List (List ℕ))). ps ++ paths_of writes.links) (sym (filter_fits writes.resources fits.resources))

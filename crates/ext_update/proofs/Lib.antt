@@ -11,3 +11,5 @@ pub mod PlanLemmas
 pub mod UpdateLemmas
 pub mod LawsLemmas
 pub mod OneLemmas
+pub mod UntouchedLemmas
+pub mod ForCallers

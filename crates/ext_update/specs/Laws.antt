@@ -1,8 +1,9 @@
 -- What updates and making room promise, in the manual's words.
-use Rattle.std.specs.Prelude.{◌≡◌, ℕ, true, List, ◌++◌, Contains, Option, Some, None, slice_get, Ok}
+use Rattle.std.specs.Prelude.{◌≡◌, ℕ, true, false, List, ◌++◌, Contains, Option, Some, None, slice_get, Ok}
 use Rattle.std.specs.List.{AllByRecursion}
 use Rattle.std.specs.List.Sorted.{IsStrictlySortedBy}
 use Rattle.ext_depot.specs.Depot.{Files}
+use Rattle.ext_text.specs.SortedPaths.{meets}
 use Rattle.ext_tree.specs.Tree.{Entries, lookup}
 use Rattle.ext_vers.specs.Version.{order_of}
 use Rattle.ext_host.specs.Held.{HeldFile}
@@ -59,6 +60,16 @@ VacuumsRemove =
 -- the tree has at and below the path what it had
 abbrev pub StandsAsBefore : Entries HeldFile → Entries HeldFile → List (List ℕ) → Type 0
 StandsAsBefore old new path = (rest : List (List ℕ)) → lookup new (path ++ rest) ≡ lookup old (path ++ rest)
+
+-- at and below a path that is related to nothing that is written or removed, what is seen stands as before
+abbrev pub UntouchedStand : Type 0
+UntouchedStand =
+    (host next : Host) (writes : Writes) (path : List (List ℕ)) → WritesWant host writes (Next next)
+    → meets (touched_by (items_of writes)) path ≡ false → StandsAsBefore host.root next.root path
+
+-- nothing of the host changes but what is seen and the manifests
+abbrev pub OtherPartsStay : Type 0
+OtherPartsStay = (host next : Host) (writes : Writes) → WritesWant host writes (Next next) → next ≡ record host { root = next.root; kept = next.kept }
 
 -- an instance of a version that its transfer protects
 pub record IsProtected (updates : Updates) (item : Instance) : Type 0 where

@@ -1,5 +1,6 @@
 //! Laws of what updates and making room want, each the contract of a function that does nothing.
-ghost use Rattle.ext_update.specs.Laws.{ManifestsAreKept, OneUpdate, OneVacuumPlan, ResourcesStand, UpdatesKeepProtected, UpdatesWrite, VacuumsKeepProtected, VacuumsRemove};
+ghost use Rattle.ext_update.specs.Laws.{ManifestsAreKept, OneUpdate, OneVacuumPlan, OtherPartsStay, ResourcesStand};
+ghost use Rattle.ext_update.specs.Laws.{UntouchedStand, UpdatesKeepProtected, UpdatesWrite, VacuumsKeepProtected, VacuumsRemove};
 
 use ext_resources::laws::one_told;
 
@@ -25,6 +26,13 @@ pub fn a_change_is_what_is_written_and_removed()
 pub fn a_protected_instance_stands()
     ensures updates { UpdatesKeepProtected }
     ensures vacuums { VacuumsKeepProtected }
+{}
+
+/// At and below a path that is related to nothing that is written or removed, what is seen stands as before, and nothing else of the
+/// host changes but its manifests.
+pub fn what_is_not_touched_stands()
+    ensures seen { UntouchedStand }
+    ensures others { OtherPartsStay }
 {}
 
 /// Each resource that is written stands as it was put, and leaves a manifest in the coming host, of which the items are its files
