@@ -193,7 +193,8 @@ one_unmerged host class a b x y =
     let lower = one_tree a.lower b.lower x.lower y.lower (λ p. in_or_out names p (lookup a.lower p) (lookup b.lower p) (λ in_. x.gone p in_ ∙ sym (y.gone p in_)) (λ out. x.lower_outside p out ∙ sym (y.lower_outside p out))) in
     x.same ∙ (λ i. with_view class None (root i) (lower i) host) ∙ sym y.same
 
-one_images : (base : Entries HeldFile) (items : List SurveyItem) (images others : List (Entries HeldFile)) → AreImagesOf base items images → AreImagesOf base items others → images ≡ others
+-- items have one list of images
+pub one_images : (base : Entries HeldFile) (items : List SurveyItem) (images others : List (Entries HeldFile)) → AreImagesOf base items images → AreImagesOf base items others → images ≡ others
 one_images base [] [] [] x y = refl
 one_images base [] [] (b ∷ others) x y = absurd y
 one_images base [] (a ∷ images) others x y = absurd x

@@ -14,4 +14,5 @@ pub mod ViewLemmas
 pub mod ChosenLemmas
 pub mod LawsLemmas
 pub mod OneSurveyLemmas
+pub mod ShownLemmas
 pub mod ForCallers

@@ -5,8 +5,8 @@ ghost use Rattle.ext_view.specs.Hierarchies.{hierarchies_at, is_merged};
 use ext_host::Host;
 use ext_text::{Extension, Names};
 
-// The hierarchies of the class.
-pub(crate) fn hierarchies_of(host: &Host, class: Extension) -> &Names
+/// The hierarchies of the class in a host: names directly below the root.
+pub fn hierarchies_of(host: &Host, class: Extension) -> &Names
     ensures { result.now ≡ hierarchies_at class host.now }
 {
     match class {

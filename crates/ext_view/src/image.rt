@@ -46,8 +46,11 @@ fn held_of(entry: &Entry<Held>) -> Option<&Held>
     }
 }
 
-// The names of the directory to which the place leads.
-pub(crate) fn image_at<'a>(
+/// The names of the directory to which the place of an image leads: what the base has below it is the image.
+///
+/// # Errors
+/// `OutOfMemory` alone.
+pub fn image_at<'a>(
     alloc: Global,
     base: &'a Tree<Held>,
     place: &Path,

@@ -11,8 +11,8 @@ use std::alloc::Global;
 
 pub(crate) type Pair = (Path, Entry<Held>);
 
-// Whether the names of a path are at or below one of the hierarchies.
-pub(crate) fn is_in(hierarchies: &[Name], names: &PathRef) -> bool
+/// Whether the names of a path are at or below one of the hierarchies.
+pub fn is_in(hierarchies: &[Name], names: &PathRef) -> bool
     ensures { result ≡ is_in hierarchies.now names.now }
 {
     hierarchies
@@ -30,8 +30,8 @@ fn stands_at(hierarchy: &Name, names: &PathRef) -> bool
     }
 }
 
-// The entries of the tree at and below the hierarchies, which are not copied.
-pub(crate) fn inside(tree: Tree<Held>, hierarchies: &[Name]) -> Tree<Held>
+/// The entries of the tree at and below the hierarchies, which are not copied.
+pub fn entries_inside(tree: Tree<Held>, hierarchies: &[Name]) -> Tree<Held>
     ensures { result ≡ inside hierarchies.now tree }
 {
     let mut pairs = tree.into_pairs();

@@ -9,7 +9,7 @@ ghost use Rattle.ext_view.specs.Parts.{LeadsItem};
 
 use crate::errors::ViewErr;
 use crate::hierarchies::hierarchies_of;
-use crate::inside::{Pair, inside};
+use crate::inside::{Pair, entries_inside};
 use crate::layers::layers_of;
 use crate::merging::names_of;
 use crate::replaced::replaced;
@@ -74,7 +74,7 @@ fn view_of(
     ensures { GivesView hierarchies.now base items.now result }
 {
     let layers = layers_of(alloc, &base, hierarchies, items)?;
-    let under = inside(base, hierarchies);
+    let under = entries_inside(base, hierarchies);
     let view = layer(alloc, &layers, &under)?;
     Ok((view, under))
 }

@@ -81,8 +81,8 @@ pub fn refresh<H: Shelf>(
     merge_of(alloc, host, class, base, items.as_slice())
 }
 
-// The images of a survey that can be used and fit.
-fn chosen(survey: Survey) -> Vec<SurveyItem>
+/// The images of a survey that can be used and fit, in its order: those that a refresh merges, the lowest first.
+pub fn chosen(survey: Survey) -> Vec<SurveyItem>
     ensures { result.items ≡ chosen survey }
 {
     let mut items = survey.into_vec();

@@ -62,8 +62,11 @@ pub fn base_of(host: &Host) -> Result<Tree<Held>, OutOfMemory>
     Ok(base)
 }
 
-// The survey of a host that has this base.
-pub(crate) fn survey_of<H: Shelf>(
+/// The survey of a host that has this base, as [`survey`] gives it.
+///
+/// # Errors
+/// As for [`survey`].
+pub fn survey_of<H: Shelf>(
     alloc: Global,
     host: &Host,
     base: &Tree<Held>,

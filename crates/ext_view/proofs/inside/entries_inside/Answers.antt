@@ -4,7 +4,7 @@ use Rattle.ext_tree.specs.Tree.{IsTreeWithin}
 use Rattle.ext_host.specs.Host.{is_in}
 use Rattle.ext_view.specs.Inside.{inside}
 use Rattle.ext_view.proofs.InsideLemmas.{within_inside}
-use Rattle.ext_view.proofs.inside.inside.Goals as goal
+use Rattle.ext_view.proofs.inside.entries_inside.Goals as goal
 
 pub from_pairs-requires : goal.from_pairs-requires
 from_pairs-requires c =

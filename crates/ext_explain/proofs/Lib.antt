@@ -1,0 +1,7 @@
+pub mod PrefixLemmas
+pub mod SightLemmas
+pub mod LineLemmas
+pub mod ChangesLemmas
+pub mod ShownLemmas
+pub mod LawsLemmas
+pub mod ForCallers

@@ -1,0 +1,7 @@
+pub mod Finding
+pub mod Layers
+pub mod Adding
+pub mod Explaining
+pub mod ViewChanges
+pub mod Changed
+pub mod Laws
