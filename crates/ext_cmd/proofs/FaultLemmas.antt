@@ -1,5 +1,5 @@
 -- Places of faults, for any grammar.
-use Rattle.std.proofs.Common.{◌≡◌, ℕ, ◌+◌, List, [], ◌∷◌, refl, sym, ap, ◌∙◌, subst, arith}
+use Rattle.std.proofs.Common.{◌≡◌, ℕ, ◌+◌, List, [], ◌∷◌, ◌++◌, refl, sym, ap, ◌∙◌, subst, arith}
 use Rattle.ext_cmd.specs.Fault.{BeginsWords, IsStuck, IsFault}
 use Rattle.ext_cmd.specs.Grammar.{Chooses, Then, Maybe}
 use Rattle.ext_cmd.specs.Reading.{RefusesWords, RefusesWord}
@@ -80,6 +80,31 @@ module _ {A : Type 0} (text : A → List ℕ) (More : A → Grammar) where
       refuse_after (Chooses text More) (More choice) word more words first next e step
       (λ rest whole. subst (λ (a : A). More a rest) (one whole.0 choice (sym whole.1 ∙ is)) whole.2)
       (λ rest it. (choice, is, it)) are refused
+
+-- a fault of words of a grammar is one of a wider grammar that has no others with their first word
+begun : (Is Other : Grammar) (word first : List ℕ) (rest : List (List ℕ)) → word ≡ first → ((rest : List (List ℕ)) → Other (word ∷ rest) → Is (word ∷ rest)) → Other (first ∷ rest) → Is (first ∷ rest)
+begun Is Other word first rest same back is =
+    subst (λ (w : List ℕ). Is (w ∷ rest)) same (back rest (subst (λ (w : List ℕ). Other (w ∷ rest)) (sym same) is))
+
+stuck_wider : (Is Other : Grammar) (word : List ℕ) (more : List (List ℕ)) → ((rest : List (List ℕ)) → Other (word ∷ rest) → Is (word ∷ rest)) → (prefix rest : List (List ℕ)) → word ∷ more ≡ prefix ++ rest → IsStuck Is prefix rest → IsStuck Other prefix rest
+stuck_wider Is Other word more back [] [] split stuck = absurd (cc)
+stuck_wider Is Other word more back [] (next ∷ rest) split stuck =
+    λ begins. stuck (record { more = begins.more; whole = begun Is Other word next begins.more (cc) back begins.whole })
+stuck_wider Is Other word more back (first ∷ prefix) [] split stuck = λ is. stuck (begun Is Other word first prefix (cc) back is)
+stuck_wider Is Other word more back (first ∷ prefix) (next ∷ rest) split stuck =
+    λ begins. stuck (record { more = begins.more; whole = begun Is Other word first _ (cc) back begins.whole })
+
+pub refuse_wider : (Is Other : Grammar) (word : List ℕ) (more : List (List ℕ)) (first : ℕ) (e : CmdErr) → ((words : List (List ℕ)) → Is words → Other words) → ((rest : List (List ℕ)) → Other (word ∷ rest) → Is (word ∷ rest))
+    → RefusesWords Is (word ∷ more) first e → RefusesWords Other (word ∷ more) first e
+refuse_wider Is Other word more first OutOfMemory to back refused = tt
+refuse_wider Is Other word more first (Usage place) to back fault = record {
+  prefix = fault.prefix;
+  rest = fault.rest;
+  split = fault.split;
+  after = fault.after;
+  begins = record { more = fault.begins.more; whole = to _ fault.begins.whole };
+  stuck = stuck_wider Is Other word more back fault.prefix fault.rest fault.split fault.stuck;
+}
 
 pub same_fault : (Is Other : Grammar) (words : List (List ℕ)) (first place : ℕ) → ((ws : List (List ℕ)) → Is ws → Other ws) → ((ws : List (List ℕ)) → Other ws → Is ws) → IsFault Is words first place → IsFault Other words first place
 same_fault Is Other words first place to from fault = record {

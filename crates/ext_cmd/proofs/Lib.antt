@@ -1,12 +1,13 @@
 pub mod FaultLemmas
 pub mod WordLemmas
 pub mod JoinLemmas
+pub mod UpdateLemmas
 pub mod CommandLemmas
 pub mod HierarchyLemmas
 pub mod FreshLemmas
 pub mod ChosenLemmas
 pub mod OneFaultLemmas
+pub mod OneViewLemmas
 pub mod OneCommandLemmas
 pub mod LineLemmas
-pub mod UpdateLemmas
 pub mod ForCallers

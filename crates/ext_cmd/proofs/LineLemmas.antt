@@ -8,11 +8,13 @@ use Rattle.ext_cmd.specs.Grammar.{Takes}
 use Rattle.ext_cmd.specs.Keyword.{keyword_text}
 use Rattle.ext_cmd.specs.Line.{IsLineCommand, ReadsLineCommand, ReadsLineWords, counts_for_nothing, may_be_line, may_begin_line, most_words}
 use Rattle.ext_cmd.specs.Reading.{ReadsAfter, RefusesWords}
-use Rattle.ext_cmd.specs.Words.{IsWellFormed, chosen_words, command_words, optional_words, view_words}
+use Rattle.ext_cmd.specs.Words.{IsWellFormed, chosen_words, command_words, optional_words, update_words, view_words}
 use Rattle.ext_cmd.specs.declared.command.Chosen.{Chosen}
 use Rattle.ext_cmd.specs.declared.command.Chosen.TheVariants as chosen
 use Rattle.ext_cmd.specs.declared.command.Command.{Command}
-use Rattle.ext_cmd.specs.declared.command.Command.TheVariants.{Init, ImportFs, Remove, Sysext, Confext, Tree, Cat, Compare, Check, Layer, Migrate, Batch, Sample, Sysupdate, Components}
+use Rattle.ext_cmd.specs.declared.command.Command.TheVariants.{Init, ImportFs, Remove, Sysext, Confext, Tree, Cat, Compare, Check, Layer, Migrate, Batch, Sample, Sysupdate, Components, Mark, History, HistoryChanges, Rollback, Forget}
+use Rattle.ext_cmd.specs.declared.command.UpdateVerb.{UpdateVerb}
+use Rattle.ext_cmd.specs.declared.command.UpdateVerb.TheVariants as updates
 use Rattle.ext_cmd.specs.declared.command.ViewCommand.{ViewCommand}
 use Rattle.ext_cmd.specs.declared.command.ViewCommand.TheVariants as views
 use Rattle.ext_cmd.specs.declared.keyword.Keyword.{Keyword}
@@ -45,6 +47,11 @@ keyword_of Batch = keywords.Batch
 keyword_of (Sample images) = keywords.Sample
 keyword_of (Sysupdate component verb) = keywords.Sysupdate
 keyword_of Components = keywords.Sysupdate
+keyword_of (Mark keep) = keywords.Mark
+keyword_of History = keywords.History
+keyword_of (HistoryChanges mark) = keywords.History
+keyword_of (Rollback mark) = keywords.Rollback
+keyword_of (Forget mark) = keywords.Forget
 
 -- a command may stand in a line where a line may begin with its keyword
 line_alike : (c : Command) → may_be_line c ≡ may_begin_line (keyword_of c)
@@ -63,6 +70,11 @@ line_alike Batch = refl
 line_alike (Sample images) = refl
 line_alike (Sysupdate component verb) = refl
 line_alike Components = refl
+line_alike (Mark keep) = refl
+line_alike History = refl
+line_alike (HistoryChanges mark) = refl
+line_alike (Rollback mark) = refl
+line_alike (Forget mark) = refl
 
 -- the first word of a command is the text of its keyword
 first_word : (c : Command) (word : List ℕ) (more : List (List ℕ)) → word ∷ more ≡ command_words c → word ≡ keyword_text (keyword_of c)
@@ -81,6 +93,11 @@ first_word Batch word more same = cc
 first_word (Sample images) word more same = cc
 first_word (Sysupdate component verb) word more same = cc
 first_word Components word more same = cc
+first_word (Mark keep) word more same = cc
+first_word History word more same = cc
+first_word (HistoryChanges mark) word more same = cc
+first_word (Rollback mark) word more same = cc
+first_word (Forget mark) word more same = cc
 
 -- the words of a command don't count for nothing
 not_nothing : (c : Command) → counts_for_nothing (command_words c) ≡ false
@@ -99,8 +116,13 @@ not_nothing Batch = refl
 not_nothing (Sample images) = refl
 not_nothing (Sysupdate component verb) = refl
 not_nothing Components = refl
+not_nothing (Mark keep) = refl
+not_nothing History = refl
+not_nothing (HistoryChanges mark) = refl
+not_nothing (Rollback mark) = refl
+not_nothing (Forget mark) = refl
 
-few_view : (view : ViewCommand) → length (view_words view) ≤ 2
+few_view : (view : ViewCommand) → length (view_words view) ≤ 3
 few_view views.List = omega arith
 few_view views.Status = omega arith
 few_view (views.Merge false) = omega arith
@@ -108,6 +130,10 @@ few_view (views.Merge true) = omega arith
 few_view views.Unmerge = omega arith
 few_view (views.Refresh false) = omega arith
 few_view (views.Refresh true) = omega arith
+few_view (views.Changes false) = omega arith
+few_view (views.Changes true) = omega arith
+few_view (views.Explain false path) = omega arith
+few_view (views.Explain true path) = omega arith
 
 few_chosen : (hierarchies : Chosen) → length (chosen_words hierarchies) ≤ 2
 few_chosen chosen.Default = omega arith
@@ -117,6 +143,14 @@ few_chosen (chosen.Both names others) = omega arith
 few_optional : (path : Option (List (List ℕ))) → length (optional_words path) ≤ 1
 few_optional None = omega arith
 few_optional (Some path) = omega arith
+
+few_update : (verb : UpdateVerb) → length (update_words verb) ≤ 2
+few_update updates.List = omega arith
+few_update updates.CheckNew = omega arith
+few_update (updates.Update None) = omega arith
+few_update (updates.Update (Some version)) = omega arith
+few_update updates.Vacuum = omega arith
+few_update updates.Features = omega arith
 
 -- a command has few words
 few_words : (c : Command) → length (command_words c) ≤ most_words
@@ -133,9 +167,15 @@ few_words Layer = omega arith
 few_words Migrate = omega arith
 few_words Batch = omega arith
 few_words (Sample images) = omega arith
-few_words (Sysupdate None verb) = omega arith
-few_words (Sysupdate (Some name) verb) = omega arith
+few_words (Sysupdate None verb) = omega (arith, few_update verb)
+few_words (Sysupdate (Some name) verb) = omega (arith, few_update verb)
 few_words Components = omega arith
+few_words (Mark None) = omega arith
+few_words (Mark (Some keep)) = omega arith
+few_words History = omega arith
+few_words (HistoryChanges mark) = omega arith
+few_words (Rollback mark) = omega arith
+few_words (Forget mark) = omega arith
 
 -- and fewer after its keyword
 few_after : (keyword : Keyword) (words : List (List ℕ)) → Takes keyword words → length words < most_words

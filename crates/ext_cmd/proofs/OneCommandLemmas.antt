@@ -1,9 +1,8 @@
 -- Words are those of one command.
-use Rattle.std.proofs.Common.{◌≡◌, ◌≢◌, ℕ, true, false, List, [], ◌∷◌, ◌++◌, codes, refl, sym, ap, ◌∙◌, subst, arith, if◌then◌else◌, inl, inr}
+use Rattle.std.proofs.Common.{◌≡◌, ◌≢◌, ℕ, List, [], ◌∷◌, ◌++◌, codes, refl, sym, ap, ◌∙◌, subst, arith, if◌then◌else◌, inl, inr}
 use Rattle.std.specs.Prelude.{◌⊎◌, decimal, Option, Some, None, Result, Ok, Err}
 use Rattle.std.specs.Str.{bytes_eq}
 use Rattle.std.proofs.lemmas.Fmt.{decimal_injective}
-use Rattle.ext_text.specs.Absolute.{absolute}
 use Rattle.ext_text.specs.Arch.{arch_name}
 use Rattle.ext_text.specs.declared.arch.Arch.{Arch}
 use Rattle.ext_text.specs.declared.arch.Arch.TheVariants as archs
@@ -12,27 +11,28 @@ use Rattle.ext_text.specs.Scope.{scope_name}
 use Rattle.ext_text.specs.declared.scope.Scope.{Scope}
 use Rattle.ext_text.specs.declared.scope.Scope.TheVariants as scopes
 use Rattle.ext_text.proofs.ForCallers.{path_injective}
-use Rattle.ext_cmd.specs.Keyword.{keyword_text, update_verb_text}
+use Rattle.ext_cmd.specs.Keyword.{keyword_text}
 use Rattle.ext_cmd.specs.Reading.{ReadsWords}
 use Rattle.ext_cmd.specs.Resource.{IsResource}
-use Rattle.ext_cmd.specs.Words.{AreChosen, IsBelowRoot, IsCommand, IsImages, IsOptionalPath, IsWellFormed, chosen_words, command_words, component_words, optional_words, path_words, update_words, view_words}
+use Rattle.ext_cmd.specs.Words.{AreChosen, IsBelowRoot, IsCommand, IsImages, IsMarkNumber, IsOptionalKeep, IsOptionalPath, IsViewCommand, IsWellFormed, chosen_words, command_words, component_word, component_words, keep_words, mark_words, optional_words, path_words, update_words, view_words}
 use Rattle.ext_cmd.specs.declared.command.Chosen.{Chosen}
 use Rattle.ext_cmd.specs.declared.command.Chosen.TheVariants as chosen
 use Rattle.ext_cmd.specs.declared.command.Command.{Command}
-use Rattle.ext_cmd.specs.declared.command.Command.TheVariants.{Init, ImportFs, Remove, Sysext, Confext, Tree, Cat, Compare, Check, Layer, Migrate, Batch, Sample, Sysupdate, Components}
+use Rattle.ext_cmd.specs.declared.command.Command.TheVariants.{Init, ImportFs, Remove, Sysext, Confext, Tree, Cat, Compare, Check, Layer, Migrate, Batch, Sample, Sysupdate, Components, Mark, History, HistoryChanges, Rollback, Forget}
 use Rattle.ext_cmd.specs.declared.command.UpdateVerb.{UpdateVerb}
 use Rattle.ext_cmd.specs.declared.command.UpdateVerb.TheVariants as updates
 use Rattle.ext_cmd.specs.declared.command.ViewCommand.{ViewCommand}
-use Rattle.ext_cmd.specs.declared.command.ViewCommand.TheVariants as views
 use Rattle.ext_cmd.specs.declared.keyword.Keyword.{Keyword}
 use Rattle.ext_cmd.specs.declared.keyword.Keyword.TheVariants as keywords
-use Rattle.ext_cmd.specs.declared.keyword.Verb.{Verb}
-use Rattle.ext_cmd.specs.declared.keyword.Verb.TheVariants as verbs
+use Rattle.ext_cmd.specs.declared.keyword.UpdateWord.{UpdateWord}
+use Rattle.ext_cmd.specs.declared.keyword.UpdateWord.TheVariants as asks
 use Rattle.ext_cmd.specs.declared.words.CmdErr.{CmdErr}
 use Rattle.ext_cmd.specs.declared.words.CmdErr.TheVariants.{OutOfMemory, Usage}
-use Rattle.ext_cmd.proofs.CommandLemmas.{one_keyword, verb_of}
+use Rattle.ext_cmd.proofs.CommandLemmas.{one_keyword}
 use Rattle.ext_cmd.proofs.HierarchyLemmas.{one_list}
 use Rattle.ext_cmd.proofs.OneFaultLemmas.{no_fault}
+use Rattle.ext_cmd.proofs.OneViewLemmas.{one_path, one_view}
+use Rattle.ext_cmd.proofs.UpdateLemmas.{update_word_of}
 
 abbrev arch_of : List ℕ → Option Arch
 arch_of text =
@@ -78,9 +78,6 @@ one_scope s t same =
     let read : Some s ≡ Some t = sym (scope_back s) ∙ ap scope_of same ∙ scope_back t in
     cc
 
-one_path : (p q : List (List ℕ)) → IsPath p → IsPath q → absolute p ≡ absolute q → p ≡ q
-one_path p q is also same = path_injective p q is also (cc)
-
 one_optional : (p q : Option (List (List ℕ))) → IsOptionalPath p → IsOptionalPath q → optional_words p ≡ optional_words q → p ≡ q
 one_optional None None is also same = refl
 one_optional None (Some q) is also same = cc
@@ -101,56 +98,56 @@ one_chosen (chosen.Both k l) (chosen.Both m n) are also same =
     let second : l ≡ n = one_list l n are.1 also.1 (cc) in
     cc
 
-abbrev view_after : Option Verb → List (List ℕ) → Option ViewCommand
-view_after None more = None
-view_after (Some verbs.List) more = Some views.List
-view_after (Some verbs.Status) more = Some views.Status
-view_after (Some verbs.Merge) [] = Some (views.Merge false)
-view_after (Some verbs.Merge) (word ∷ more) = Some (views.Merge true)
-view_after (Some verbs.Unmerge) more = Some views.Unmerge
-view_after (Some verbs.Refresh) [] = Some (views.Refresh false)
-view_after (Some verbs.Refresh) (word ∷ more) = Some (views.Refresh true)
+one_keep : (k l : Option ℕ) → IsOptionalKeep k → IsOptionalKeep l → keep_words k ≡ keep_words l → k ≡ l
+one_keep None None is also same = refl
+one_keep None (Some l) is also same = cc
+one_keep (Some k) None is also same = cc
+one_keep (Some k) (Some l) is also same = ap (λ (n : ℕ). Some n) (decimal_injective k l (omega (arith, is.1)) (omega (arith, also.1)) (cc))
 
-abbrev view_of : List (List ℕ) → Option ViewCommand
-view_of [] = None
-view_of (word ∷ more) = view_after (verb_of word) more
+one_mark : (m n : ℕ) → IsMarkNumber m → IsMarkNumber n → mark_words m ≡ mark_words n → m ≡ n
+one_mark m n is also same = decimal_injective m n (omega (arith, is.1)) (omega (arith, also.1)) (cc)
 
-view_back : (v : ViewCommand) → view_of (view_words v) ≡ Some v
-view_back views.List = refl
-view_back views.Status = refl
-view_back (views.Merge false) = refl
-view_back (views.Merge true) = refl
-view_back views.Unmerge = refl
-view_back (views.Refresh false) = refl
-view_back (views.Refresh true) = refl
+abbrev update_after : Option UpdateWord → List (List ℕ) → Option UpdateVerb
+update_after None more = None
+update_after (Some asks.List) more = Some updates.List
+update_after (Some asks.CheckNew) more = Some updates.CheckNew
+update_after (Some asks.Update) [] = Some (updates.Update None)
+update_after (Some asks.Update) (word ∷ more) = Some (updates.Update (Some word))
+update_after (Some asks.Vacuum) more = Some updates.Vacuum
+update_after (Some asks.Features) more = Some updates.Features
 
-one_view : (v w : ViewCommand) → view_words v ≡ view_words w → v ≡ w
-one_view v w same =
-    let read : Some v ≡ Some w = sym (view_back v) ∙ ap view_of same ∙ view_back w in
+abbrev update_of : List (List ℕ) → Option UpdateVerb
+update_of [] = None
+update_of (word ∷ more) = update_after (update_word_of word) more
+
+update_back : (v : UpdateVerb) → update_of (update_words v) ≡ Some v
+update_back updates.List = refl
+update_back updates.CheckNew = refl
+update_back (updates.Update None) = refl
+update_back (updates.Update (Some version)) = refl
+update_back updates.Vacuum = refl
+update_back updates.Features = refl
+
+one_update : (v w : UpdateVerb) → update_words v ≡ update_words w → v ≡ w
+one_update v w same =
+    let read : Some v ≡ Some w = sym (update_back v) ∙ ap update_of same ∙ update_back w in
     cc
 
-abbrev update_verb_of : List ℕ → Option UpdateVerb
-update_verb_of text =
-    if bytes_eq text (update_verb_text updates.List) then Some updates.List
-    else if bytes_eq text (update_verb_text updates.CheckNew) then Some updates.CheckNew
-    else if bytes_eq text (update_verb_text updates.Features) then Some updates.Features
-    else None
+-- what is asked begins neither with the option of a component
+no_option : (v : UpdateVerb) (name : List ℕ) (more : List (List ℕ)) → update_words v ≢ component_word name ∷ more
+no_option updates.List name more same = cc
+no_option updates.CheckNew name more same = cc
+no_option (updates.Update version) name more same = cc
+no_option updates.Vacuum name more same = cc
+no_option updates.Features name more same = cc
 
-update_verb_back : (v : UpdateVerb) → update_verb_of (update_verb_text v) ≡ Some v
-update_verb_back updates.List = refl
-update_verb_back updates.CheckNew = refl
-update_verb_back updates.Features = refl
-
-one_update_verb : (v w : UpdateVerb) → update_verb_text v ≡ update_verb_text w → v ≡ w
-one_update_verb v w same =
-    let read : Some v ≡ Some w = sym (update_verb_back v) ∙ ap update_verb_of same ∙ update_verb_back w in
-    cc
-
--- `components` is no verb
-no_verb_text : (v : UpdateVerb) → update_verb_text v ≢ codes "components"
-no_verb_text updates.List same = cc
-no_verb_text updates.CheckNew same = cc
-no_verb_text updates.Features same = cc
+-- nor with `components`
+no_components : (v : UpdateVerb) → update_words v ≢ codes "components" ∷ []
+no_components updates.List same = cc
+no_components updates.CheckNew same = cc
+no_components (updates.Update version) same = cc
+no_components updates.Vacuum same = cc
+no_components updates.Features same = cc
 
 -- the words of what is asked of updates
 record Asks (more : List (List ℕ)) (c : Command) : Type 0 where
@@ -160,24 +157,31 @@ record Asks (more : List (List ℕ)) (c : Command) : Type 0 where
   pub command : c ≡ Sysupdate component verb
 
 one_asked : (o p : Option (List ℕ)) (v w : UpdateVerb) → component_words o ++ update_words v ≡ component_words p ++ update_words w → Sysupdate o v ≡ Sysupdate p w
-one_asked None None v w same = ap (λ (x : UpdateVerb). Sysupdate None x) (one_update_verb v w (cc))
-one_asked None (Some n) v w same = cc
-one_asked (Some m) None v w same = cc
+one_asked None None v w same = ap (λ (x : UpdateVerb). Sysupdate None x) (one_update v w same)
+one_asked None (Some n) v w same = absurd (no_option v n (update_words w) same)
+one_asked (Some m) None v w same = absurd (no_option w m (update_words v) (sym same))
 one_asked (Some m) (Some n) v w same =
     let name : m ≡ n = cc in
-    let verb : v ≡ w = one_update_verb v w (cc) in
+    let verb : v ≡ w = one_update v w (cc) in
     cc
 
 not_components : (o : Option (List ℕ)) (v : UpdateVerb) → component_words o ++ update_words v ≢ codes "components" ∷ []
-not_components None v same = no_verb_text v (cc)
+not_components None v same = no_components v same
 not_components (Some name) v same = cc
+
+-- the changes since a mark
+record Since (more : List (List ℕ)) (c : Command) : Type 0 where
+  pub mark : ℕ
+  pub is : IsMarkNumber mark
+  pub words : more ≡ codes "--changes" ∷ mark_words mark
+  pub command : c ≡ HistoryChanges mark
 
 abbrev Gives : Keyword → List (List ℕ) → Command → Type 0
 Gives keywords.Init more c = (a : Arch) × (s : Scope) × (h : Chosen) × AreChosen h × (more ≡ arch_name a ∷ scope_name s ∷ chosen_words h) × (c ≡ Init a s h)
 Gives keywords.ImportFs more c = (r : List (List ℕ)) × (p : List (List ℕ)) × IsResource r × IsPath p × (more ≡ path_text r ∷ path_words p) × (c ≡ ImportFs r p)
 Gives keywords.Remove more c = (p : List (List ℕ)) × IsBelowRoot p × (more ≡ path_words p) × (c ≡ Remove p)
-Gives keywords.Sysext more c = (v : ViewCommand) × (more ≡ view_words v) × (c ≡ Sysext v)
-Gives keywords.Confext more c = (v : ViewCommand) × (more ≡ view_words v) × (c ≡ Confext v)
+Gives keywords.Sysext more c = (v : ViewCommand) × IsViewCommand v × (more ≡ view_words v) × (c ≡ Sysext v)
+Gives keywords.Confext more c = (v : ViewCommand) × IsViewCommand v × (more ≡ view_words v) × (c ≡ Confext v)
 Gives keywords.Tree more c = (p : Option (List (List ℕ))) × IsOptionalPath p × (more ≡ optional_words p) × (c ≡ Tree p)
 Gives keywords.Cat more c = (p : List (List ℕ)) × IsBelowRoot p × (more ≡ path_words p) × (c ≡ Cat p)
 Gives keywords.Compare more c = (a : List ℕ) × (b : List ℕ) × (more ≡ a ∷ b ∷ []) × (c ≡ Compare a b)
@@ -186,6 +190,10 @@ Gives keywords.Layer more c = c ≡ Layer
 Gives keywords.Migrate more c = c ≡ Migrate
 Gives keywords.Batch more c = c ≡ Batch
 Gives keywords.Sample more c = (n : ℕ) × IsImages n × (more ≡ decimal n ∷ []) × (c ≡ Sample n)
+Gives keywords.Mark more c = (k : Option ℕ) × IsOptionalKeep k × (more ≡ keep_words k) × (c ≡ Mark k)
+Gives keywords.History more c = ((more ≡ []) × (c ≡ History)) ⊎ Since more c
+Gives keywords.Rollback more c = (n : ℕ) × IsMarkNumber n × (more ≡ mark_words n) × (c ≡ Rollback n)
+Gives keywords.Forget more c = (n : ℕ) × IsMarkNumber n × (more ≡ mark_words n) × (c ≡ Forget n)
 Gives keywords.Sysupdate more c = Asks more c ⊎ ((more ≡ codes "components" ∷ []) × (c ≡ Components))
 
 record Given (c : Command) (words : List (List ℕ)) : Type 0 where
@@ -198,8 +206,8 @@ given : (c : Command) → IsWellFormed c → Given c (command_words c)
 given (Init a s h) well = record { keyword = keywords.Init; more = arch_name a ∷ scope_name s ∷ chosen_words h; same = refl; gives = (a, s, h, well.1, refl, refl) }
 given (ImportFs r p) well = record { keyword = keywords.ImportFs; more = path_text r ∷ path_words p; same = refl; gives = (r, p, well.0, well.1, refl, refl) }
 given (Remove p) well = record { keyword = keywords.Remove; more = path_words p; same = refl; gives = (p, well, refl, refl) }
-given (Sysext v) well = record { keyword = keywords.Sysext; more = view_words v; same = refl; gives = (v, refl, refl) }
-given (Confext v) well = record { keyword = keywords.Confext; more = view_words v; same = refl; gives = (v, refl, refl) }
+given (Sysext v) well = record { keyword = keywords.Sysext; more = view_words v; same = refl; gives = (v, well, refl, refl) }
+given (Confext v) well = record { keyword = keywords.Confext; more = view_words v; same = refl; gives = (v, well, refl, refl) }
 given (Tree p) well = record { keyword = keywords.Tree; more = optional_words p; same = refl; gives = (p, well, refl, refl) }
 given (Cat p) well = record { keyword = keywords.Cat; more = path_words p; same = refl; gives = (p, well, refl, refl) }
 given (Compare a b) well = record { keyword = keywords.Compare; more = a ∷ b ∷ []; same = refl; gives = (a, b, refl, refl) }
@@ -214,6 +222,16 @@ given (Sysupdate o v) well = record {
   gives = inl (record { component = o; verb = v; words = refl; command = refl });
 }
 given Components well = record { keyword = keywords.Sysupdate; more = codes "components" ∷ []; same = refl; gives = inr (refl, refl) }
+given (Mark k) well = record { keyword = keywords.Mark; more = keep_words k; same = refl; gives = (k, well, refl, refl) }
+given History well = record { keyword = keywords.History; more = []; same = refl; gives = inl (refl, refl) }
+given (HistoryChanges n) well = record {
+  keyword = keywords.History;
+  more = codes "--changes" ∷ mark_words n;
+  same = refl;
+  gives = inr (record { mark = n; is = well; words = refl; command = refl });
+}
+given (Rollback n) well = record { keyword = keywords.Rollback; more = mark_words n; same = refl; gives = (n, well, refl, refl) }
+given (Forget n) well = record { keyword = keywords.Forget; more = mark_words n; same = refl; gives = (n, well, refl, refl) }
 given (Sample n) well = record { keyword = keywords.Sample; more = decimal n ∷ []; same = refl; gives = (n, well, refl, refl) }
 
 one_given : (k : Keyword) (more : List (List ℕ)) (c d : Command) → Gives k more c → Gives k more d → c ≡ d
@@ -232,8 +250,8 @@ one_given keywords.Remove more c d (p, path, is, c_is) (q, also, was, d_is) =
     let words = sym is ∙ was in
     let same : p ≡ q = one_path p q path.within also.within (cc) in
     cc
-one_given keywords.Sysext more c d (v, is, c_is) (w, was, d_is) = let same : v ≡ w = one_view v w (sym is ∙ was) in cc
-one_given keywords.Confext more c d (v, is, c_is) (w, was, d_is) = let same : v ≡ w = one_view v w (sym is ∙ was) in cc
+one_given keywords.Sysext more c d (v, well, is, c_is) (w, also, was, d_is) = let same : v ≡ w = one_view v w well also (sym is ∙ was) in cc
+one_given keywords.Confext more c d (v, well, is, c_is) (w, also, was, d_is) = let same : v ≡ w = one_view v w well also (sym is ∙ was) in cc
 one_given keywords.Tree more c d (p, path, is, c_is) (q, also, was, d_is) = let same : p ≡ q = one_optional p q path also (sym is ∙ was) in cc
 one_given keywords.Cat more c d (p, path, is, c_is) (q, also, was, d_is) =
     let words = sym is ∙ was in
@@ -249,6 +267,16 @@ one_given keywords.Sysupdate more c d (inl a) (inl b) =
 one_given keywords.Sysupdate more c d (inl a) (inr (was, d_is)) = absurd (not_components a.component a.verb (sym a.words ∙ was))
 one_given keywords.Sysupdate more c d (inr (is, c_is)) (inl b) = absurd (not_components b.component b.verb (sym b.words ∙ is))
 one_given keywords.Sysupdate more c d (inr (is, c_is)) (inr (was, d_is)) = c_is ∙ sym d_is
+one_given keywords.Mark more c d (k, well, is, c_is) (l, also, was, d_is) = let same : k ≡ l = one_keep k l well also (sym is ∙ was) in cc
+one_given keywords.History more c d (inl a) (inl b) = a.1 ∙ sym b.1
+one_given keywords.History more c d (inl a) (inr b) = absurd (cc (a.0, b.words))
+one_given keywords.History more c d (inr a) (inl b) = absurd (cc (a.words, b.0))
+one_given keywords.History more c d (inr a) (inr b) =
+    let words = sym a.words ∙ b.words in
+    let same : a.mark ≡ b.mark = one_mark a.mark b.mark a.is b.is (cc) in
+    a.command ∙ ap (λ (n : ℕ). HistoryChanges n) same ∙ sym b.command
+one_given keywords.Rollback more c d (m, well, is, c_is) (n, also, was, d_is) = let same : m ≡ n = one_mark m n well also (sym is ∙ was) in cc
+one_given keywords.Forget more c d (m, well, is, c_is) (n, also, was, d_is) = let same : m ≡ n = one_mark m n well also (sym is ∙ was) in cc
 one_given keywords.Sample more c d (m, few, is, c_is) (n, also, was, d_is) =
     let words = sym is ∙ was in
     let same : m ≡ n = decimal_injective m n (omega (arith, few.1)) (omega (arith, also.1)) (cc) in

@@ -15,7 +15,7 @@ use Rattle.ext_text.specs.declared.path.PathErr.{PathErr}
 use Rattle.ext_text.specs.declared.path.PathErr.TheVariants as paths
 use Rattle.ext_text.proofs.ForCallers.{no_path, path_not_empty}
 use Rattle.ext_cmd.specs.Fault.{BeginsWords}
-use Rattle.ext_cmd.specs.Grammar.{Any, HasNoMore, IsBelowRootWord, IsImagesWord, IsPathWord, IsResourceWord, Spells, Then}
+use Rattle.ext_cmd.specs.Grammar.{Any, HasNoMore, IsBelowRootWord, IsImagesWord, IsMarkWord, IsPathWord, IsResourceWord, Spells, Then}
 use Rattle.ext_cmd.specs.Reading.{RefusesWord, usage_of}
 use Rattle.ext_cmd.specs.Resource.{IsResource}
 use Rattle.ext_cmd.specs.Words.{IsBelowRoot}
@@ -46,7 +46,7 @@ a_tree_name : IsName (codes "a.tree")
 a_tree_name = ascii_name (codes "a.tree") (omega arith) (omega arith) (λ e. cc) (λ e. cc) refl
 
 -- the root, and a path below it
-root : IsPath []
+pub root : IsPath []
 root = record { each = tt; depth = omega arith; size = omega arith }
 
 a_path : IsPath (codes "a" ∷ [])
@@ -75,6 +75,9 @@ some_import = record {
 
 pub some_images : BeginsWords (Then IsImagesWord HasNoMore) []
 some_images = record { more = decimal 1 ∷ []; whole = (record { value = 1; is = (omega arith, omega arith); same = refl }, tt) }
+
+pub some_mark : BeginsWords (Then IsMarkWord HasNoMore) []
+some_mark = record { more = decimal 1 ∷ []; whole = (record { value = 1; is = (omega arith, omega arith); same = refl }, tt) }
 
 pub some_texts : BeginsWords (Then Any (Then Any HasNoMore)) []
 some_texts = record { more = [] ∷ [] ∷ []; whole = (tt, (tt, tt)) }

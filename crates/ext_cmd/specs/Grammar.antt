@@ -8,12 +8,17 @@ use Rattle.ext_text.specs.declared.extension.Extension.TheVariants as extensions
 use Rattle.ext_text.specs.declared.scope.Scope.{Scope}
 use Rattle.ext_text.specs.declared.scope.Scope.TheVariants.{Portable}
 use Rattle.ext_host.specs.Host.{default_hierarchies}
-use Rattle.ext_cmd.specs.Keyword.{update_verb_text, verb_text}
+use Rattle.ext_vers.specs.Version.{IsVersion}
+use Rattle.ext_cmd.specs.Keyword.{update_word_text, verb_text}
 use Rattle.ext_cmd.specs.Resource.{IsResource}
-use Rattle.ext_cmd.specs.Words.{AreDisjoint, IsBelowRoot, IsHierarchyList, IsImages, IsPlainComponent, component_word, hierarchies_word}
+use Rattle.ext_cmd.specs.Words.{AreDisjoint, IsBelowRoot, IsHierarchyList, IsImages, IsKeep, IsMarkNumber, IsPlainComponent}
+use Rattle.ext_cmd.specs.Words.{component_word, hierarchies_word}
 use Rattle.ext_cmd.specs.declared.keyword.Keyword.{Keyword}
 use Rattle.ext_cmd.specs.declared.keyword.Keyword.TheVariants.{Init, ImportFs, Remove, Sysext, Confext}
 use Rattle.ext_cmd.specs.declared.keyword.Keyword.TheVariants.{Tree, Cat, Compare, Check, Layer, Migrate, Batch, Sample, Sysupdate}
+use Rattle.ext_cmd.specs.declared.keyword.Keyword.TheVariants.{Mark, History, Rollback, Forget}
+use Rattle.ext_cmd.specs.declared.keyword.UpdateWord.{UpdateWord}
+use Rattle.ext_cmd.specs.declared.keyword.UpdateWord.TheVariants as asks
 use Rattle.ext_cmd.specs.declared.keyword.Verb.{Verb}
 use Rattle.ext_cmd.specs.declared.keyword.Verb.TheVariants as verbs
 
@@ -26,6 +31,10 @@ pub record Spells {A : Type 0} (form : A → List ℕ) (Is : A → Type 0) (word
 -- each value has it
 abbrev pub Any : {A : Type 0} → A → Type 0
 Any value = Unit {0}
+
+-- a text, as its own spelling
+abbrev pub itself : List ℕ → List ℕ
+itself text = text
 
 -- the name of an architecture
 abbrev pub IsArchWord : List ℕ → Type 0
@@ -55,13 +64,17 @@ IsBelowRootWord = Spells absolute IsBelowRoot
 abbrev pub IsImagesWord : List ℕ → Type 0
 IsImagesWord = Spells decimal IsImages
 
--- what is asked of updates
-abbrev pub IsUpdateVerb : List ℕ → Type 0
-IsUpdateVerb = Spells update_verb_text Any
+-- how many marks stay
+abbrev pub IsKeepWord : List ℕ → Type 0
+IsKeepWord = Spells decimal IsKeep
 
--- what is asked where no component is chosen: so, or which components there are
-abbrev pub IsUpdateWord : List ℕ → Type 0
-IsUpdateWord word = IsUpdateVerb word ⊎ (word ≡ codes "components")
+-- the number of a mark's generation
+abbrev pub IsMarkWord : List ℕ → Type 0
+IsMarkWord = Spells decimal IsMarkNumber
+
+-- a version
+abbrev pub IsVersionWord : List ℕ → Type 0
+IsVersionWord = Spells itself IsVersion
 
 -- the option of a component
 abbrev pub IsComponentWord : List ℕ → Type 0
@@ -106,6 +119,10 @@ TakesChosen (word ∷ words) = (names : List (List ℕ)) × IsHierarchyList name
 abbrev pub IsForce : List ℕ → Type 0
 IsForce word = word ≡ codes "--force"
 
+-- a path, with the option `--force` before it or without
+abbrev pub TakesExplained : List (List ℕ) → Type 0
+TakesExplained words = Then IsBelowRootWord HasNoMore words ⊎ Then IsForce (Then IsBelowRootWord HasNoMore) words
+
 -- the words after a verb
 abbrev pub TakesVerb : Verb → List (List ℕ) → Type 0
 TakesVerb verbs.List = HasNoMore
@@ -113,10 +130,32 @@ TakesVerb verbs.Status = HasNoMore
 TakesVerb verbs.Merge = Maybe IsForce HasNoMore
 TakesVerb verbs.Unmerge = HasNoMore
 TakesVerb verbs.Refresh = Maybe IsForce HasNoMore
+TakesVerb verbs.Changes = Maybe IsForce HasNoMore
+TakesVerb verbs.Explain = TakesExplained
 
--- what is asked of updates: of those of no component, or of those of one
+-- the words after the one by which something is asked of updates
+abbrev pub TakesUpdateWord : UpdateWord → List (List ℕ) → Type 0
+TakesUpdateWord asks.List = HasNoMore
+TakesUpdateWord asks.CheckNew = HasNoMore
+TakesUpdateWord asks.Update = Maybe IsVersionWord HasNoMore
+TakesUpdateWord asks.Vacuum = HasNoMore
+TakesUpdateWord asks.Features = HasNoMore
+
+-- what is asked of updates
+abbrev pub TakesAsked : List (List ℕ) → Type 0
+TakesAsked = Chooses update_word_text TakesUpdateWord
+
+-- the word that asks which components there are
+abbrev pub IsComponents : List ℕ → Type 0
+IsComponents word = word ≡ codes "components"
+
+-- what is asked of the updates of no component, or which components there are, or what is asked of the updates of one
 abbrev pub TakesUpdate : List (List ℕ) → Type 0
-TakesUpdate words = Then IsUpdateWord HasNoMore words ⊎ Then IsComponentWord (Then IsUpdateVerb HasNoMore) words
+TakesUpdate words = TakesAsked words ⊎ Then IsComponents HasNoMore words ⊎ Then IsComponentWord TakesAsked words
+
+-- the option by which `history` tells what has changed since a mark
+abbrev pub IsSince : List ℕ → Type 0
+IsSince word = word ≡ codes "--changes"
 
 -- the words after a keyword
 abbrev pub Takes : Keyword → List (List ℕ) → Type 0
@@ -134,3 +173,7 @@ Takes Migrate = HasNoMore
 Takes Batch = HasNoMore
 Takes Sample = Then IsImagesWord HasNoMore
 Takes Sysupdate = TakesUpdate
+Takes Mark = Maybe IsKeepWord HasNoMore
+Takes History = Maybe IsSince (Then IsMarkWord HasNoMore)
+Takes Rollback = Then IsMarkWord HasNoMore
+Takes Forget = Then IsMarkWord HasNoMore

@@ -1,11 +1,12 @@
 -- The words that say which command is meant. They are this project's own; the verbs of views are those of
--- systemd-sysext(8), what is asked of updates is asked by the verbs of systemd-sysupdate(8).
+-- systemd-sysext(8) with `changes` and `explain`, what is asked of updates is asked by the verbs of systemd-sysupdate(8).
 use Rattle.std.specs.Prelude.{◌≡◌, ◌≢◌, ℕ, List, codes, Option, Some, None}
-use Rattle.ext_cmd.specs.declared.command.UpdateVerb.{UpdateVerb}
-use Rattle.ext_cmd.specs.declared.command.UpdateVerb.TheVariants as updates
 use Rattle.ext_cmd.specs.declared.keyword.Keyword.{Keyword}
 use Rattle.ext_cmd.specs.declared.keyword.Keyword.TheVariants.{Init, ImportFs, Remove, Sysext, Confext}
 use Rattle.ext_cmd.specs.declared.keyword.Keyword.TheVariants.{Tree, Cat, Compare, Check, Layer, Migrate, Batch, Sample, Sysupdate}
+use Rattle.ext_cmd.specs.declared.keyword.Keyword.TheVariants.{Mark, History, Rollback, Forget}
+use Rattle.ext_cmd.specs.declared.keyword.UpdateWord.{UpdateWord}
+use Rattle.ext_cmd.specs.declared.keyword.UpdateWord.TheVariants as asks
 use Rattle.ext_cmd.specs.declared.keyword.Verb.{Verb}
 use Rattle.ext_cmd.specs.declared.keyword.Verb.TheVariants as verbs
 
@@ -25,6 +26,10 @@ keyword_text Migrate = codes "migrate"
 keyword_text Batch = codes "batch"
 keyword_text Sample = codes "sample"
 keyword_text Sysupdate = codes "sysupdate"
+keyword_text Mark = codes "mark"
+keyword_text History = codes "history"
+keyword_text Rollback = codes "rollback"
+keyword_text Forget = codes "forget"
 
 -- what reading a text gives: the keyword of this text, or that it is none
 abbrev pub ReadsKeyword : List ℕ → Option Keyword → Type 0
@@ -38,6 +43,8 @@ verb_text verbs.Status = codes "status"
 verb_text verbs.Merge = codes "merge"
 verb_text verbs.Unmerge = codes "unmerge"
 verb_text verbs.Refresh = codes "refresh"
+verb_text verbs.Changes = codes "changes"
+verb_text verbs.Explain = codes "explain"
 
 -- the verb of a word, or that the word is none
 abbrev pub ReadsVerb : List ℕ → Option Verb → Type 0
@@ -45,7 +52,14 @@ ReadsVerb text (Some verb) = text ≡ verb_text verb
 ReadsVerb text None = (verb : Verb) → text ≢ verb_text verb
 
 -- the word by which something is asked of updates
-abbrev pub update_verb_text : UpdateVerb → List ℕ
-update_verb_text updates.List = codes "list"
-update_verb_text updates.CheckNew = codes "check-new"
-update_verb_text updates.Features = codes "features"
+abbrev pub update_word_text : UpdateWord → List ℕ
+update_word_text asks.List = codes "list"
+update_word_text asks.CheckNew = codes "check-new"
+update_word_text asks.Update = codes "update"
+update_word_text asks.Vacuum = codes "vacuum"
+update_word_text asks.Features = codes "features"
+
+-- what is asked by a word, or that the word asks nothing
+abbrev pub ReadsUpdateWord : List ℕ → Option UpdateWord → Type 0
+ReadsUpdateWord text (Some asked) = text ≡ update_word_text asked
+ReadsUpdateWord text None = (asked : UpdateWord) → text ≢ update_word_text asked

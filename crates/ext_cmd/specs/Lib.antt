@@ -1,5 +1,6 @@
 pub mod Fault
 pub mod Resource
+pub mod Marks
 pub mod Words
 pub mod Keyword
 pub mod Grammar

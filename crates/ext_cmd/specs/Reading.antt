@@ -1,18 +1,20 @@
 -- What reading words gives: a command, or the place of the first fault.
-use Rattle.std.specs.Prelude.{◌≡◌, ℕ, ◌<◌, Bool, not, ◌&&◌, nat_eq, nat_lt, List, [], ◌∷◌, ◌++◌, length, codes, Result, Ok, Err}
+use Rattle.std.specs.Prelude.{◌≡◌, ℕ, ◌<◌, Bool, not, ◌&&◌, nat_eq, nat_lt, List, [], ◌∷◌, ◌++◌, length, Result, Ok, Err}
 use Rattle.std.specs.Cmp.Lexicographic.{pointwise}
 use Rattle.std.specs.List.{list_all, list_any}
 use Rattle.ext_text.specs.declared.path.PathErr.{PathErr}
 use Rattle.ext_text.specs.declared.path.PathErr.TheVariants as paths
 use Rattle.ext_cmd.specs.Fault.{IsFault}
-use Rattle.ext_cmd.specs.Grammar.{IsUpdateWord, Spells, Takes, TakesOthers, TakesVerb}
-use Rattle.ext_cmd.specs.Keyword.{keyword_text, verb_text}
-use Rattle.ext_cmd.specs.Words.{AreChosen, IsHierarchy, IsNone, IsUsage, IsWellFormed}
-use Rattle.ext_cmd.specs.Words.{chosen_words, command_words, hierarchies_word, slashed, view_words}
+use Rattle.ext_cmd.specs.Grammar.{Spells, Takes, TakesOthers, TakesUpdateWord, TakesVerb}
+use Rattle.ext_cmd.specs.Keyword.{keyword_text, update_word_text, verb_text}
+use Rattle.ext_cmd.specs.Words.{AreChosen, IsAsked, IsHierarchy, IsNone, IsUsage, IsViewCommand, IsWellFormed}
+use Rattle.ext_cmd.specs.Words.{chosen_words, command_words, hierarchies_word, slashed, update_words, view_words}
 use Rattle.ext_cmd.specs.declared.command.Chosen.{Chosen}
 use Rattle.ext_cmd.specs.declared.command.Command.{Command}
+use Rattle.ext_cmd.specs.declared.command.UpdateVerb.{UpdateVerb}
 use Rattle.ext_cmd.specs.declared.command.ViewCommand.{ViewCommand}
 use Rattle.ext_cmd.specs.declared.keyword.Keyword.{Keyword}
+use Rattle.ext_cmd.specs.declared.keyword.UpdateWord.{UpdateWord}
 use Rattle.ext_cmd.specs.declared.keyword.Verb.{Verb}
 use Rattle.ext_cmd.specs.declared.words.CmdErr.{CmdErr}
 use Rattle.ext_cmd.specs.declared.words.CmdErr.TheVariants.{OutOfMemory, Usage}
@@ -62,21 +64,17 @@ ReadsAfter keyword words result = ReadsRest (keyword_text keyword ∷ []) (Takes
 
 -- a view command of this verb
 abbrev pub ReadsAfterVerb : Verb → List (List ℕ) → Result ViewCommand CmdErr → Type 0
-ReadsAfterVerb verb words (Ok view) = verb_text verb ∷ words ≡ view_words view
+ReadsAfterVerb verb words (Ok view) = IsViewCommand view × (verb_text verb ∷ words ≡ view_words view)
 ReadsAfterVerb verb words (Err e) = RefusesWords (TakesVerb verb) words 3 e
 
--- a command of the one word after `sysupdate`
-abbrev pub ReadsAsked : List ℕ → Result Command CmdErr → Type 0
-ReadsAsked word (Ok command) = IsWellFormed command × (codes "sysupdate" ∷ word ∷ [] ≡ command_words command)
-ReadsAsked word (Err e) = RefusesWord IsUpdateWord word 2 e
+-- what is asked of updates by this word
+abbrev pub ReadsAfterUpdateWord : UpdateWord → List (List ℕ) → ℕ → Result UpdateVerb CmdErr → Type 0
+ReadsAfterUpdateWord asked words first (Ok verb) = IsAsked verb × (update_word_text asked ∷ words ≡ update_words verb)
+ReadsAfterUpdateWord asked words first (Err e) = RefusesWords (TakesUpdateWord asked) words first e
 
 -- no word, whatever the value
 abbrev pub no_words : {A : Type 0} → A → List (List ℕ)
 no_words value = []
-
--- a text, as its own spelling
-abbrev pub itself : List ℕ → List ℕ
-itself text = text
 
 -- the name may stand in a list after these
 pub record MayFollow (names : List (List ℕ)) (name : List ℕ) : Type 0 where

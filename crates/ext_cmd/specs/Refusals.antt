@@ -16,6 +16,7 @@ use Rattle.ext_cmd.specs.declared.refusal.Refusal.{Refusal}
 use Rattle.ext_cmd.specs.declared.refusal.Refusal.TheVariants.{NoStore, StoreExists, Merged, ReadOnly, NoHostRelease, BadHostRelease, Limit}
 use Rattle.ext_cmd.specs.declared.refusal.Refusal.TheVariants.{NoEntry, NotDirectory, NotFile, BadTree, NotInDepot, Mismatch}
 use Rattle.ext_cmd.specs.declared.refusal.Refusal.TheVariants.{NoTransfers, BadTransfer, BadManifest, NoneNewer, BadFeature, NoneOn}
+use Rattle.ext_cmd.specs.declared.refusal.Refusal.TheVariants.{NoSuchVersion, NoRoom, Clash, NoMark}
 
 -- the number of a refusal
 abbrev pub refusal_number : Refusal → ℕ
@@ -36,8 +37,12 @@ refusal_number (BadTree line path) = 23
 refusal_number (NotInDepot path) = 24
 refusal_number (Mismatch path listed found) = 25
 refusal_number NoneNewer = 26
+refusal_number (NoSuchVersion version) = 27
+refusal_number (NoRoom count file) = 28
+refusal_number (Clash path) = 29
 refusal_number (BadFeature line why file) = 32
 refusal_number NoneOn = 33
+refusal_number (NoMark generation) = 37
 
 -- the word of a limit
 abbrev pub which_word : Which → List ℕ
@@ -105,8 +110,12 @@ refusal_details (NotInDepot path) = codes "not-in-depot " ++ path_text path
 refusal_details (Mismatch path listed found) =
     codes "mismatch " ++ path_text path ++ codes " " ++ stamp_words listed ++ codes " " ++ stamp_words found
 refusal_details NoneNewer = codes "none-newer"
+refusal_details (NoSuchVersion version) = codes "no-such-version " ++ version
+refusal_details (NoRoom count file) = codes "no-room " ++ decimal count ++ codes " " ++ file
+refusal_details (Clash path) = codes "clash " ++ absolute path
 refusal_details (BadFeature line why file) = codes "bad-feature " ++ file_fault_words line (feature_fault_word why) file
 refusal_details NoneOn = codes "none-on"
+refusal_details (NoMark generation) = codes "no-mark " ++ decimal generation
 
 -- the line of a refusal, with its newline
 abbrev pub refusal_line : Refusal → List ℕ

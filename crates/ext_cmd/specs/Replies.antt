@@ -7,13 +7,17 @@ use Rattle.std.specs.declared.cmp.Ordering.TheVariants as orders
 use Rattle.hex.specs.Hex.{encode_lower}
 use Rattle.ext_text.specs.Absolute.{absolute}
 use Rattle.ext_text.specs.declared.digest.Digest.{Digest}
+use Rattle.ext_history.specs.declared.marks.Mark.{Mark}
+use Rattle.ext_changes.specs.Lines.{changes_text}
+use Rattle.ext_origin.specs.Lines.{origins_text}
 use Rattle.ext_match.specs.declared.verdict.Verdict.{Verdict}
 use Rattle.ext_match.specs.declared.verdict.Verdict.TheVariants as verdicts
 use Rattle.ext_find.specs.declared.found.BreakWhy.{BreakWhy}
 use Rattle.ext_find.specs.declared.found.BreakWhy.TheVariants.{NotDirectory, HasOsRelease, NoRelease}
 use Rattle.ext_cmd.specs.declared.answer.Answer.{Answer}
 use Rattle.ext_cmd.specs.declared.answer.Answer.TheVariants.{Done, Unchanged, Merged, Unmerged, Found, Tree, Order, Checked, Sample}
-use Rattle.ext_cmd.specs.declared.answer.Answer.TheVariants.{Versions, Version, Features, Components}
+use Rattle.ext_cmd.specs.declared.answer.Answer.TheVariants.{Versions, Version, Updated, Removed, Features, Components}
+use Rattle.ext_cmd.specs.declared.answer.Answer.TheVariants.{Marked, History, Changes, Explained}
 use Rattle.ext_cmd.specs.declared.answer.FeatureItem.{FeatureItem}
 use Rattle.ext_cmd.specs.declared.answer.Item.{Item}
 use Rattle.ext_cmd.specs.declared.answer.ItemKind.{ItemKind}
@@ -87,6 +91,14 @@ version_line item =
     lined (item.version ++ flag_word item.available (codes "available") ++ presence_word item.presence
     ++ flag_word item.protected (codes "protected") ++ flag_word item.obsolete (codes "obsolete"))
 
+-- the line of a path of the host
+abbrev pub path_line : List (List ℕ) → List ℕ
+path_line path = lined (absolute path)
+
+-- how many paths were removed, and each path on a line of its own
+abbrev pub removed_text : List (List (List ℕ)) → List ℕ
+removed_text paths = lined (codes "removed " ++ decimal (length paths)) ++ flat_map path_line paths
+
 -- whether a feature is on, after a space
 abbrev pub feature_word : Bool → List ℕ
 feature_word false = codes " off"
@@ -95,6 +107,10 @@ feature_word true = codes " on"
 -- the line of a feature
 abbrev pub feature_line : FeatureItem → List ℕ
 feature_line item = lined (item.name ++ feature_word item.on)
+
+-- the line of a mark: its generation, and how many entries were seen and how many of them are files
+abbrev pub mark_line : Mark → List ℕ
+mark_line mark = lined (decimal mark.generation ++ codes " " ++ decimal mark.entries ++ codes " " ++ decimal mark.files)
 
 -- the text of an answer
 abbrev pub answer_text : Answer → List ℕ
@@ -109,5 +125,11 @@ answer_text (Checked files bytes) = lined (codes "ok " ++ decimal files ++ codes
 answer_text (Sample entries files bytes digest) = sample_text entries files bytes digest
 answer_text (Versions items) = flat_map version_line items
 answer_text (Version version) = lined version
+answer_text (Updated version) = lined (codes "updated " ++ version)
+answer_text (Removed paths) = removed_text paths
 answer_text (Features items) = flat_map feature_line items
 answer_text (Components names) = names_text (codes "components ") names
+answer_text (Marked generation) = lined (codes "marked " ++ decimal generation)
+answer_text (History marks) = flat_map mark_line marks
+answer_text (Changes changes) = changes_text changes
+answer_text (Explained origins) = origins_text origins

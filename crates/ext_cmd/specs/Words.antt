@@ -1,11 +1,12 @@
 -- The words of commands: what the words of each command are, and which commands there are. The grammar is this project's
--- own; the verbs of views are those of systemd-sysext(8), those of updates are those of systemd-sysupdate(8).
+-- own; the verbs of views are those of systemd-sysext(8) with `changes` and `explain`, those of updates are those of
+-- systemd-sysupdate(8).
 --
 --     init ARCH SCOPE [HIERS [HIERS]]
 --     import-fs RES ABS
 --     remove ABS1
---     sysext list | status | merge [--force] | unmerge | refresh [--force]
---     confext list | status | merge [--force] | unmerge | refresh [--force]
+--     sysext list | status | merge [--force] | unmerge | refresh [--force] | changes [--force] | explain [--force] ABS1
+--     confext list | status | merge [--force] | unmerge | refresh [--force] | changes [--force] | explain [--force] ABS1
 --     tree [ABS]
 --     cat ABS1
 --     compare TEXT TEXT
@@ -14,12 +15,17 @@
 --     migrate
 --     batch
 --     sample N
---     sysupdate [--component=NAME] list | check-new | features
+--     sysupdate [--component=NAME] list | check-new | update [VERSION] | vacuum | features
 --     sysupdate components
+--     mark [K]
+--     history [--changes G]
+--     rollback G
+--     forget G
 --
 -- ABS is a path after a `/`, ABS1 one other than the root; RES is a resource; TEXT is any word. SCOPE is `system` or
 -- `initrd`. HIERS is 1 to 16 names with a `/` before each and a `:` between each two. N is 1 to 500, in decimal digits
--- without a leading zero. NAME is the name of a component, and doesn't begin with `-`.
+-- without a leading zero, as K and G are: K is 1 to 16, G is 1 to 4,294,967,295. NAME is the name of a component, and doesn't
+-- begin with `-`. VERSION is a version.
 use Rattle.std.specs.Prelude.{◌≡◌, ◌≢◌, ℕ, ◌<◌, ◌≤◌, Bool, true, false, List, [], ◌∷◌, ◌++◌, length, map, codes, decimal}
 use Rattle.std.specs.Prelude.{Option, Some, None}
 use Rattle.std.specs.List.{AllByRecursion, join_with_byte}
@@ -32,15 +38,17 @@ use Rattle.ext_text.specs.Scope.{scope_name}
 use Rattle.ext_text.specs.declared.extension.Extension.TheVariants as extensions
 use Rattle.ext_text.specs.declared.scope.Scope.TheVariants.{Portable}
 use Rattle.ext_host.specs.Host.{default_hierarchies}
+use Rattle.ext_host.specs.Valid.{most_past}
 use Rattle.ext_transfer.specs.Component.{IsComponent}
+use Rattle.ext_vers.specs.Version.{IsVersion}
 use Rattle.ext_cmd.specs.Fault.{IsFault}
-use Rattle.ext_cmd.specs.Keyword.{update_verb_text}
 use Rattle.ext_cmd.specs.Resource.{IsResource}
 use Rattle.ext_cmd.specs.declared.command.Command.{Command}
 use Rattle.ext_cmd.specs.declared.command.Command.TheVariants.{Init, ImportFs, Remove, Sysext, Confext}
 use Rattle.ext_cmd.specs.declared.command.Command.TheVariants.{Tree, Cat, Compare, Check, Layer, Migrate, Batch, Sample}
-use Rattle.ext_cmd.specs.declared.command.Command.TheVariants.{Sysupdate, Components}
+use Rattle.ext_cmd.specs.declared.command.Command.TheVariants.{Sysupdate, Components, Mark, History, HistoryChanges, Rollback, Forget}
 use Rattle.ext_cmd.specs.declared.command.UpdateVerb.{UpdateVerb}
+use Rattle.ext_cmd.specs.declared.command.UpdateVerb.TheVariants as updates
 use Rattle.ext_cmd.specs.declared.command.ViewCommand.{ViewCommand}
 use Rattle.ext_cmd.specs.declared.command.ViewCommand.TheVariants as views
 use Rattle.ext_cmd.specs.declared.command.Chosen.{Chosen}
@@ -122,6 +130,8 @@ view_words views.Status = codes "status" ∷ []
 view_words (views.Merge force) = codes "merge" ∷ force_words force
 view_words views.Unmerge = codes "unmerge" ∷ []
 view_words (views.Refresh force) = codes "refresh" ∷ force_words force
+view_words (views.Changes force) = codes "changes" ∷ force_words force
+view_words (views.Explain force path) = codes "explain" ∷ force_words force ++ path_words path
 
 -- the words of a path that may be left out
 abbrev pub optional_words : Option (List (List ℕ)) → List (List ℕ)
@@ -137,9 +147,27 @@ abbrev pub component_words : Option (List ℕ) → List (List ℕ)
 component_words None = []
 component_words (Some name) = component_word name ∷ []
 
--- what is asked of updates, as one word
+-- the words of a version that may be left out
+abbrev pub version_words : Option (List ℕ) → List (List ℕ)
+version_words None = []
+version_words (Some version) = version ∷ []
+
+-- the word of how many marks stay, which may be left out
+abbrev pub keep_words : Option ℕ → List (List ℕ)
+keep_words None = []
+keep_words (Some keep) = decimal keep ∷ []
+
+-- the number of a mark's generation as one word
+abbrev pub mark_words : ℕ → List (List ℕ)
+mark_words mark = decimal mark ∷ []
+
+-- the words of what is asked of updates
 abbrev pub update_words : UpdateVerb → List (List ℕ)
-update_words verb = update_verb_text verb ∷ []
+update_words updates.List = codes "list" ∷ []
+update_words updates.CheckNew = codes "check-new" ∷ []
+update_words (updates.Update version) = codes "update" ∷ version_words version
+update_words updates.Vacuum = codes "vacuum" ∷ []
+update_words updates.Features = codes "features" ∷ []
 
 -- the words of a command
 abbrev pub command_words : Command → List (List ℕ)
@@ -158,6 +186,11 @@ command_words Batch = codes "batch" ∷ []
 command_words (Sample images) = codes "sample" ∷ decimal images ∷ []
 command_words (Sysupdate component verb) = codes "sysupdate" ∷ component_words component ++ update_words verb
 command_words Components = codes "sysupdate" ∷ codes "components" ∷ []
+command_words (Mark keep) = codes "mark" ∷ keep_words keep
+command_words History = codes "history" ∷ []
+command_words (HistoryChanges mark) = codes "history" ∷ codes "--changes" ∷ mark_words mark
+command_words (Rollback mark) = codes "rollback" ∷ mark_words mark
+command_words (Forget mark) = codes "forget" ∷ mark_words mark
 
 -- no path, or one of the host
 abbrev pub IsOptionalPath : Option (List (List ℕ)) → Type 0
@@ -169,21 +202,65 @@ abbrev pub IsOptionalComponent : Option (List ℕ) → Type 0
 IsOptionalComponent None = Unit {0}
 IsOptionalComponent (Some name) = IsPlainComponent name
 
+-- no version, or one
+abbrev pub IsOptionalVersion : Option (List ℕ) → Type 0
+IsOptionalVersion None = Unit {0}
+IsOptionalVersion (Some version) = IsVersion version
+
+-- what may be asked of updates: a version that is named is one
+abbrev pub IsAsked : UpdateVerb → Type 0
+IsAsked updates.List = Unit {0}
+IsAsked updates.CheckNew = Unit {0}
+IsAsked (updates.Update version) = IsOptionalVersion version
+IsAsked updates.Vacuum = Unit {0}
+IsAsked updates.Features = Unit {0}
+
+-- a number of at least 1, and so many at the most
+abbrev pub IsCountTo : ℕ → ℕ → Type 0
+IsCountTo most count = (1 ≤ count) × (count ≤ most)
+
 -- the most images that a sample has
 abbrev pub most_sample_images : ℕ
 most_sample_images = 500
 
 -- how many images a sample may have
 abbrev pub IsImages : ℕ → Type 0
-IsImages images = (1 ≤ images) × (images ≤ most_sample_images)
+IsImages = IsCountTo most_sample_images
+
+-- how many marks may be told to stay
+abbrev pub IsKeep : ℕ → Type 0
+IsKeep = IsCountTo most_past
+
+-- nothing is told of it, or such a number
+abbrev pub IsOptionalKeep : Option ℕ → Type 0
+IsOptionalKeep None = Unit {0}
+IsOptionalKeep (Some keep) = IsKeep keep
+
+-- the highest number of a generation
+abbrev pub most_generation : ℕ
+most_generation = 4294967295
+
+-- the number of a generation that may have a mark
+abbrev pub IsMarkNumber : ℕ → Type 0
+IsMarkNumber = IsCountTo most_generation
+
+-- what may be done with extensions: a path that is named isn't the root
+abbrev pub IsViewCommand : ViewCommand → Type 0
+IsViewCommand views.List = Unit {0}
+IsViewCommand views.Status = Unit {0}
+IsViewCommand (views.Merge force) = Unit {0}
+IsViewCommand views.Unmerge = Unit {0}
+IsViewCommand (views.Refresh force) = Unit {0}
+IsViewCommand (views.Changes force) = Unit {0}
+IsViewCommand (views.Explain force path) = IsBelowRoot path
 
 -- the arguments are what the grammar allows
 abbrev pub IsWellFormed : Command → Type 0
 IsWellFormed (Init arch scope hierarchies) = (scope ≢ Portable) × AreChosen hierarchies
 IsWellFormed (ImportFs resource path) = IsResource resource × IsPath path
 IsWellFormed (Remove path) = IsBelowRoot path
-IsWellFormed (Sysext view) = Unit {0}
-IsWellFormed (Confext view) = Unit {0}
+IsWellFormed (Sysext view) = IsViewCommand view
+IsWellFormed (Confext view) = IsViewCommand view
 IsWellFormed (Tree path) = IsOptionalPath path
 IsWellFormed (Cat path) = IsBelowRoot path
 IsWellFormed (Compare a b) = Unit {0}
@@ -192,8 +269,13 @@ IsWellFormed Layer = Unit {0}
 IsWellFormed Migrate = Unit {0}
 IsWellFormed Batch = Unit {0}
 IsWellFormed (Sample images) = IsImages images
-IsWellFormed (Sysupdate component verb) = IsOptionalComponent component
+IsWellFormed (Sysupdate component verb) = IsOptionalComponent component × IsAsked verb
 IsWellFormed Components = Unit {0}
+IsWellFormed (Mark keep) = IsOptionalKeep keep
+IsWellFormed History = Unit {0}
+IsWellFormed (HistoryChanges mark) = IsMarkNumber mark
+IsWellFormed (Rollback mark) = IsMarkNumber mark
+IsWellFormed (Forget mark) = IsMarkNumber mark
 
 -- the words are a command
 pub record IsCommand (words : List (List ℕ)) : Type 0 where

@@ -1,7 +1,10 @@
 // Answers.
+use ext_changes::Changes;
 use ext_find::BreakWhy;
+use ext_history::Marks;
 use ext_match::Verdict;
-use ext_text::{Digest, ListOf, Name, Names, Path, Text};
+use ext_origin::Origins;
+use ext_text::{Digest, ListOf, Name, Names, Path, SortedPaths, Text};
 use ext_vers::Version;
 use std::cmp::Ordering;
 
@@ -9,9 +12,10 @@ use std::cmp::Ordering;
 /// are read.
 #[derive(Debug, Drop)]
 pub enum Answer {
-    /// `done`: to `init`, `import-fs`, `remove` and `migrate`.
+    /// `done`: to `init`, `import-fs`, `remove`, `migrate`, `rollback` and `forget`.
     Done,
-    /// `unchanged`: to `migrate`, where the store's text has its newest form.
+    /// `unchanged`: to `migrate`, where the store's text has its newest form, and to `sysupdate update`, where the version that is
+    /// asked for is installed, or where none is asked for and none is newer than each that is installed.
     Unchanged,
     /// `merged K`, and a line for each of the K names: to `merge`, `refresh` and `status`, the lowest name first.
     Merged(Names),
@@ -45,10 +49,25 @@ pub enum Answer {
     Versions(VersionItems),
     /// The version, on a line: to `sysupdate check-new`.
     Version(Text),
+    /// `updated VERSION`: to `sysupdate update`, where it installed that version.
+    Updated(Text),
+    /// `removed K`, and a line for each of the K paths, the least first: to `sysupdate vacuum`.
+    Removed(SortedPaths),
     /// A line for each feature: to `sysupdate features`.
     Features(FeatureItems),
     /// `components K`, and a line for each of the K names: to `sysupdate components`.
     Components(Names),
+    /// `marked N`: to `mark`.
+    Marked {
+        /// The number of the generation that was marked.
+        generation: u32,
+    },
+    /// `N ENTRIES FILES` for each mark: to `history`, the youngest first.
+    History(Marks),
+    /// A line for each change: to `history --changes`, and to `changes` of a class.
+    Changes(Changes),
+    /// A line for each layer: to `explain`, the topmost first.
+    Explained(Origins),
 }
 
 /// An image or a mask that `list` finds.

@@ -1,5 +1,5 @@
 // The words of arguments. Each reader is told the place of the word, or of the first of the words, that it reads.
-ghost use Rattle.std.specs.Prelude.{◌≡◌, ◌∷◌, ◌++◌, [], ◌+◌, ◌<◌, ◌^◌, codes, decimal, MatchOption, IfOk};
+ghost use Rattle.std.specs.Prelude.{◌≡◌, ◌∷◌, ◌++◌, [], ◌+◌, ◌<◌, ◌^◌, codes, MatchOption, IfOk};
 ghost use Rattle.ext_text.specs.Absolute.{absolute};
 ghost use Rattle.ext_text.specs.Arch.{arch_name};
 ghost use Rattle.ext_text.specs.Path.{IsPath, path_text};
@@ -7,16 +7,12 @@ ghost use Rattle.ext_text.specs.Scope.{scope_name};
 ghost use Rattle.ext_cmd.specs.Grammar.{Any, HasNoMore, IsBelowRootWord, IsHostScope, IsPathWord, Then};
 ghost use Rattle.ext_cmd.specs.Reading.{ReadsPart, ReadsWord, no_words, usage_of};
 ghost use Rattle.ext_cmd.specs.Resource.{IsResource};
-ghost use Rattle.ext_cmd.specs.Words.{IsBelowRoot, IsImages, path_words};
+ghost use Rattle.ext_cmd.specs.Words.{IsBelowRoot, path_words};
 
 use crate::resource::Resource;
 use crate::words::CmdErr;
-use ext_lines::read_decimal;
 use ext_text::{Arch, OutOfMemory, Path, PathErr, Scope, Text};
 use std::alloc::Global;
-
-// The most images that a sample has.
-const MOST_IMAGES: u64 = 500;
 
 // The first word, and the words after it.
 pub(crate) fn next(words: &[Text]) -> Option<(&[u8], &[Text])>
@@ -59,17 +55,6 @@ pub(crate) fn read_scope(word: &[u8], place: u64) -> Result<Scope, CmdErr>
     }
 }
 
-// How many images a sample has.
-pub(crate) fn read_images(word: &[u8], place: u64) -> Result<u32, CmdErr>
-    ensures { ReadsWord decimal IsImages word.now place result }
-{
-    match read_decimal(word, MOST_IMAGES) {
-        None => Err(CmdErr::Usage { place }),
-        Some(0) => Err(CmdErr::Usage { place }),
-        Some(images) => Ok(images as u32),
-    }
-}
-
 // A path without a `/` before it.
 fn read_names(alloc: Global, text: &[u8], place: u64) -> Result<Path, CmdErr>
     ensures { ReadsWord path_text IsPath text.now place result }
@@ -103,7 +88,7 @@ pub(crate) fn read_path(alloc: Global, word: &[u8], place: u64) -> Result<Path, 
 }
 
 // A path of the host other than the root.
-fn read_below_root(alloc: Global, word: &[u8], place: u64) -> Result<Path, CmdErr>
+pub(crate) fn read_below_root(alloc: Global, word: &[u8], place: u64) -> Result<Path, CmdErr>
     ensures { ReadsWord absolute IsBelowRoot word.now place result }
 {
     let path = read_path(alloc, word, place)?;

@@ -1,7 +1,11 @@
 // Commands.
+ghost use Rattle.std.specs.Prelude.{◌≡◌};
+ghost use Rattle.ext_cmd.specs.Marks.{kept_marks};
+
 use crate::resource::Resource;
 use ext_text::{Arch, Names, Path, Scope, Text};
 use ext_transfer::Component;
+use ext_vers::Version;
 
 /// A command, as it was given: what its words leave out is left out here too.
 #[derive(Debug, Drop)]
@@ -56,7 +60,8 @@ pub enum Command {
         /// How many images it has: 1 to 500.
         images: u32,
     },
-    /// `sysupdate [--component=NAME] ..`: what is asked of the versions and the features of updates; systemd-sysupdate(8).
+    /// `sysupdate [--component=NAME] ..`: what is asked of the versions and the features of updates, or done with them;
+    /// systemd-sysupdate(8).
     Sysupdate {
         /// The component of which it is asked, whose name doesn't begin with `-`; none where it was left out, which means
         /// what belongs to no component.
@@ -66,10 +71,32 @@ pub enum Command {
     },
     /// `sysupdate components`: the components that the host has.
     Components,
+    /// `mark [K]`: what the host has now is marked under the number of its generation, and the K youngest marks stay.
+    Mark {
+        /// How many marks stay at the most: 1 to [`MOST_MARKS`]. None where it was left out, which means [`MOST_MARKS`].
+        keep: Option<u32>,
+    },
+    /// `history`: the marks, the youngest first.
+    History,
+    /// `history --changes N`: what has changed since a mark.
+    HistoryChanges {
+        /// The number of the mark's generation, which is at least 1.
+        mark: u32,
+    },
+    /// `rollback N`: the host goes back to a mark.
+    Rollback {
+        /// The number of the mark's generation, which is at least 1.
+        mark: u32,
+    },
+    /// `forget N`: a mark is dropped.
+    Forget {
+        /// The number of the mark's generation, which is at least 1.
+        mark: u32,
+    },
 }
 
-/// What is done with the extensions of a class; systemd-sysext(8).
-#[derive(Clone, Copy, Debug, PartialEq, Eq)]
+/// What is done with the extensions of a class; systemd-sysext(8). `changes` and `explain` are this project's own.
+#[derive(Debug, Drop)]
 pub enum ViewCommand {
     /// `list`: the images that are found, and whether they fit.
     List,
@@ -86,6 +113,18 @@ pub enum ViewCommand {
     Refresh {
         /// Each image counts as one that fits.
         force: bool,
+    },
+    /// `changes [--force]`: what a refresh would show that the base doesn't have, and the other way round.
+    Changes {
+        /// Each image counts as one that fits.
+        force: bool,
+    },
+    /// `explain [--force] ABS`: which layers of a refresh have an entry at the path, or hide what is below them there.
+    Explain {
+        /// Each image counts as one that fits.
+        force: bool,
+        /// The path; it isn't the root.
+        path: Path,
     },
 }
 
@@ -107,12 +146,32 @@ pub enum Chosen {
 }
 
 /// What is asked of updates; systemd-sysupdate(8).
-#[derive(Clone, Copy, Debug, PartialEq, Eq)]
+#[derive(Debug, Drop)]
 pub enum UpdateVerb {
     /// `list`: the versions that are installed or available.
     List,
     /// `check-new`: the version that an update would install.
     CheckNew,
+    /// `update [VERSION]`: a version is installed, and what goes so that there is room for it is removed.
+    Update {
+        /// The version, by the rule of [`is_version`](ext_vers::is_version); none where it was left out, which means the newest.
+        version: Option<Version>,
+    },
+    /// `vacuum`: what is more than each target keeps is removed.
+    Vacuum,
     /// `features`: the features, and which of them are on.
     Features,
+}
+
+/// The most marks that stay.
+pub const MOST_MARKS: u32 = 16;
+
+/// How many marks stay at the most where `mark` was given this.
+pub fn kept_marks(keep: Option<u32>) -> u32
+    ensures { result ≡ kept_marks keep }
+{
+    match keep {
+        None => MOST_MARKS,
+        Some(keep) => keep,
+    }
 }

@@ -2,8 +2,8 @@
 ghost use Rattle.std.specs.Prelude.{◌≡◌, []};
 ghost use Rattle.ext_lines.specs.Split.{Lacks};
 ghost use Rattle.ext_text.specs.Name.{IsName};
-ghost use Rattle.ext_cmd.specs.Grammar.{TakesChosen};
-ghost use Rattle.ext_cmd.specs.Reading.{MayFollow, PushesName, ReadsOthers, ReadsPart, ReadsWord, are_apart, itself, may_follow};
+ghost use Rattle.ext_cmd.specs.Grammar.{TakesChosen, itself};
+ghost use Rattle.ext_cmd.specs.Reading.{MayFollow, PushesName, ReadsOthers, ReadsPart, ReadsWord, are_apart, may_follow};
 ghost use Rattle.ext_cmd.specs.Words.{AreChosen, IsHierarchyList, IsPlainName, chosen_words, hierarchies_word, slashed};
 
 use crate::arguments::{next, no_more};

@@ -1,5 +1,5 @@
 // The words that say which command is meant.
-ghost use Rattle.ext_cmd.specs.Keyword.{ReadsKeyword, ReadsVerb};
+ghost use Rattle.ext_cmd.specs.Keyword.{ReadsKeyword, ReadsUpdateWord, ReadsVerb};
 
 /// The first word of a command.
 #[derive(Clone, Copy)]
@@ -32,6 +32,14 @@ pub(crate) enum Keyword {
     Sample,
     /// `sysupdate`.
     Sysupdate,
+    /// `mark`.
+    Mark,
+    /// `history`.
+    History,
+    /// `rollback`.
+    Rollback,
+    /// `forget`.
+    Forget,
 }
 
 impl Keyword {
@@ -54,6 +62,10 @@ impl Keyword {
             b"batch" => Some(Keyword::Batch),
             b"sample" => Some(Keyword::Sample),
             b"sysupdate" => Some(Keyword::Sysupdate),
+            b"mark" => Some(Keyword::Mark),
+            b"history" => Some(Keyword::History),
+            b"rollback" => Some(Keyword::Rollback),
+            b"forget" => Some(Keyword::Forget),
             _ => None,
         }
     }
@@ -72,6 +84,10 @@ pub(crate) enum Verb {
     Unmerge,
     /// `refresh`.
     Refresh,
+    /// `changes`.
+    Changes,
+    /// `explain`.
+    Explain,
 }
 
 impl Verb {
@@ -85,6 +101,39 @@ impl Verb {
             b"merge" => Some(Verb::Merge),
             b"unmerge" => Some(Verb::Unmerge),
             b"refresh" => Some(Verb::Refresh),
+            b"changes" => Some(Verb::Changes),
+            b"explain" => Some(Verb::Explain),
+            _ => None,
+        }
+    }
+}
+
+/// The word by which something is asked of updates.
+#[derive(Clone, Copy)]
+pub(crate) enum UpdateWord {
+    /// `list`.
+    List,
+    /// `check-new`.
+    CheckNew,
+    /// `update`.
+    Update,
+    /// `vacuum`.
+    Vacuum,
+    /// `features`.
+    Features,
+}
+
+impl UpdateWord {
+    /// What is asked by this text; `None` exactly where it asks nothing.
+    pub(crate) fn read(text: &[u8]) -> Option<UpdateWord>
+        ensures { ReadsUpdateWord text.now result }
+    {
+        match text {
+            b"list" => Some(UpdateWord::List),
+            b"check-new" => Some(UpdateWord::CheckNew),
+            b"update" => Some(UpdateWord::Update),
+            b"vacuum" => Some(UpdateWord::Vacuum),
+            b"features" => Some(UpdateWord::Features),
             _ => None,
         }
     }

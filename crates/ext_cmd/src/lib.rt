@@ -14,10 +14,14 @@ mod hierarchies;
 mod keyword;
 pub mod laws;
 mod line;
+mod mark_replies;
+mod marks;
+mod numbers;
 mod readers;
 mod refusal;
 mod replies;
 mod resource;
+mod update_replies;
 mod updates;
 mod views;
 mod words;
@@ -25,7 +29,7 @@ mod words;
 pub use answer::{
     Answer, FeatureItem, FeatureItems, Item, ItemKind, Items, Presence, VersionItem, VersionItems,
 };
-pub use command::{Chosen, Command, UpdateVerb, ViewCommand};
+pub use command::{Chosen, Command, MOST_MARKS, UpdateVerb, ViewCommand, kept_marks};
 pub use line::read_line;
 pub use refusal::{Refusal, number, refusal_text};
 pub use replies::answer_text;

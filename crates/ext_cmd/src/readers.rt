@@ -6,11 +6,12 @@ ghost use Rattle.ext_cmd.specs.Reading.{ReadsAfter, ReadsRest};
 ghost use Rattle.ext_cmd.specs.declared.keyword.Keyword.TheVariants as keywords;
 
 use crate::arguments::{
-    next, no_more, read_arch, read_images, read_last_below_root, read_last_path, read_path,
-    read_resource, read_scope,
+    next, no_more, read_arch, read_last_below_root, read_last_path, read_path, read_resource,
+    read_scope,
 };
 use crate::command::Command;
 use crate::hierarchies::read_chosen;
+use crate::numbers::read_images;
 use crate::views::read_view;
 use crate::words::CmdErr;
 use ext_text::{Arch, Text};
@@ -70,17 +71,17 @@ pub(crate) fn read_remove(alloc: Global, more: &[Text]) -> Result<Command, CmdEr
 }
 
 // `sysext ..`.
-pub(crate) fn read_sysext(more: &[Text]) -> Result<Command, CmdErr>
+pub(crate) fn read_sysext(alloc: Global, more: &[Text]) -> Result<Command, CmdErr>
     ensures { ReadsAfter keywords.Sysext more.now result }
 {
-    Ok(Command::Sysext(read_view(more)?))
+    Ok(Command::Sysext(read_view(alloc, more)?))
 }
 
 // `confext ..`.
-pub(crate) fn read_confext(more: &[Text]) -> Result<Command, CmdErr>
+pub(crate) fn read_confext(alloc: Global, more: &[Text]) -> Result<Command, CmdErr>
     ensures { ReadsAfter keywords.Confext more.now result }
 {
-    Ok(Command::Confext(read_view(more)?))
+    Ok(Command::Confext(read_view(alloc, more)?))
 }
 
 // `tree [ABS]`.

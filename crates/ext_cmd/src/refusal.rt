@@ -93,6 +93,23 @@ pub enum Refusal {
     },
     /// No available version is newer than each that is installed (number 26).
     NoneNewer,
+    /// The version that is asked for is neither installed nor available (number 27).
+    NoSuchVersion {
+        /// The version.
+        version: Text,
+    },
+    /// More versions of a target are protected than may stay (number 28).
+    NoRoom {
+        /// How many that the target has are protected, without the one that is to be installed.
+        count: u64,
+        /// The name of the transfer file.
+        file: Name,
+    },
+    /// Something that would be written or removed is in the way of something else (number 29).
+    Clash {
+        /// The least path of such a thing.
+        path: Path,
+    },
     /// A feature file is faulty (number 32).
     BadFeature {
         /// The line of its first fault, counted from 1.
@@ -104,6 +121,11 @@ pub enum Refusal {
     },
     /// There are transfers, and none is on (number 33).
     NoneOn,
+    /// There is no such mark (number 37).
+    NoMark {
+        /// The number of the generation that was asked for.
+        generation: u32,
+    },
 }
 
 /// The number of a refusal.
@@ -128,8 +150,12 @@ pub fn number(refusal: &Refusal) -> u32
         Refusal::NotInDepot { .. } => 24,
         Refusal::Mismatch { .. } => 25,
         Refusal::NoneNewer => 26,
+        Refusal::NoSuchVersion { .. } => 27,
+        Refusal::NoRoom { .. } => 28,
+        Refusal::Clash { .. } => 29,
         Refusal::BadFeature { .. } => 32,
         Refusal::NoneOn => 33,
+        Refusal::NoMark { .. } => 37,
     }
 }
 
@@ -179,12 +205,20 @@ fn append_details(line: &mut Vec<u8>, refusal: &Refusal) -> Result<(), OutOfMemo
             found,
         } => append_mismatch(line, path, listed, found),
         Refusal::NoneNewer => append_words(line, "none-newer"),
+        Refusal::NoSuchVersion { version } => append_text(
+            line,
+            "no-such-version ",
+            version.bytes(),
+        ),
+        Refusal::NoRoom { count, file } => append_no_room(line, *count, file),
+        Refusal::Clash { path } => append_at(line, "clash ", path),
         Refusal::BadFeature {
             line: at,
             why,
             file,
         } => append_fault(line, "bad-feature ", *at, feature_fault_word(*why), file),
         Refusal::NoneOn => append_words(line, "none-on"),
+        Refusal::NoMark { generation } => append_numbered(line, "no-mark ", u64::from(*generation)),
     }
 }
 
@@ -323,4 +357,21 @@ fn append_mismatch(
     append_stamp(line, listed)?;
     line.push(b' ')?;
     append_stamp(line, found)
+}
+
+// Words and a text.
+fn append_text(line: &mut Vec<u8>, words: &str, text: &[u8]) -> Result<(), OutOfMemory>
+    ensures { OnOk result (line.new.items ≡ line.old.items ++ (words.now ++ text.now)) }
+{
+    append_words(line, words)?;
+    line.extend_from_slice(text)?;
+    Ok(())
+}
+
+// How many versions are protected, and by which transfer file.
+fn append_no_room(line: &mut Vec<u8>, count: u64, file: &Name) -> Result<(), OutOfMemory>
+    ensures { OnOk result (line.new.items ≡ line.old.items ++ (codes "no-room " ++ decimal count ++ codes " " ++ file.now)) }
+{
+    append_numbered(line, "no-room ", count)?;
+    append_text(line, " ", file.bytes())
 }

@@ -3,17 +3,22 @@ ghost use Rattle.std.specs.Prelude.{◌≡◌, ◌++◌, IfOk, OnOk};
 ghost use Rattle.std.specs.List.{flat_map};
 ghost use Rattle.ext_text.specs.Absolute.{absolute};
 ghost use Rattle.ext_cmd.specs.Replies.{answer_text, item_line, kind_words, lined, names_text, order_word, verdict_word, why_word};
-ghost use Rattle.ext_cmd.specs.Replies.{feature_line, feature_word, flag_word, presence_word, version_line};
 ghost use Rattle.ext_cmd.specs.declared.answer.Answer.TheVariants.{Checked, Sample};
 ghost use Rattle.ext_cmd.specs.declared.answer.ItemKind.TheVariants.{BadRelease, Broken, Image};
 
-use crate::answer::{Answer, FeatureItem, Item, ItemKind, Presence, VersionItem};
+use crate::answer::{Answer, Item, ItemKind};
 use crate::appending::{
     append_digest, append_line, append_numbered, append_numbered_line, append_words,
 };
+use crate::mark_replies::{marked_text, marks_text};
+use crate::update_replies::{
+    features_text, removed_text, updated_text, version_text, versions_text,
+};
+use ext_changes::owned_text;
 use ext_find::BreakWhy;
 use ext_lines::append_decimal;
 use ext_match::Verdict;
+use ext_origin::origins_text;
 use ext_text::{Digest, Name, OutOfMemory, Path, Text};
 use std::alloc::Global;
 use std::cmp::Ordering;
@@ -43,8 +48,14 @@ pub fn answer_text(alloc: Global, answer: Answer) -> Result<Text, OutOfMemory>
         } => sample_text(alloc, entries, files, bytes, &digest),
         Answer::Versions(items) => versions_text(alloc, items.as_slice()),
         Answer::Version(version) => version_text(alloc, &version),
+        Answer::Updated(version) => updated_text(alloc, &version),
+        Answer::Removed(paths) => removed_text(alloc, paths.as_slice()),
         Answer::Features(items) => features_text(alloc, items.as_slice()),
         Answer::Components(names) => names_text(alloc, "components ", names.as_slice()),
+        Answer::Marked { generation } => marked_text(alloc, generation),
+        Answer::History(marks) => marks_text(alloc, marks.as_slice()),
+        Answer::Changes(changes) => owned_text(alloc, changes.as_slice()),
+        Answer::Explained(origins) => origins_text(alloc, origins.as_slice()),
     }
 }
 
@@ -212,87 +223,4 @@ fn sample_text(
     append_numbered_line(&mut text, "bytes ", bytes)?;
     append_digest(&mut text, "sha256 ", digest)?;
     Ok(Text::from_vec(text))
-}
-
-// A line for each version.
-fn versions_text(alloc: Global, items: &[VersionItem]) -> Result<Text, OutOfMemory>
-    ensures { IfOk result (λ text. text ≡ flat_map version_line items.now) }
-{
-    let mut text = Vec::new(alloc);
-    'items: for item in items {
-        append_version(&mut text, item)?;
-    }
-    Ok(Text::from_vec(text))
-}
-
-// The line of a version, with its flags.
-fn append_version(text: &mut Vec<u8>, item: &VersionItem) -> Result<(), OutOfMemory>
-    ensures { OnOk result (text.new.items ≡ text.old.items ++ version_line item.now) }
-{
-    text.extend_from_slice(item.version.bytes())?;
-    append_flag(text, item.available, "available")?;
-    append_words(text, presence_word(item.presence))?;
-    append_flag(text, item.protected, "protected")?;
-    append_flag(text, item.obsolete, "obsolete")?;
-    text.push(b'\n')?;
-    Ok(())
-}
-
-// A flag after a space, where it is set.
-fn append_flag(text: &mut Vec<u8>, set: bool, word: &str) -> Result<(), OutOfMemory>
-    ensures { OnOk result (text.new.items ≡ text.old.items ++ flag_word set word.now) }
-{
-    if set {
-        text.push(b' ')?;
-        append_words(text, word)?;
-    }
-    Ok(())
-}
-
-// Which of the targets have a version, after a space.
-fn presence_word(presence: Presence) -> &'static str
-    ensures { result.now ≡ presence_word presence }
-{
-    match presence {
-        Presence::Absent => "",
-        Presence::Partial => " partial",
-        Presence::Installed => " installed",
-    }
-}
-
-// A version, on a line.
-fn version_text(alloc: Global, version: &Text) -> Result<Text, OutOfMemory>
-    ensures { IfOk result (λ text. text ≡ lined version.now) }
-{
-    let mut text = Vec::new(alloc);
-    append_line(&mut text, version.bytes())?;
-    Ok(Text::from_vec(text))
-}
-
-// A line for each feature.
-fn features_text(alloc: Global, items: &[FeatureItem]) -> Result<Text, OutOfMemory>
-    ensures { IfOk result (λ text. text ≡ flat_map feature_line items.now) }
-{
-    let mut text = Vec::new(alloc);
-    'items: for item in items {
-        append_feature(&mut text, item)?;
-    }
-    Ok(Text::from_vec(text))
-}
-
-// The line of a feature.
-fn append_feature(text: &mut Vec<u8>, item: &FeatureItem) -> Result<(), OutOfMemory>
-    ensures { OnOk result (text.new.items ≡ text.old.items ++ feature_line item.now) }
-{
-    text.extend_from_slice(item.name.bytes())?;
-    append_words(text, feature_word(item.on))?;
-    text.push(b'\n')?;
-    Ok(())
-}
-
-// Whether a feature is on, after a space.
-fn feature_word(on: bool) -> &'static str
-    ensures { result.now ≡ feature_word on }
-{
-    if on { " on" } else { " off" }
 }

@@ -1,17 +1,20 @@
 // The words after `sysupdate`. The first of them has the place 2.
-ghost use Rattle.std.specs.Prelude.{◌≡◌, ◌≢◌, ◌∷◌, ◌<◌, ◌^◌, ◌↔◌, ℕ, List, MatchOption, IsTrue, codes};
+ghost use Rattle.std.specs.Prelude.{◌≡◌, ◌≢◌, ◌∷◌, ◌<◌, ◌≤◌, ◌^◌, ◌↔◌, ℕ, List, MatchOption, IsTrue, codes};
 ghost use Rattle.ext_transfer.specs.Component.{IsComponent};
-ghost use Rattle.ext_cmd.specs.Grammar.{Any, HasNoMore, IsUpdateVerb, Then};
-ghost use Rattle.ext_cmd.specs.Keyword.{update_verb_text};
-ghost use Rattle.ext_cmd.specs.Reading.{ReadsAfter, ReadsAsked, ReadsPart, ReadsWord, itself};
-ghost use Rattle.ext_cmd.specs.Words.{IsPlainComponent, component_word, update_words};
+ghost use Rattle.ext_vers.specs.Version.{IsVersion};
+ghost use Rattle.ext_cmd.specs.Grammar.{HasNoMore, IsVersionWord, Maybe, TakesAsked, itself};
+ghost use Rattle.ext_cmd.specs.Reading.{ReadsAfter, ReadsAfterUpdateWord, ReadsPart, ReadsWord, no_words};
+ghost use Rattle.ext_cmd.specs.Words.{IsAsked, IsOptionalVersion, IsPlainComponent, component_word, update_words, version_words};
 ghost use Rattle.ext_cmd.specs.declared.keyword.Keyword.TheVariants as keywords;
+ghost use Rattle.ext_cmd.specs.declared.keyword.UpdateWord.TheVariants as asks;
 
 use crate::arguments::{next, no_more};
 use crate::command::{Command, UpdateVerb};
+use crate::keyword::UpdateWord;
 use crate::words::CmdErr;
 use ext_text::{NameErr, Text};
 use ext_transfer::Component;
+use ext_vers::{Version, is_version};
 use std::alloc::Global;
 
 // `sysupdate ..`.
@@ -21,7 +24,7 @@ pub(crate) fn read_sysupdate(alloc: Global, more: &[Text]) -> Result<Command, Cm
     match next(more) {
         None => Err(CmdErr::Usage { place: 2 }),
         Some((word, more)) => match after_option(word) {
-            None => read_of_none(word, more),
+            None => read_of_none(alloc, word, more),
             Some(name) => read_of_component(alloc, name, more),
         },
     }
@@ -37,23 +40,15 @@ fn after_option(word: &[u8]) -> Option<&[u8]>
 }
 
 // What is asked where no component is chosen.
-fn read_of_none(word: &[u8], more: &[Text]) -> Result<Command, CmdErr>
+fn read_of_none(alloc: Global, word: &[u8], more: &[Text]) -> Result<Command, CmdErr>
     requires { (name : List ℕ) → word.now ≢ component_word name }
     ensures { ReadsAfter keywords.Sysupdate (word.now ∷ more.now) result }
 {
-    let command = read_asked(word)?;
-    no_more(more, 3)?;
-    Ok(command)
-}
-
-// The command of the one word that says what is asked.
-fn read_asked(word: &[u8]) -> Result<Command, CmdErr>
-    ensures { ReadsAsked word.now result }
-{
     if is_components(word) {
+        no_more(more, 3)?;
         return Ok(Command::Components);
     }
-    let verb = read_verb(word, 2)?;
+    let verb = read_verb(alloc, word, more, 2)?;
     Ok(Command::Sysupdate {
         component: None,
         verb,
@@ -72,7 +67,7 @@ fn read_of_component(alloc: Global, name: &[u8], more: &[Text]) -> Result<Comman
     ensures { ReadsAfter keywords.Sysupdate (component_word name.now ∷ more.now) result }
 {
     let component = read_component(alloc, name, 2)?;
-    let verb = read_last_verb(more, 3)?;
+    let verb = read_asked(alloc, more, 3)?;
     Ok(Command::Sysupdate {
         component: Some(component),
         verb,
@@ -100,29 +95,86 @@ fn read_any_component(alloc: Global, name: &[u8], place: u64) -> Result<Componen
     }
 }
 
-// What is asked, by the last word.
-fn read_last_verb(words: &[Text], first: u64) -> Result<UpdateVerb, CmdErr>
+// What is asked of updates.
+fn read_asked(alloc: Global, words: &[Text], first: u64) -> Result<UpdateVerb, CmdErr>
     requires { first < 2 ^ 32 }
-    ensures { ReadsPart update_words Any (Then IsUpdateVerb HasNoMore) words.now first result }
+    ensures { ReadsPart update_words IsAsked TakesAsked words.now first result }
 {
     match next(words) {
         None => Err(CmdErr::Usage { place: first }),
+        Some((word, more)) => read_verb(alloc, word, more, first),
+    }
+}
+
+// What is asked by a word and those after it.
+fn read_verb(alloc: Global, word: &[u8], more: &[Text], place: u64) -> Result<UpdateVerb, CmdErr>
+    requires { place < 2 ^ 32 }
+    ensures { ReadsPart update_words IsAsked TakesAsked (word.now ∷ more.now) place result }
+{
+    match UpdateWord::read(word) {
+        None => Err(CmdErr::Usage { place }),
+        Some(asked) => read_after(alloc, asked, more, place + 1),
+    }
+}
+
+// What is asked by this word, with those after it.
+fn read_after(
+    alloc: Global,
+    asked: UpdateWord,
+    more: &[Text],
+    first: u64,
+) -> Result<UpdateVerb, CmdErr>
+    requires { first ≤ 2 ^ 32 }
+    ensures { ReadsAfterUpdateWord asked more.now first result }
+{
+    match asked {
+        UpdateWord::List => alone(UpdateVerb::List, more, first),
+        UpdateWord::CheckNew => alone(UpdateVerb::CheckNew, more, first),
+        UpdateWord::Update => read_update(alloc, more, first),
+        UpdateWord::Vacuum => alone(UpdateVerb::Vacuum, more, first),
+        UpdateWord::Features => alone(UpdateVerb::Features, more, first),
+    }
+}
+
+// What is asked by a word that no other follows.
+fn alone(verb: UpdateVerb, more: &[Text], first: u64) -> Result<UpdateVerb, CmdErr>
+    ensures { ReadsPart no_words (λ v. v ≡ verb) HasNoMore more.now first result }
+{
+    no_more(more, first)?;
+    Ok(verb)
+}
+
+// `update [VERSION]`.
+fn read_update(alloc: Global, more: &[Text], first: u64) -> Result<UpdateVerb, CmdErr>
+    requires { first ≤ 2 ^ 32 }
+    ensures { ReadsAfterUpdateWord asks.Update more.now first result }
+{
+    let version = read_last_version(alloc, more, first)?;
+    Ok(UpdateVerb::Update { version })
+}
+
+// The version that may stand last.
+fn read_last_version(alloc: Global, words: &[Text], first: u64) -> Result<Option<Version>, CmdErr>
+    requires { first ≤ 2 ^ 32 }
+    ensures { ReadsPart version_words IsOptionalVersion (Maybe IsVersionWord HasNoMore) words.now first result }
+{
+    match next(words) {
+        None => Ok(None),
         Some((word, more)) => {
-            let verb = read_verb(word, first)?;
+            let version = read_version(alloc, word, first)?;
             no_more(more, first + 1)?;
-            Ok(verb)
+            Ok(Some(version))
         }
     }
 }
 
-// What is asked of updates.
-fn read_verb(word: &[u8], place: u64) -> Result<UpdateVerb, CmdErr>
-    ensures { ReadsWord update_verb_text Any word.now place result }
+// A version.
+fn read_version(alloc: Global, word: &[u8], place: u64) -> Result<Version, CmdErr>
+    ensures { ReadsWord itself IsVersion word.now place result }
 {
-    match word {
-        b"list" => Ok(UpdateVerb::List),
-        b"check-new" => Ok(UpdateVerb::CheckNew),
-        b"features" => Ok(UpdateVerb::Features),
-        _ => Err(CmdErr::Usage { place }),
+    if !is_version(word) {
+        return Err(CmdErr::Usage { place });
     }
+    let text = Text::from_bytes(alloc, word)?;
+    Ok(Version::new(text))
 }

@@ -1,32 +1,33 @@
 // The words after `sysext` and `confext`. The first of them has the place 2.
-ghost use Rattle.std.specs.Prelude.{◌≡◌, ◌↔◌, IsTrue, codes};
+ghost use Rattle.std.specs.Prelude.{◌≡◌, ◌≢◌, ◌∷◌, ◌↔◌, IsTrue, codes};
 ghost use Rattle.ext_cmd.specs.Grammar.{Any, Chooses, HasNoMore, IsForce, Maybe, TakesVerb};
 ghost use Rattle.ext_cmd.specs.Keyword.{verb_text};
 ghost use Rattle.ext_cmd.specs.Reading.{ReadsAfterVerb, ReadsPart, no_words};
-ghost use Rattle.ext_cmd.specs.Words.{force_words, view_words};
+ghost use Rattle.ext_cmd.specs.Words.{IsViewCommand, force_words, view_words};
 ghost use Rattle.ext_cmd.specs.declared.keyword.Verb.TheVariants as verbs;
 
-use crate::arguments::{next, no_more};
+use crate::arguments::{next, no_more, read_below_root, read_last_below_root};
 use crate::command::ViewCommand;
 use crate::keyword::Verb;
 use crate::words::CmdErr;
 use ext_text::Text;
+use std::alloc::Global;
 
 // What is done with the extensions of a class.
-pub(crate) fn read_view(words: &[Text]) -> Result<ViewCommand, CmdErr>
-    ensures { ReadsPart view_words Any (Chooses verb_text TakesVerb) words.now 2 result }
+pub(crate) fn read_view(alloc: Global, words: &[Text]) -> Result<ViewCommand, CmdErr>
+    ensures { ReadsPart view_words IsViewCommand (Chooses verb_text TakesVerb) words.now 2 result }
 {
     match next(words) {
         None => Err(CmdErr::Usage { place: 2 }),
         Some((word, more)) => match Verb::read(word) {
             None => Err(CmdErr::Usage { place: 2 }),
-            Some(verb) => read_after(verb, more),
+            Some(verb) => read_after(alloc, verb, more),
         },
     }
 }
 
 // A verb and the words after it.
-fn read_after(verb: Verb, more: &[Text]) -> Result<ViewCommand, CmdErr>
+fn read_after(alloc: Global, verb: Verb, more: &[Text]) -> Result<ViewCommand, CmdErr>
     ensures { ReadsAfterVerb verb more.now result }
 {
     match verb {
@@ -35,6 +36,8 @@ fn read_after(verb: Verb, more: &[Text]) -> Result<ViewCommand, CmdErr>
         Verb::Unmerge => alone(ViewCommand::Unmerge, more),
         Verb::Merge => read_merge(more),
         Verb::Refresh => read_refresh(more),
+        Verb::Changes => read_changes(more),
+        Verb::Explain => read_explain(alloc, more),
     }
 }
 
@@ -52,6 +55,48 @@ fn read_refresh(more: &[Text]) -> Result<ViewCommand, CmdErr>
 {
     let force = read_force(more)?;
     Ok(ViewCommand::Refresh { force })
+}
+
+// `changes [--force]`.
+fn read_changes(more: &[Text]) -> Result<ViewCommand, CmdErr>
+    ensures { ReadsAfterVerb verbs.Changes more.now result }
+{
+    let force = read_force(more)?;
+    Ok(ViewCommand::Changes { force })
+}
+
+// `explain [--force] ABS`.
+fn read_explain(alloc: Global, more: &[Text]) -> Result<ViewCommand, CmdErr>
+    ensures { ReadsAfterVerb verbs.Explain more.now result }
+{
+    match next(more) {
+        None => Err(CmdErr::Usage { place: 3 }),
+        Some((word, rest)) => {
+            if is_force(word) {
+                read_forced(alloc, rest)
+            } else {
+                read_unforced(alloc, word, rest)
+            }
+        }
+    }
+}
+
+// `ABS`, after `explain --force`.
+fn read_forced(alloc: Global, rest: &[Text]) -> Result<ViewCommand, CmdErr>
+    ensures { ReadsAfterVerb verbs.Explain (codes "--force" ∷ rest.now) result }
+{
+    let path = read_last_below_root(alloc, rest, 4)?;
+    Ok(ViewCommand::Explain { force: true, path })
+}
+
+// A word that isn't `--force`, and those after it, after `explain`.
+fn read_unforced(alloc: Global, word: &[u8], rest: &[Text]) -> Result<ViewCommand, CmdErr>
+    requires { word.now ≢ codes "--force" }
+    ensures { ReadsAfterVerb verbs.Explain (word.now ∷ rest.now) result }
+{
+    let path = read_below_root(alloc, word, 3)?;
+    no_more(rest, 4)?;
+    Ok(ViewCommand::Explain { force: false, path })
 }
 
 // A command whose verb no word follows.
@@ -78,7 +123,7 @@ fn read_force(words: &[Text]) -> Result<bool, CmdErr>
     }
 }
 
-// The option of `merge` and `refresh`.
+// The option of `merge`, `refresh`, `changes` and `explain`.
 fn is_force(word: &[u8]) -> bool
     ensures { IsTrue result ↔ (word.now ≡ codes "--force") }
 {

@@ -5,6 +5,7 @@ ghost use Rattle.ext_cmd.specs.Reading.{ReadsAfter, ReadsWords};
 use crate::arguments::next;
 use crate::command::Command;
 use crate::keyword::Keyword;
+use crate::marks::{read_forget, read_history, read_mark, read_rollback};
 use crate::readers::{
     read_batch, read_cat, read_check, read_compare, read_confext, read_import, read_init,
     read_layer, read_migrate, read_remove, read_sample, read_sysext, read_tree,
@@ -72,8 +73,8 @@ pub(crate) fn read_after(alloc: Global, keyword: Keyword, more: &[Text]) -> Resu
         Keyword::Init => read_init(alloc, more),
         Keyword::ImportFs => read_import(alloc, more),
         Keyword::Remove => read_remove(alloc, more),
-        Keyword::Sysext => read_sysext(more),
-        Keyword::Confext => read_confext(more),
+        Keyword::Sysext => read_sysext(alloc, more),
+        Keyword::Confext => read_confext(alloc, more),
         Keyword::Tree => read_tree(alloc, more),
         Keyword::Cat => read_cat(alloc, more),
         Keyword::Compare => read_compare(alloc, more),
@@ -83,5 +84,9 @@ pub(crate) fn read_after(alloc: Global, keyword: Keyword, more: &[Text]) -> Resu
         Keyword::Batch => read_batch(more),
         Keyword::Sample => read_sample(more),
         Keyword::Sysupdate => read_sysupdate(alloc, more),
+        Keyword::Mark => read_mark(more),
+        Keyword::History => read_history(more),
+        Keyword::Rollback => read_rollback(more),
+        Keyword::Forget => read_forget(more),
     }
 }

@@ -1,5 +1,5 @@
-use Rattle.std.proofs.Common.{ℕ, List, [], ◌∷◌, ap, codes}
+use Rattle.ext_cmd.proofs.UpdateLemmas.{no_asked}
 use Rattle.ext_cmd.proofs.updates.read_asked.Goals as goal
 
-pub returns-then-is_components : goal.returns-then-is_components
-returns-then-is_components c = (tt, ap (λ (w : List ℕ). codes "sysupdate" ∷ w ∷ []) (c.is_components.ensures.0 c.if-is_components.true))
+pub returns-in-None : goal.returns-in-None
+returns-in-None c = no_asked c.args.words.now c.args.first c.in-None.ensures

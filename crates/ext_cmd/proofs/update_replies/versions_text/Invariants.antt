@@ -1,7 +1,7 @@
 use Rattle.std.proofs.Common.{◌≡◌, take}
 use Rattle.std.specs.List.{flat_map}
 use Rattle.ext_cmd.specs.Replies.{version_line}
-use Rattle.ext_cmd.proofs.replies.versions_text.Given as goal
+use Rattle.ext_cmd.proofs.update_replies.versions_text.Given as goal
 
 abbrev pub invariant-items : goal.invariant-items
 invariant-items l = l.text.items ≡ flat_map version_line (take l.item-index l.items)
