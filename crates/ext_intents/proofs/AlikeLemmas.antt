@@ -21,14 +21,19 @@ use Rattle.ext_view.specs.Surveying.{HasHostRelease, IsHostRelease, IsItemOf, Is
 use Rattle.ext_view.specs.declared.outcome.Merge.{Merge}
 use Rattle.ext_view.specs.declared.surveyed.SurveyItem.{SurveyItem}
 use Rattle.ext_view.specs.declared.surveyed.SurveyKind.{SurveyKind}
+use Rattle.ext_changes.specs.Changes as changes
+use Rattle.ext_origin.specs.declared.origin.Origin.{Origin}
+use Rattle.ext_explain.specs.Explaining.{AreOrigins}
+use Rattle.ext_explain.specs.ViewChanges.{AreViewChanges}
 use Rattle.ext_cmd.specs.declared.command.Command.{Command}
 use Rattle.ext_cmd.specs.declared.command.Command.TheVariants.{Init, ImportFs, Remove, Sysext, Confext, Tree, Cat, Compare, Check, Layer, Migrate, Batch, Sample, Sysupdate, Components}
+use Rattle.ext_cmd.specs.declared.command.Command.TheVariants.{Mark, History, HistoryChanges, Rollback, Forget}
 use Rattle.ext_cmd.specs.declared.command.ViewCommand.{ViewCommand}
 use Rattle.ext_cmd.specs.declared.command.ViewCommand.TheVariants as views
 use Rattle.ext_cmd.specs.declared.refusal.Refusal.{Refusal}
 use Rattle.ext_cmd.specs.declared.refusal.Refusal.TheVariants as refusals
 use Rattle.ext_intents.specs.Step.{TellAlike, WantsOf}
-use Rattle.ext_intents.specs.Views.{IsNotRefreshed, IsNotSurveyed, ListWantsOf, MergeWants, RefreshWants, RefreshWantsOf, ViewWants}
+use Rattle.ext_intents.specs.Views.{ChangesWants, ExplainWants, IsNotRefreshed, IsNotSurveyed, ListWantsOf, MergeWants, RefreshWants, RefreshWantsOf, ViewWants}
 use Rattle.ext_intents.specs.declared.intent.Intent.{Intent}
 use Rattle.ext_intents.proofs.UpdateAlikeLemmas.{update_alike}
 use Rattle.ext_intents.proofs.ViewFilesLemmas.{host_file, image_file}
@@ -120,8 +125,12 @@ module _ (host : Host) (told other : HeldFile → Told) (alike : TellAlike host 
   not_surveyed_alike base (refusals.BadTransfer line why file) is not = absurd not
   not_surveyed_alike base (refusals.BadManifest line path) is not = absurd not
   not_surveyed_alike base refusals.NoneNewer is not = absurd not
+  not_surveyed_alike base (refusals.NoSuchVersion version) is not = absurd not
+  not_surveyed_alike base (refusals.NoRoom count file) is not = absurd not
+  not_surveyed_alike base (refusals.Clash path) is not = absurd not
   not_surveyed_alike base (refusals.BadFeature line why file) is not = absurd not
   not_surveyed_alike base refusals.NoneOn is not = absurd not
+  not_surveyed_alike base (refusals.NoMark mark) is not = absurd not
 
   not_refreshed_alike : (base : Entries HeldFile) (class : Extension) (force : Bool) (refusal : Refusal) → IsBaseTree host base → IsNotRefreshed host told base class force refusal → IsNotRefreshed host other base class force refusal
   not_refreshed_alike base class force (refusals.Limit which) is not = large_alike base class force which is not
@@ -141,8 +150,12 @@ module _ (host : Host) (told other : HeldFile → Told) (alike : TellAlike host 
   not_refreshed_alike base class force (refusals.BadTransfer line why file) is not = absurd not
   not_refreshed_alike base class force (refusals.BadManifest line path) is not = absurd not
   not_refreshed_alike base class force refusals.NoneNewer is not = absurd not
+  not_refreshed_alike base class force (refusals.NoSuchVersion version) is not = absurd not
+  not_refreshed_alike base class force (refusals.NoRoom count file) is not = absurd not
+  not_refreshed_alike base class force (refusals.Clash path) is not = absurd not
   not_refreshed_alike base class force (refusals.BadFeature line why file) is not = absurd not
   not_refreshed_alike base class force refusals.NoneOn is not = absurd not
+  not_refreshed_alike base class force (refusals.NoMark mark) is not = absurd not
 
   list_alike : (base : Entries HeldFile) (class : Extension) (intent : Intent) → IsBaseTree host base → ListWantsOf host told base class intent → ListWantsOf host other base class intent
   list_alike base class intent is (inl (items, of, wants)) = inl (items, survey_alike base class false items is of, wants)
@@ -159,27 +172,49 @@ module _ (host : Host) (told other : HeldFile → Told) (alike : TellAlike host 
   merge_alike class force intent (inl merged) = inl merged
   merge_alike class force intent (inr (free, wants)) = inr (free, refresh_alike class force intent wants)
 
+  view_changes_alike : (base : Entries HeldFile) (class : Extension) (force : Bool) (list : changes.Changes) → IsBaseTree host base → AreViewChanges told host base class force list → AreViewChanges other host base class force list
+  view_changes_alike base class force list is of = record { merge = of.merge; refreshed = refreshed_alike base class force of.merge is of.refreshed; planned = of.planned; are_changes = of.are_changes }
+
+  changes_alike : (class : Extension) (force : Bool) (intent : Intent) → ChangesWants host told class force intent → ChangesWants host other class force intent
+  changes_alike class force intent (base, is, inl (list, of, wants)) = (base, is, inl (list, view_changes_alike base class force list is of, wants))
+  changes_alike class force intent (base, is, inr (refusal, not, wants)) = (base, is, inr (refusal, not_refreshed_alike base class force refusal is not, wants))
+
+  origins_alike : (base : Entries HeldFile) (class : Extension) (force : Bool) (path : List (List ℕ)) (origins : List Origin) → IsBaseTree host base → AreOrigins told host base class force path origins → AreOrigins other host base class force path origins
+  origins_alike base class force path origins is of = record { items = of.items; surveyed = survey_alike base class force of.items is of.surveyed; images = of.images; are_images = of.are_images; lines = of.lines }
+
+  explain_alike : (class : Extension) (force : Bool) (path : List (List ℕ)) (intent : Intent) → ExplainWants host told class force path intent → ExplainWants host other class force path intent
+  explain_alike class force path intent (base, is, inl (origins, of, some, wants)) = (base, is, inl (origins, origins_alike base class force path origins is of, some, wants))
+  explain_alike class force path intent (base, is, inr (inl (none, wants))) = (base, is, inr (inl (origins_alike base class force path [] is none, wants)))
+  explain_alike class force path intent (base, is, inr (inr (refusal, not, wants))) = (base, is, inr (inr (refusal, not_surveyed_alike base refusal is not, wants)))
+
   view_alike : (class : Extension) (command : ViewCommand) (intent : Intent) → ViewWants host told class command intent → ViewWants host other class command intent
   view_alike class views.List intent (base, is, wants) = (base, is, list_alike base class intent is wants)
   view_alike class views.Status intent wants = wants
   view_alike class (views.Merge force) intent wants = merge_alike class force intent wants
   view_alike class views.Unmerge intent wants = wants
   view_alike class (views.Refresh force) intent wants = refresh_alike class force intent wants
+  view_alike class (views.Changes force) intent wants = changes_alike class force intent wants
+  view_alike class (views.Explain force path) intent wants = explain_alike class force path intent wants
 
   -- the same is wanted of the host where the same is told of its files
-  pub wants_alike : (newest : Bool) (files : Option Files) (command : Command) (intent : Intent) → WantsOf (record { host = host; newest = newest; told = told }) files command intent → WantsOf (record { host = host; newest = newest; told = other }) files command intent
-  wants_alike newest files (Init arch scope hierarchies) intent wants = wants
-  wants_alike newest files (ImportFs resource path) intent wants = wants
-  wants_alike newest files (Remove path) intent wants = wants
-  wants_alike newest files (Sysext view) intent wants = view_alike extensions.Sysext view intent wants
-  wants_alike newest files (Confext view) intent wants = view_alike extensions.Confext view intent wants
-  wants_alike newest files (Tree path) intent wants = wants
-  wants_alike newest files (Cat path) intent wants = wants
-  wants_alike newest files (Compare a b) intent wants = wants
-  wants_alike newest files Check intent wants = wants
-  wants_alike newest files Layer intent wants = wants
-  wants_alike newest files Batch intent wants = wants
-  wants_alike newest files (Sample images) intent wants = wants
-  wants_alike newest files (Sysupdate component verb) intent wants = update_alike host told other alike files component verb intent wants
-  wants_alike newest files Components intent wants = wants
-  wants_alike newest files Migrate intent wants = wants
+  pub wants_alike : (number : ℕ) (newest : Bool) (files : Option Files) (command : Command) (intent : Intent) → WantsOf (record { host = host; number = number; newest = newest; told = told }) files command intent → WantsOf (record { host = host; number = number; newest = newest; told = other }) files command intent
+  wants_alike number newest files (Init arch scope hierarchies) intent wants = wants
+  wants_alike number newest files (ImportFs resource path) intent wants = wants
+  wants_alike number newest files (Remove path) intent wants = wants
+  wants_alike number newest files (Sysext view) intent wants = view_alike extensions.Sysext view intent wants
+  wants_alike number newest files (Confext view) intent wants = view_alike extensions.Confext view intent wants
+  wants_alike number newest files (Tree path) intent wants = wants
+  wants_alike number newest files (Cat path) intent wants = wants
+  wants_alike number newest files (Compare a b) intent wants = wants
+  wants_alike number newest files Check intent wants = wants
+  wants_alike number newest files Layer intent wants = wants
+  wants_alike number newest files Batch intent wants = wants
+  wants_alike number newest files (Sample images) intent wants = wants
+  wants_alike number newest files (Sysupdate component verb) intent wants = update_alike host told other alike files component verb intent wants
+  wants_alike number newest files Components intent wants = wants
+  wants_alike number newest files Migrate intent wants = wants
+  wants_alike number newest files (Mark keep) intent wants = wants
+  wants_alike number newest files History intent wants = wants
+  wants_alike number newest files (HistoryChanges mark) intent wants = wants
+  wants_alike number newest files (Rollback mark) intent wants = wants
+  wants_alike number newest files (Forget mark) intent wants = wants

@@ -17,7 +17,7 @@ use Rattle.ext_host.specs.declared.host.Host.{Host}
 use Rattle.ext_host.proofs.ForCallers as host_lemmas
 use Rattle.ext_cmd.specs.declared.refusal.Refusal.TheVariants.{Limit}
 use Rattle.ext_intents.specs.Change.{changed_at}
-use Rattle.ext_intents.specs.Import.{FittingWants, PartWants, within}
+use Rattle.ext_intents.specs.Import.{FittingImportWants, PartWants, within}
 use Rattle.ext_intents.specs.declared.intent.Intent.{Intent}
 use Rattle.ext_intents.specs.declared.intent.Intent.TheVariants.{Refuses}
 
@@ -41,13 +41,13 @@ too_many host path es part root intent same fits grafts over is =
     inl (fits, (root, subst (λ t. IsGraft t path part root) same grafts, is ∙ ap (within (changed_at host path root)) (host_lemmas.too_many root host.lower more)))
 
 fitting : (host : Host) (resource path : List (List ℕ)) (es : Entries Stamp) (part : Entries HeldFile) (intent : Intent) → part ≡ from_depot resource es
-    → AllByRecursion (bodies.FileFits resource) es → PartWants host path part intent → FittingWants host resource path es intent
+    → AllByRecursion (bodies.FileFits resource) es → PartWants host path part intent → FittingImportWants host resource path es intent
 fitting host resource path es part intent is all (inl (fits, (root, grafts, sizes))) =
     inl (record { host = subst (graft.Fits path) is fits; depot = all }, (root, subst (λ u. IsGraft host.root path u root) is grafts, sizes))
 fitting host resource path es part intent is all (inr (unfit, limit)) = inr (λ fit. unfit (subst (graft.Fits path) (sym is) fit.host), limit)
 
 -- what is wanted of a tree whose files' paths fit in the depot
 pub fitting_wants : {E : Type 0} (host : Host) (resource path : List (List ℕ)) (es : Entries Stamp) (part : Entries HeldFile) (result : Result Intent E) → part ≡ from_depot resource es
-    → AllByRecursion (bodies.FileFits resource) es → IfOk result (PartWants host path part) → IfOk result (FittingWants host resource path es)
+    → AllByRecursion (bodies.FileFits resource) es → IfOk result (PartWants host path part) → IfOk result (FittingImportWants host resource path es)
 fitting_wants host resource path es part (Ok intent) is all wants = fitting host resource path es part intent is all wants
 fitting_wants host resource path es part (Err e) is all wants = tt

@@ -8,7 +8,7 @@ use Rattle.std.proofs.lemmas.List.Folds.{list_any-append}
 use Rattle.ext_versions.proofs.ForCallers.{has_contained}
 use Rattle.ext_intents.specs.Updates.{AreKnown, versions_of_items}
 use Rattle.ext_intents.specs.VersionItems.{IsKnown}
-use Rattle.ext_intents.specs.declared.updates.Updates.{Updates}
+use Rattle.ext_update.specs.declared.updates.Updates.{Updates}
 
 -- a version that stands among those that are known
 pub known_one : (updates : Updates) (versions before after : List (List ℕ)) (v : List ℕ) → AreKnown updates versions

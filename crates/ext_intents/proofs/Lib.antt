@@ -10,7 +10,9 @@ pub mod KnownLemmas
 pub mod UpdateAlikeLemmas
 pub mod AlikeLemmas
 pub mod ViewsLemmas
+pub mod UpdatingLemmas
 pub mod SysupdateLemmas
+pub mod MarksLemmas
 pub mod WantsLemmas
 pub mod OneInitLemmas
 pub mod OneImportLemmas

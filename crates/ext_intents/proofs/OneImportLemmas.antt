@@ -26,7 +26,7 @@ use Rattle.ext_view.proofs.ForCallers.{one_tree}
 use Rattle.ext_cmd.specs.Resource.{tree_path}
 use Rattle.ext_cmd.specs.declared.refusal.Refusal.TheVariants as refusals
 use Rattle.ext_intents.specs.Change.{changed_at}
-use Rattle.ext_intents.specs.Import.{FittingWants, ImportWants, IsUnder, OpenWants, TextWants, TreeWants, sized}
+use Rattle.ext_intents.specs.Import.{FittingImportWants, ImportWants, IsUnder, OpenImportWants, TextWants, TreeWants, sized}
 use Rattle.ext_intents.specs.declared.intent.Intent.{Intent}
 use Rattle.ext_intents.specs.declared.intent.Intent.TheVariants.{Refuses}
 use Rattle.ext_intents.proofs.OneInitLemmas.{tied}
@@ -103,7 +103,7 @@ pub record TextLaws : Type 0 where
   pub one_first : OneFirstFault IsOne
 
 module _ (laws : TextLaws) (host : Host) (root_tree : IsTree host.root) where
-  fitting_once : (resource path : List (List ℕ)) (es : Entries Stamp) (a b : Intent) → FittingWants host resource path es a → FittingWants host resource path es b → a ≡ b
+  fitting_once : (resource path : List (List ℕ)) (es : Entries Stamp) (a b : Intent) → FittingImportWants host resource path es a → FittingImportWants host resource path es b → a ≡ b
   fitting_once resource path es a b (inl (fits, (x, graft, is))) (inl (also, (y, other, same))) =
       let one : x ≡ y = one_tree x y graft.tree other.tree (λ q. graft.each q ∙ sym (other.each q)) in
       is ∙ ap (λ root. sized (changed_at host path root)) one ∙ sym same
@@ -111,7 +111,7 @@ module _ (laws : TextLaws) (host : Host) (root_tree : IsTree host.root) where
   fitting_once resource path es a b (inr x) (inl y) = absurd (x.0 y.0)
   fitting_once resource path es a b (inr x) (inr y) = x.1 ∙ sym y.1
 
-  open_once : (resource path : List (List ℕ)) (es : Entries Stamp) (a b : Intent) → OpenWants host resource path es a → OpenWants host resource path es b → a ≡ b
+  open_once : (resource path : List (List ℕ)) (es : Entries Stamp) (a b : Intent) → OpenImportWants host resource path es a → OpenImportWants host resource path es b → a ≡ b
   open_once resource path es a b (inl x) (inl y) = fitting_once resource path es a b x.1 y.1
   open_once resource path es a b (inl x) (inr (at, under, is)) = absurd (false≢true (sym (x.0 at under.proper_prefix) ∙ under.stands))
   open_once resource path es a b (inr (at, under, is)) (inl y) = absurd (false≢true (sym (y.0 at under.proper_prefix) ∙ under.stands))

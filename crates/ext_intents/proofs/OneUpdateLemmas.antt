@@ -22,6 +22,7 @@ use Rattle.ext_installed.specs.Laws.{OneInstalled}
 use Rattle.ext_installed.specs.declared.instance.Instances.{Instances}
 use Rattle.ext_choice.specs.Laws.{OneChoice}
 use Rattle.ext_choice.specs.declared.choosing.Choice.TheVariants.{Install, NoneNewer}
+use Rattle.ext_update.specs.Laws.{OneUpdate, OneVacuumPlan}
 use Rattle.ext_view.specs.Laws.{TellsAll}
 use Rattle.ext_view.proofs.ForCallers.{one_base, one_given}
 use Rattle.ext_cmd.specs.declared.answer.Answer.TheVariants as answers
@@ -29,12 +30,13 @@ use Rattle.ext_cmd.specs.declared.answer.VersionItem.{VersionItem}
 use Rattle.ext_cmd.specs.declared.command.UpdateVerb.{UpdateVerb}
 use Rattle.ext_cmd.specs.declared.command.UpdateVerb.TheVariants as verbs
 use Rattle.ext_cmd.specs.declared.refusal.Refusal.{Refusal}
-use Rattle.ext_intents.specs.Sysupdate.{ChecksNew, ComponentsWants, FeaturesWants, Lists, UpdateWants, UpdateWantsOf, WantsByUpdates, feature_item, not_featured}
+use Rattle.ext_intents.specs.Sysupdate.{ChecksNew, ComponentsWants, FeaturesWants, Lists, VerbWants, VerbWantsOf, WantsByUpdates, feature_item, not_featured}
 use Rattle.ext_intents.specs.Updates.{AreNoUpdates, AreOn, AreUpdates, not_active, not_offered, version_item}
+use Rattle.ext_intents.specs.Updating.{ByUpdate, ByVacuum, update_intent, vacuum_intent}
 use Rattle.ext_intents.specs.declared.intent.Intent.{Intent}
 use Rattle.ext_intents.specs.declared.intent.Intent.TheVariants.{Answers, Refuses}
 use Rattle.ext_intents.specs.declared.updates.Looked.TheVariants.{Refused}
-use Rattle.ext_intents.specs.declared.updates.Updates.{Updates}
+use Rattle.ext_update.specs.declared.updates.Updates.{Updates}
 
 -- the laws of updates that it rests on
 pub record UpdateLaws : Type 0 where
@@ -46,6 +48,8 @@ pub record UpdateLaws : Type 0 where
   pub one_versions : OneOfVersions
   pub one_choice : OneChoice
   pub one_components : OneComponentList HeldFile
+  pub one_update : OneUpdate
+  pub one_vacuum : OneVacuumPlan
 
 -- a result of these types
 abbrev ok_of : (X E : Type 0) → X → Result X E
@@ -179,15 +183,25 @@ module _ (laws : UpdateLaws) (told : HeldFile → Told) (tells : TellsAll told) 
       absurd (no_install other (laws.one_choice updates.available updates.installed.versions None (Install other) NoneNewer are.available.order also none))
   checks_once updates a b are (inr (none, is)) (inr (other, same)) = is ∙ sym same
 
-  verb_once : (verb : UpdateVerb) (a b : Intent) → UpdateWantsOf told (Some files) host base component verb a → UpdateWantsOf told (Some files) host base component verb b → a ≡ b
+  updated_once : (wanted : Option (List ℕ)) (updates : Updates) (a b : Intent) → AreUpdates told (Some files) host base component updates → ByUpdate (Some files) host wanted updates a → ByUpdate (Some files) host wanted updates b → a ≡ b
+  updated_once wanted updates a b are (x, wants, planned, is) (y, also, other, same) =
+      is ∙ ap (update_intent wanted) (laws.one_update files host updates wanted x y are.available.order wants also) ∙ sym same
+
+  vacuumed_once : (updates : Updates) (a b : Intent) → AreUpdates told (Some files) host base component updates → ByVacuum host updates a → ByVacuum host updates b → a ≡ b
+  vacuumed_once updates a b are (x, wants, planned, is) (y, also, other, same) =
+      is ∙ ap vacuum_intent (laws.one_vacuum host updates x y wants also) ∙ sym same
+
+  verb_once : (verb : UpdateVerb) (a b : Intent) → VerbWantsOf told (Some files) host base component verb a → VerbWantsOf told (Some files) host base component verb b → a ≡ b
   verb_once verbs.List a b x y = by_once Lists a b lists_once x y
   verb_once verbs.CheckNew a b x y = by_once ChecksNew a b checks_once x y
+  verb_once (verbs.Update wanted) a b x y = by_once (ByUpdate (Some files) host wanted) a b (updated_once wanted) x y
+  verb_once verbs.Vacuum a b x y = by_once (ByVacuum host) a b vacuumed_once x y
   verb_once verbs.Features a b x y = features_once a b x y
 
-pub update_once : (laws : UpdateLaws) (host : Host) (told : HeldFile → Told) (tells : TellsAll told) (files : Files) (component : Option (List ℕ)) (verb : UpdateVerb) (a b : Intent) → UpdateWants host told (Some files) component verb a → UpdateWants host told (Some files) component verb b → a ≡ b
+pub update_once : (laws : UpdateLaws) (host : Host) (told : HeldFile → Told) (tells : TellsAll told) (files : Files) (component : Option (List ℕ)) (verb : UpdateVerb) (a b : Intent) → VerbWants host told (Some files) component verb a → VerbWants host told (Some files) component verb b → a ≡ b
 update_once laws host told tells files component verb a b (base, is, wants) (other, also, others) =
     let one : base ≡ other = one_base host base other is also in
-    verb_once laws told tells files host other component verb a b (subst (λ es. UpdateWantsOf told (Some files) host es component verb a) one wants) others
+    verb_once laws told tells files host other component verb a b (subst (λ es. VerbWantsOf told (Some files) host es component verb a) one wants) others
 
 pub components_once : (laws : UpdateLaws) (host : Host) (a b : Intent) → ComponentsWants host a → ComponentsWants host b → a ≡ b
 components_once laws host a b (base, is, (names, are, wants)) (other, also, (others, same, so)) =

@@ -23,20 +23,25 @@ use Rattle.ext_view.specs.View.{AreImagesOf, AreViewTrees, chosen}
 use Rattle.ext_view.specs.declared.outcome.Merge.{Merge}
 use Rattle.ext_view.specs.declared.surveyed.SurveyItem.{SurveyItem}
 use Rattle.ext_view.proofs.ForCallers.{leads_to_file, one_base, one_host_bytes, one_pair_of_trees, one_refreshed, one_unmerged}
+use Rattle.ext_origin.specs.declared.origin.Origin.{Origin}
+use Rattle.ext_explain.specs.Explaining.{AreOrigins}
+use Rattle.ext_explain.specs.Laws.{OneListOfChanges, OneListOfLines}
 use Rattle.ext_cmd.specs.declared.answer.Answer.TheVariants as answers
 use Rattle.ext_cmd.specs.declared.command.ViewCommand.{ViewCommand}
 use Rattle.ext_cmd.specs.declared.command.ViewCommand.TheVariants as views
 use Rattle.ext_cmd.specs.declared.refusal.Refusal.{Refusal}
 use Rattle.ext_cmd.specs.declared.refusal.Refusal.TheVariants as refusals
-use Rattle.ext_intents.specs.Views.{IsNotRefreshed, IsNotSurveyed, ListWants, ListWantsOf, MergeWants, RefreshWants, RefreshWantsOf, UnmergeWants, ViewWants, listed_item, planned}
+use Rattle.ext_intents.specs.Views.{ChangesWants, ChangesWantsOf, ExplainWants, ExplainWantsOf, IsNotRefreshed, IsNotSurveyed, ListWants, ListWantsOf, MergeWants, RefreshWants, RefreshWantsOf, UnmergeWants, ViewWants, listed_item, planned}
 use Rattle.ext_intents.specs.declared.intent.Intent.{Intent}
 use Rattle.ext_intents.specs.declared.intent.Intent.TheVariants.{Answers, Refuses}
 
--- the laws of surveys and of release files that it rests on
+-- the laws of surveys, of release files and of what is told of a refresh that it rests on
 pub record SurveyLaws : Type 0 where
   pub one_survey : OneSurvey
   pub not_both : NoFaultInRelease
   pub one_fault : OneFault
+  pub one_lines : OneListOfLines
+  pub one_changes : OneListOfChanges
 
 -- the limit that two trees pass is one
 one_limit : (root lower : Entries HeldFile) (x y : Which) → PassLimit x root lower → PassLimit y root lower → x ≡ y
@@ -142,6 +147,28 @@ module _ (laws : SurveyLaws) (host : Host) (told : HeldFile → Told) (tells : T
     refresh_of_once a b (inr (refusal, not, same)) (inl (x, is, next, wants)) = absurd (merged_or_not x refusal is next not)
     refresh_of_once a b (inr (x, not, wants)) (inr (y, nor, same)) = wants ∙ ap (λ refusal. Refuses refusal) (not_refreshed_once x y not nor) ∙ sym same
 
+    changes_of_once : (a b : Intent) → ChangesWantsOf host told base class force a → ChangesWantsOf host told base class force b → a ≡ b
+    changes_of_once a b (inl (x, is, wants)) (inl (y, also, same)) =
+        wants ∙ ap (λ list. Answers (answers.Changes list)) (laws.one_changes told host base class force x y tells is also) ∙ sym same
+    changes_of_once a b (inl (x, is, wants)) (inr (refusal, not, same)) = absurd (merged_or_not is.merge refusal is.refreshed is.planned not)
+    changes_of_once a b (inr (refusal, not, same)) (inl (x, is, wants)) = absurd (merged_or_not is.merge refusal is.refreshed is.planned not)
+    changes_of_once a b (inr (x, not, wants)) (inr (y, nor, same)) = wants ∙ ap (λ refusal. Refuses refusal) (not_refreshed_once x y not nor) ∙ sym same
+
+    lines_of_once : (path : List (List ℕ)) (x y : List Origin) → AreOrigins told host base class force path x → AreOrigins told host base class force path y → x ≡ y
+    lines_of_once path x y is also = laws.one_lines told host base class force path x y tells is also
+
+    explain_of_once : (path : List (List ℕ)) (a b : Intent) → ExplainWantsOf host told base class force path a → ExplainWantsOf host told base class force path b → a ≡ b
+    explain_of_once path a b (inl (x, is, some, wants)) (inl (y, also, more, same)) =
+        wants ∙ ap (λ origins. Answers (answers.Explained origins)) (lines_of_once path x y is also) ∙ sym same
+    explain_of_once path a b (inl (x, is, some, wants)) (inr (inl (none, same))) = absurd (some (lines_of_once path x [] is none))
+    explain_of_once path a b (inl (x, is, some, wants)) (inr (inr (refusal, not, same))) = absurd (surveyed is.items refusal is.surveyed not)
+    explain_of_once path a b (inr (inl (none, wants))) (inl (y, also, some, same)) = absurd (some (lines_of_once path y [] also none))
+    explain_of_once path a b (inr (inl (none, wants))) (inr (inl (also, same))) = wants ∙ sym same
+    explain_of_once path a b (inr (inl (none, wants))) (inr (inr (refusal, not, same))) = absurd (surveyed none.items refusal none.surveyed not)
+    explain_of_once path a b (inr (inr (refusal, not, wants))) (inl (y, also, some, same)) = absurd (surveyed also.items refusal also.surveyed not)
+    explain_of_once path a b (inr (inr (refusal, not, wants))) (inr (inl (none, same))) = absurd (surveyed none.items refusal none.surveyed not)
+    explain_of_once path a b (inr (inr (x, not, wants))) (inr (inr (y, nor, same))) = wants ∙ ap (λ refusal. Refuses refusal) (not_surveyed_once x y not nor) ∙ sym same
+
   list_of_once : (base : Entries HeldFile) (class : Extension) (a b : Intent) → ListWantsOf host told base class a → ListWantsOf host told base class b → a ≡ b
   list_of_once base class a b (inl (x, is, wants)) (inl (y, also, same)) =
       wants ∙ ap (λ items. Answers (answers.Found (map listed_item items))) (laws.one_survey told host base class false x y tells is also) ∙ sym same
@@ -154,6 +181,13 @@ module _ (laws : SurveyLaws) (host : Host) (told : HeldFile → Told) (tells : T
 
   refresh_once : (class : Extension) (force : Bool) (a b : Intent) → RefreshWants host told class force a → RefreshWants host told class force b → a ≡ b
   refresh_once class force a b (x, is, wants) (y, also, other) = refresh_of_once y class force a b (subst (λ base. RefreshWantsOf host told base class force a) (one_base host x y is also) wants) other
+
+  changes_once : (class : Extension) (force : Bool) (a b : Intent) → ChangesWants host told class force a → ChangesWants host told class force b → a ≡ b
+  changes_once class force a b (x, is, wants) (y, also, other) = changes_of_once y class force a b (subst (λ base. ChangesWantsOf host told base class force a) (one_base host x y is also) wants) other
+
+  explain_once : (class : Extension) (force : Bool) (path : List (List ℕ)) (a b : Intent) → ExplainWants host told class force path a → ExplainWants host told class force path b → a ≡ b
+  explain_once class force path a b (x, is, wants) (y, also, other) =
+      explain_of_once y class force path a b (subst (λ base. ExplainWantsOf host told base class force path a) (one_base host x y is also) wants) other
 
   merging_once : (class : Extension) (force : Bool) (a b : Intent) → MergeWants host told class force a → MergeWants host told class force b → a ≡ b
   merging_once class force a b (inl x) (inl y) = x.1 ∙ sym y.1
@@ -176,3 +210,5 @@ module _ (laws : SurveyLaws) (host : Host) (told : HeldFile → Told) (tells : T
   view_once class (views.Merge force) a b x y = merging_once class force a b x y
   view_once class views.Unmerge a b x y = unmerge_once class a b x y
   view_once class (views.Refresh force) a b x y = refresh_once class force a b x y
+  view_once class (views.Changes force) a b x y = changes_once class force a b x y
+  view_once class (views.Explain force path) a b x y = explain_once class force path a b x y

@@ -10,10 +10,11 @@ use Rattle.ext_cmd.specs.declared.command.UpdateVerb.{UpdateVerb}
 use Rattle.ext_cmd.specs.declared.command.UpdateVerb.TheVariants as verbs
 use Rattle.ext_cmd.specs.declared.refusal.Refusal.{Refusal}
 use Rattle.ext_intents.specs.Step.{TellAlike}
-use Rattle.ext_intents.specs.Sysupdate.{ChecksNew, Lists, UpdateWants, UpdateWantsOf, WantsByUpdates}
+use Rattle.ext_intents.specs.Sysupdate.{ChecksNew, Lists, VerbWants, VerbWantsOf, WantsByUpdates}
 use Rattle.ext_intents.specs.Updates.{AreNoUpdates, AreUpdates}
+use Rattle.ext_intents.specs.Updating.{ByUpdate, ByVacuum}
 use Rattle.ext_intents.specs.declared.intent.Intent.{Intent}
-use Rattle.ext_intents.specs.declared.updates.Updates.{Updates}
+use Rattle.ext_update.specs.declared.updates.Updates.{Updates}
 use Rattle.ext_intents.proofs.UpdateFilesLemmas.{active_alike, features_alike}
 
 module _ (host : Host) (told other : HeldFile → Told) (alike : TellAlike host told other) where
@@ -35,12 +36,14 @@ module _ (host : Host) (told other : HeldFile → Told) (alike : TellAlike host 
     by_alike By intent (inl (updates, are, by)) = inl (updates, updates_alike updates are, by)
     by_alike By intent (inr (refusal, none, wants)) = inr (refusal, none_alike refusal none, wants)
 
-    verb_alike : (verb : UpdateVerb) (intent : Intent) → UpdateWantsOf told files host base component verb intent → UpdateWantsOf other files host base component verb intent
+    verb_alike : (verb : UpdateVerb) (intent : Intent) → VerbWantsOf told files host base component verb intent → VerbWantsOf other files host base component verb intent
     verb_alike verbs.List intent wants = by_alike Lists intent wants
     verb_alike verbs.CheckNew intent wants = by_alike ChecksNew intent wants
+    verb_alike (verbs.Update wanted) intent wants = by_alike (ByUpdate files host wanted) intent wants
+    verb_alike verbs.Vacuum intent wants = by_alike (ByVacuum host) intent wants
     verb_alike verbs.Features intent (inl (features, give, wants)) = inl (features, features_alike host base is component told other alike (Ok features) give, wants)
     verb_alike verbs.Features intent (inr (error, refusal, give, refused, wants)) =
         inr (error, refusal, features_alike host base is component told other alike (Err error) give, refused, wants)
 
-  pub update_alike : (files : Option Files) (component : Option (List ℕ)) (verb : UpdateVerb) (intent : Intent) → UpdateWants host told files component verb intent → UpdateWants host other files component verb intent
+  pub update_alike : (files : Option Files) (component : Option (List ℕ)) (verb : UpdateVerb) (intent : Intent) → VerbWants host told files component verb intent → VerbWants host other files component verb intent
   update_alike files component verb intent (base, is, wants) = (base, is, verb_alike base is files component verb intent wants)

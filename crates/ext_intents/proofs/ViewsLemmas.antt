@@ -16,14 +16,18 @@ use Rattle.ext_view.specs.View.{chosen, with_view}
 use Rattle.ext_view.specs.declared.errors.ViewErr.{ViewErr}
 use Rattle.ext_view.specs.declared.errors.ViewErr.TheVariants as errors
 use Rattle.ext_view.specs.declared.surveyed.SurveyItem.{SurveyItem}
+use Rattle.ext_explain.specs.Explaining.{Explains}
+use Rattle.ext_explain.specs.ViewChanges.{TellsChanges}
+use Rattle.ext_explain.specs.declared.errors.ExplainErr.TheVariants as explain_errors
 use Rattle.ext_cmd.specs.declared.answer.Answer.{Answer}
 use Rattle.ext_cmd.specs.declared.command.ViewCommand.{ViewCommand}
 use Rattle.ext_cmd.specs.declared.command.ViewCommand.TheVariants as views
 use Rattle.ext_cmd.specs.declared.refusal.Refusal.TheVariants as refusals
 use Rattle.ext_intents.specs.Causes.{IsSurveyFile, ViewCause, refused}
-use Rattle.ext_intents.specs.Intents.{IsFit, stays}
-use Rattle.ext_intents.specs.Views.{ListWants, MergeWants, RefreshWants, RefreshWantsOf, ViewWants, planned}
+use Rattle.ext_intents.specs.Intents.{IsAnswerOrRefusal, IsFit, stays}
+use Rattle.ext_intents.specs.Views.{ChangesWants, ExplainWants, ListWants, MergeWants, RefreshWants, RefreshWantsOf, ViewWants, planned}
 use Rattle.ext_intents.specs.declared.intent.Intent.{Intent}
+use Rattle.ext_intents.specs.declared.intent.Intent.TheVariants.{Refuses}
 use Rattle.ext_intents.proofs.ViewFilesLemmas.{read_file}
 
 pub list_refused : (told : HeldFile → Told) (old new : ℕ) (host : Host) (class : Extension) (e : ViewErr) → Surveys told old new host class false (Err e) → IfOk (refused e) (ListWants host told class)
@@ -83,6 +87,35 @@ merge_cause told old new host class force (errors.Shelf e) (free, fails) =
     record { held = of.held; is_read = (free, of.is_read); file = of.file; cause = of.cause }
 merge_cause told old new host class force (errors.Limit which) fails = tt
 
+pub changes_refused : (told : HeldFile → Told) (old new : ℕ) (host : Host) (class : Extension) (force : Bool) (e : ViewErr) → TellsChanges told old new host class force (Err e) → IfOk (refused e) (ChangesWants host told class force)
+changes_refused told old new host class force errors.OutOfMemory fails = tt
+changes_refused told old new host class force errors.Merged (base, is, fails) = absurd fails
+changes_refused told old new host class force errors.NoHostRelease (base, is, none) = (base, is, inr (refusals.NoHostRelease, none, refl))
+changes_refused told old new host class force (errors.BadHostRelease line) (base, is, fault) = (base, is, inr (refusals.BadHostRelease line, fault, refl))
+changes_refused told old new host class force (errors.Shelf e) fails = tt
+changes_refused told old new host class force (errors.Limit which) (base, is, large) = (base, is, inr (refusals.Limit which, large, refl))
+
+pub changes_cause : (told : HeldFile → Told) (old new : ℕ) (host : Host) (class : Extension) (force : Bool) (e : ViewErr) → TellsChanges told old new host class force (Err e) → IfErr (refused e) (ViewCause (IsSurveyFile host class) host told old new)
+changes_cause told old new host class force e fails = refresh_cause told old new host class force e fails
+
+pub explain_refused : (told : HeldFile → Told) (old new : ℕ) (host : Host) (class : Extension) (force : Bool) (path : List (List ℕ)) (e : ViewErr) → Explains told old new host class force path (Err (explain_errors.Survey e))
+    → IfOk (refused e) (ExplainWants host told class force path)
+explain_refused told old new host class force path errors.OutOfMemory fails = tt
+explain_refused told old new host class force path errors.Merged (base, is, fails) = absurd fails
+explain_refused told old new host class force path errors.NoHostRelease (base, is, none) = (base, is, inr (inr (refusals.NoHostRelease, none, refl)))
+explain_refused told old new host class force path (errors.BadHostRelease line) (base, is, fault) = (base, is, inr (inr (refusals.BadHostRelease line, fault, refl)))
+explain_refused told old new host class force path (errors.Shelf e) fails = tt
+explain_refused told old new host class force path (errors.Limit which) (base, is, fails) = absurd fails
+
+pub explain_cause : (told : HeldFile → Told) (old new : ℕ) (host : Host) (class : Extension) (force : Bool) (path : List (List ℕ)) (e : ViewErr) → Explains told old new host class force path (Err (explain_errors.Survey e))
+    → IfErr (refused e) (ViewCause (IsSurveyFile host class) host told old new)
+explain_cause told old new host class force path e fails = list_cause told old new host class force e fails
+
+-- no layer has a line at a path
+pub no_line : (told : HeldFile → Told) (old new : ℕ) (host : Host) (class : Extension) (force : Bool) (path : List (List ℕ)) (intent : Intent) → Explains told old new host class force path (Err explain_errors.NoEntry)
+    → intent ≡ Refuses (refusals.NoEntry path) → ExplainWants host told class force path intent
+no_line told old new host class force path intent (base, is, none) same = (base, is, inr (inl (none, same)))
+
 same_past : (class : Extension) (names : Option (List (List ℕ))) (root lower : Entries HeldFile) (host : Host) → (with_view class names root lower host).past ≡ host.past
 same_past Sysext names root lower host = refl
 same_past Confext names root lower host = refl
@@ -123,3 +156,34 @@ view_fits coming host told class (views.Merge force) intent (inl (merged, is)) =
 view_fits coming host told class (views.Merge force) intent (inr (free, (base, is_base, wants))) = refresh_fits coming host told class force intent base wants
 view_fits coming host told class views.Unmerge intent (plan, of, next, is) = fit_of coming host _ intent is (planned_fits coming host plan _ next (unmerged_past host class plan of))
 view_fits coming host told class (views.Refresh force) intent (base, is_base, wants) = refresh_fits coming host told class force intent base wants
+view_fits coming host told class (views.Changes force) intent (base, is_base, inl (list, are, is)) = fit_of coming host _ intent is tt
+view_fits coming host told class (views.Changes force) intent (base, is_base, inr (refusal, not, is)) = fit_of coming host _ intent is tt
+view_fits coming host told class (views.Explain force path) intent (base, is_base, inl (origins, are, some, is)) = fit_of coming host _ intent is tt
+view_fits coming host told class (views.Explain force path) intent (base, is_base, inr (inl (none, is))) = fit_of coming host _ intent is tt
+view_fits coming host told class (views.Explain force path) intent (base, is_base, inr (inr (refusal, not, is))) = fit_of coming host _ intent is tt
+
+-- the commands of a class that want no other host
+abbrev pub IsReplyingView : ViewCommand → Type 0
+IsReplyingView views.List = Unit {0}
+IsReplyingView views.Status = Unit {0}
+IsReplyingView (views.Merge force) = ⊥
+IsReplyingView views.Unmerge = ⊥
+IsReplyingView (views.Refresh force) = ⊥
+IsReplyingView (views.Changes force) = Unit {0}
+IsReplyingView (views.Explain force path) = Unit {0}
+
+reply_of : (a b : Intent) → b ≡ a → IsAnswerOrRefusal a → IsAnswerOrRefusal b
+reply_of a b is replies = subst IsAnswerOrRefusal (sym is) replies
+
+pub view_replies : (host : Host) (told : HeldFile → Told) (class : Extension) (command : ViewCommand) (intent : Intent) → IsReplyingView command → ViewWants host told class command intent → IsAnswerOrRefusal intent
+view_replies host told class views.List intent replying (base, is_base, inl (items, of, is)) = reply_of _ intent is tt
+view_replies host told class views.List intent replying (base, is_base, inr (refusal, not, is)) = reply_of _ intent is tt
+view_replies host told class views.Status intent replying is = reply_of _ intent is tt
+view_replies host told class (views.Merge force) intent replying wants = absurd replying
+view_replies host told class views.Unmerge intent replying wants = absurd replying
+view_replies host told class (views.Refresh force) intent replying wants = absurd replying
+view_replies host told class (views.Changes force) intent replying (base, is_base, inl (list, are, is)) = reply_of _ intent is tt
+view_replies host told class (views.Changes force) intent replying (base, is_base, inr (refusal, not, is)) = reply_of _ intent is tt
+view_replies host told class (views.Explain force path) intent replying (base, is_base, inl (origins, are, some, is)) = reply_of _ intent is tt
+view_replies host told class (views.Explain force path) intent replying (base, is_base, inr (inl (none, is))) = reply_of _ intent is tt
+view_replies host told class (views.Explain force path) intent replying (base, is_base, inr (inr (refusal, not, is))) = reply_of _ intent is tt

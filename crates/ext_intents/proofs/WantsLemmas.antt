@@ -20,12 +20,13 @@ use Rattle.ext_host.specs.ReadOnly.{is_read_only}
 use Rattle.ext_cmd.specs.Words.{IsWellFormed}
 use Rattle.ext_cmd.specs.declared.command.Command.{Command}
 use Rattle.ext_cmd.specs.declared.command.Command.TheVariants.{Init, ImportFs, Remove, Sysext, Confext, Tree, Cat, Compare, Check, Layer, Migrate, Batch, Sample, Sysupdate, Components}
+use Rattle.ext_cmd.specs.declared.command.Command.TheVariants.{Mark, History, HistoryChanges, Rollback, Forget}
 use Rattle.ext_cmd.specs.declared.answer.Answer.TheVariants as answers
 use Rattle.ext_cmd.specs.declared.answer.Answer.TheVariants.{Done, Unchanged}
 use Rattle.ext_cmd.specs.declared.refusal.Refusal.TheVariants.{NoEntry, NotDirectory, ReadOnly}
 use Rattle.ext_intents.specs.Cat.{cat_at}
 use Rattle.ext_intents.specs.Change.{changed_at}
-use Rattle.ext_intents.specs.Import.{FittingWants, OpenWants, TextWants, TreeWants, sized, within}
+use Rattle.ext_intents.specs.Import.{FittingImportWants, OpenImportWants, TextWants, TreeWants, sized, within}
 use Rattle.ext_intents.specs.Intents.{IsFit, IsPlanned, Seen}
 use Rattle.ext_intents.specs.Migrate.{migrate_intent}
 use Rattle.ext_intents.specs.Remove.{remove_intent}
@@ -35,7 +36,8 @@ use Rattle.ext_intents.specs.declared.intent.Intent.{Intent}
 use Rattle.ext_intents.specs.declared.intent.Intent.TheVariants.{Changes, Answers, Refuses}
 use Rattle.ext_intents.proofs.FitLemmas.{cut_is_planned, graft_is_planned, same_is_planned}
 use Rattle.ext_intents.proofs.InitLemmas.{new_is_planned}
-use Rattle.ext_intents.proofs.SysupdateLemmas.{components_reply, reply_fits, update_replies}
+use Rattle.ext_intents.proofs.MarksLemmas.{forget_fits, history_changes_reply, mark_fits, rollback_fits}
+use Rattle.ext_intents.proofs.SysupdateLemmas.{components_reply, reply_fits, update_fits}
 use Rattle.ext_intents.proofs.ViewsLemmas.{view_fits}
 
 -- it is fit where it is one that is
@@ -58,13 +60,13 @@ sized_fits coming host next planned =
           ] refl
     ] refl
 
-fitting_fits : (coming : ℕ) (host : Host) (resource path : List (List ℕ)) (es : Entries Stamp) (text : List ℕ) (intent : Intent) → IsValidHost host → IsTreeText text es → FittingWants host resource path es intent → IsFit coming (Some host) intent
+fitting_fits : (coming : ℕ) (host : Host) (resource path : List (List ℕ)) (es : Entries Stamp) (text : List ℕ) (intent : Intent) → IsValidHost host → IsTreeText text es → FittingImportWants host resource path es intent → IsFit coming (Some host) intent
 fitting_fits coming host resource path es text intent valid tree (inl (fit, grafted)) =
     let next = changed_at host path grafted.0 in
     fit_of coming (Some host) (sized next) intent grafted.2 (sized_fits coming host next (graft_is_planned coming host path resource es grafted.0 valid tree.tree.each grafted.1))
 fitting_fits coming host resource path es text intent valid tree (inr (none, is)) = fit_of coming (Some host) _ intent is tt
 
-open_fits : (coming : ℕ) (host : Host) (resource path : List (List ℕ)) (es : Entries Stamp) (text : List ℕ) (intent : Intent) → IsValidHost host → IsTreeText text es → OpenWants host resource path es intent → IsFit coming (Some host) intent
+open_fits : (coming : ℕ) (host : Host) (resource path : List (List ℕ)) (es : Entries Stamp) (text : List ℕ) (intent : Intent) → IsValidHost host → IsTreeText text es → OpenImportWants host resource path es intent → IsFit coming (Some host) intent
 open_fits coming host resource path es text intent valid tree (inl (free, wants)) = fitting_fits coming host resource path es text intent valid tree wants
 open_fits coming host resource path es text intent valid tree (inr (at, under, is)) = fit_of coming (Some host) _ intent is tt
 
@@ -107,23 +109,28 @@ shown_fits coming host path (Some Hide) is = tt
 migrate_fits : (coming : ℕ) (host : Host) (newest : Bool) → IsValidHost host → IsFit coming (Some host) (migrate_intent host newest)
 migrate_fits coming host newest valid = elim newest as (λ b. IsFit coming (Some host) (if b then Answers Unchanged else Changes host Done)) [ true ↦ tt | false ↦ same_is_planned coming host valid ]
 
--- where there is a store, whose host is valid
-pub wants_fit : (coming : ℕ) (seen : Seen) (files : Option Files) (command : Command) (intent : Intent) → IsValidHost seen.host → WantsOf seen files command intent → IsFit coming (Some seen.host) intent
-wants_fit coming seen files (Init arch scope hierarchies) intent valid is = fit_of coming (Some seen.host) _ intent is tt
-wants_fit coming seen files (ImportFs resource path) intent valid (found, text, wants) = text_fits coming seen.host resource path found intent valid wants
-wants_fit coming seen files (Remove path) intent valid is = fit_of coming (Some seen.host) _ intent is (remove_fits coming seen.host path valid)
-wants_fit coming seen files (Sysext view) intent valid is = view_fits coming seen.host seen.told extensions.Sysext view intent is
-wants_fit coming seen files (Confext view) intent valid is = view_fits coming seen.host seen.told extensions.Confext view intent is
-wants_fit coming seen files (Tree path) intent valid is = fit_of coming (Some seen.host) _ intent is (text_of_tree_fits coming seen.host (meant_path path))
-wants_fit coming seen files (Cat path) intent valid is = fit_of coming (Some seen.host) _ intent is (shown_fits coming seen.host path (lookup seen.host.root path) refl)
-wants_fit coming seen files (Compare a b) intent valid is = fit_of coming (Some seen.host) _ intent is tt
-wants_fit coming seen files Check intent valid is = fit_of coming (Some seen.host) _ intent is refl
-wants_fit coming seen files Layer intent valid is = absurd is
-wants_fit coming seen files Batch intent valid is = absurd is
-wants_fit coming seen files (Sample images) intent valid is = absurd is
-wants_fit coming seen files (Sysupdate component verb) intent valid is = reply_fits coming (Some seen.host) intent (update_replies seen.host seen.told files component verb intent is)
-wants_fit coming seen files Components intent valid is = reply_fits coming (Some seen.host) intent (components_reply seen.host intent is)
-wants_fit coming seen files Migrate intent valid is = fit_of coming (Some seen.host) _ intent is (migrate_fits coming seen.host seen.newest valid)
+-- where there is a store, whose host is valid: in the generation after it
+pub wants_fit : (seen : Seen) (files : Option Files) (command : Command) (intent : Intent) → IsValidHost seen.host → WantsOf seen files command intent → IsFit (seen.number + 1) (Some seen.host) intent
+wants_fit seen files (Init arch scope hierarchies) intent valid is = fit_of (seen.number + 1) (Some seen.host) _ intent is tt
+wants_fit seen files (ImportFs resource path) intent valid (found, text, wants) = text_fits (seen.number + 1) seen.host resource path found intent valid wants
+wants_fit seen files (Remove path) intent valid is = fit_of (seen.number + 1) (Some seen.host) _ intent is (remove_fits (seen.number + 1) seen.host path valid)
+wants_fit seen files (Sysext view) intent valid is = view_fits (seen.number + 1) seen.host seen.told extensions.Sysext view intent is
+wants_fit seen files (Confext view) intent valid is = view_fits (seen.number + 1) seen.host seen.told extensions.Confext view intent is
+wants_fit seen files (Tree path) intent valid is = fit_of (seen.number + 1) (Some seen.host) _ intent is (text_of_tree_fits (seen.number + 1) seen.host (meant_path path))
+wants_fit seen files (Cat path) intent valid is = fit_of (seen.number + 1) (Some seen.host) _ intent is (shown_fits (seen.number + 1) seen.host path (lookup seen.host.root path) refl)
+wants_fit seen files (Compare a b) intent valid is = fit_of (seen.number + 1) (Some seen.host) _ intent is tt
+wants_fit seen files Check intent valid is = fit_of (seen.number + 1) (Some seen.host) _ intent is refl
+wants_fit seen files Layer intent valid is = absurd is
+wants_fit seen files Batch intent valid is = absurd is
+wants_fit seen files (Sample images) intent valid is = absurd is
+wants_fit seen files (Sysupdate component verb) intent valid is = update_fits (seen.number + 1) seen.host seen.told files component verb intent is
+wants_fit seen files Components intent valid is = reply_fits (seen.number + 1) (Some seen.host) intent (components_reply seen.host intent is)
+wants_fit seen files Migrate intent valid is = fit_of (seen.number + 1) (Some seen.host) _ intent is (migrate_fits (seen.number + 1) seen.host seen.newest valid)
+wants_fit seen files (Mark keep) intent valid wants = mark_fits seen.number seen.host keep intent valid wants
+wants_fit seen files History intent valid is = fit_of (seen.number + 1) (Some seen.host) _ intent is tt
+wants_fit seen files (HistoryChanges mark) intent valid wants = reply_fits (seen.number + 1) (Some seen.host) intent (history_changes_reply seen.host mark intent wants)
+wants_fit seen files (Rollback mark) intent valid is = fit_of (seen.number + 1) (Some seen.host) _ intent is (rollback_fits (seen.number + 1) seen.host mark valid)
+wants_fit seen files (Forget mark) intent valid is = fit_of (seen.number + 1) (Some seen.host) _ intent is (forget_fits (seen.number + 1) seen.host mark valid)
 
 -- where there is none
 pub first_wants_fit : (coming : ℕ) (command : Command) (intent : Intent) → IsWellFormed command → WantsFirst command intent → IsFit coming None intent
@@ -142,3 +149,8 @@ first_wants_fit coming (Sample images) intent formed is = absurd is
 first_wants_fit coming (Sysupdate component verb) intent formed is = fit_of coming None _ intent is tt
 first_wants_fit coming Components intent formed is = fit_of coming None _ intent is tt
 first_wants_fit coming Migrate intent formed is = fit_of coming None _ intent is tt
+first_wants_fit coming (Mark keep) intent formed is = fit_of coming None _ intent is tt
+first_wants_fit coming History intent formed is = fit_of coming None _ intent is tt
+first_wants_fit coming (HistoryChanges mark) intent formed is = fit_of coming None _ intent is tt
+first_wants_fit coming (Rollback mark) intent formed is = fit_of coming None _ intent is tt
+first_wants_fit coming (Forget mark) intent formed is = fit_of coming None _ intent is tt

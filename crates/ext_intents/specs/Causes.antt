@@ -30,14 +30,16 @@ use Rattle.ext_intents.specs.declared.plan_err.PlanErr.TheVariants.{DepotFault, 
 abbrev pub IsSurveyFile : Host → Extension → HeldFile → Type 0
 IsSurveyFile host class held = (base : Entries HeldFile) × IsBaseTree host base × IsRead host base class held
 
--- a file that a command of the class reads: `list` and `refresh` read those of a survey, `merge` where the class is not merged,
--- and the others none
+-- a file that a command of the class reads: `list`, `refresh`, `changes` and `explain` read those of a survey, `merge` where the
+-- class is not merged, and the others none
 abbrev pub IsViewFile : Host → Extension → ViewCommand → HeldFile → Type 0
 IsViewFile host class views.List held = IsSurveyFile host class held
 IsViewFile host class views.Status held = ⊥
 IsViewFile host class (views.Merge force) held = (is_merged class host ≡ false) × IsSurveyFile host class held
 IsViewFile host class views.Unmerge held = ⊥
 IsViewFile host class (views.Refresh force) held = IsSurveyFile host class held
+IsViewFile host class (views.Changes force) held = IsSurveyFile host class held
+IsViewFile host class (views.Explain force path) held = IsSurveyFile host class held
 
 -- a file of the host that is read before it is known what a command wants
 abbrev pub IsStepFile : Host → Command → HeldFile → Type 0

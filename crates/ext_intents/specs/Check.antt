@@ -2,16 +2,11 @@
 -- what lies under the view and of each past tree, and their bytes; two entries of one home count twice.
 use Rattle.std.specs.Prelude.{ℕ}
 use Rattle.std.specs.List.{sum_by}
-use Rattle.std.specs.Prelude.{count_by}
-use Rattle.ext_tree.specs.Tree.{Entries, is_file}
 use Rattle.ext_host.specs.Drawn.{trees_of}
-use Rattle.ext_host.specs.Held.{HeldFile}
 use Rattle.ext_host.specs.Valid.{all_bytes}
 use Rattle.ext_host.specs.declared.host.Host.{Host}
-
 -- how many files a tree has
-abbrev pub files_in : Entries HeldFile → ℕ
-files_in es = count_by (λ e. is_file e.1) es
+pub use Rattle.ext_history.specs.History.{files_in}
 
 -- how many files the trees of a host have, and how many bytes these have
 abbrev pub host_files : Host → ℕ

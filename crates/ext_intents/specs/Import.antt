@@ -51,27 +51,27 @@ pub record IsUnder (es : Entries HeldFile) (path at : List (List ℕ)) : Type 0 
   pub stands : IsTrue (is_non_directory_at (lookup es at))
 
 -- each path of the host and of the depot stays within the limits
-pub record AllFit (resource path : List (List ℕ)) (es : Entries Stamp) : Type 0 where
+pub record ImportFits (resource path : List (List ℕ)) (es : Entries Stamp) : Type 0 where
   pub host : graft.Fits path (from_depot resource es)
   pub depot : AllByRecursion (bodies.FileFits resource) es
 
 -- the tree in place of what stands at and below the path
-abbrev pub FittingWants : Host → List (List ℕ) → List (List ℕ) → Entries Stamp → Intent → Type 0
-FittingWants host resource path es intent =
-    (AllFit resource path es × ((root : Entries HeldFile) × IsGraft host.root path (from_depot resource es) root
+abbrev pub FittingImportWants : Host → List (List ℕ) → List (List ℕ) → Entries Stamp → Intent → Type 0
+FittingImportWants host resource path es intent =
+    (ImportFits resource path es × ((root : Entries HeldFile) × IsGraft host.root path (from_depot resource es) root
     × (intent ≡ sized (changed_at host path root))))
-    ⊎ ((¬ AllFit resource path es) × (intent ≡ Refuses (Limit limits.Path)))
+    ⊎ ((¬ ImportFits resource path es) × (intent ≡ Refuses (Limit limits.Path)))
 
 -- what is wanted where nothing stands in the way of the path
-abbrev pub OpenWants : Host → List (List ℕ) → List (List ℕ) → Entries Stamp → Intent → Type 0
-OpenWants host resource path es intent =
-    (IsOpen host.root path × FittingWants host resource path es intent)
+abbrev pub OpenImportWants : Host → List (List ℕ) → List (List ℕ) → Entries Stamp → Intent → Type 0
+OpenImportWants host resource path es intent =
+    (IsOpen host.root path × FittingImportWants host resource path es intent)
     ⊎ ((at : List (List ℕ)) × IsUnder host.root path at × (intent ≡ Refuses (NotDirectory at)))
 
 -- what is wanted of a tree that was read
 abbrev pub TreeWants : Host → List (List ℕ) → List (List ℕ) → Entries Stamp → Intent → Type 0
 TreeWants host resource path es intent =
-    ((is_read_only host path ≡ false) × OpenWants host resource path es intent)
+    ((is_read_only host path ≡ false) × OpenImportWants host resource path es intent)
     ⊎ ((is_read_only host path ≡ true) × ((at : List (List ℕ)) × IsReadOnlyAt host path at × (intent ≡ Refuses (ReadOnly at))))
 
 -- what is wanted of what the depot has

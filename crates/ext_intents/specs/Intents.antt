@@ -10,9 +10,11 @@ use Rattle.ext_host.specs.declared.host.Host.{Host}
 use Rattle.ext_intents.specs.declared.intent.Intent.{Intent}
 use Rattle.ext_intents.specs.declared.intent.Intent.TheVariants.{Changes, Answers, Checks, Shows, Refuses}
 
--- the host, whether the store's text has its newest form, and what is told of the bytes of the host's files
+-- the host, the number of its generation, whether the store's text has its newest form, and what is told of the bytes of the
+-- host's files
 pub record Seen : Type 0 where
   pub host : Host
+  pub number : ℕ
   pub newest : Bool
   pub told : HeldFile → Told
 

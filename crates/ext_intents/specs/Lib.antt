@@ -8,11 +8,13 @@ pub mod Tree
 pub mod Cat
 pub mod Check
 pub mod Migrate
+pub mod Marks
 pub mod Compare
 pub mod Layer
 pub mod Views
 pub mod Updates
 pub mod VersionItems
+pub mod Updating
 pub mod Sysupdate
 pub mod Causes
 pub mod Step

@@ -9,15 +9,17 @@ use Rattle.ext_host.specs.Shelf.{Told}
 use Rattle.ext_host.specs.declared.host.Host.{Host}
 use Rattle.ext_cmd.specs.declared.command.Command.{Command}
 use Rattle.ext_cmd.specs.declared.command.Command.TheVariants.{Init, ImportFs, Remove, Sysext, Confext, Tree, Cat, Compare, Check, Layer, Migrate, Batch, Sample, Sysupdate, Components}
+use Rattle.ext_cmd.specs.declared.command.Command.TheVariants.{Mark, History, HistoryChanges, Rollback, Forget}
 use Rattle.ext_cmd.specs.declared.refusal.Refusal.TheVariants.{NoStore, StoreExists}
 use Rattle.ext_intents.specs.Cat.{cat_intent}
 use Rattle.ext_intents.specs.Compare.{compare_intent}
 use Rattle.ext_intents.specs.Import.{ImportWants}
 use Rattle.ext_intents.specs.Init.{InitWants}
 use Rattle.ext_intents.specs.Intents.{Seen}
+use Rattle.ext_intents.specs.Marks.{HistoryChangesWants, MarkWants, forget_intent, history_intent, rollback_intent}
 use Rattle.ext_intents.specs.Migrate.{migrate_intent}
 use Rattle.ext_intents.specs.Remove.{remove_intent}
-use Rattle.ext_intents.specs.Sysupdate.{ComponentsWants, UpdateWants}
+use Rattle.ext_intents.specs.Sysupdate.{ComponentsWants, VerbWants}
 use Rattle.ext_intents.specs.Tree.{meant_path, tree_intent}
 use Rattle.ext_intents.specs.Views.{ViewWants}
 use Rattle.ext_intents.specs.declared.intent.Intent.{Intent}
@@ -38,8 +40,13 @@ WantsOf seen files Layer intent = ⊥
 WantsOf seen files Migrate intent = intent ≡ migrate_intent seen.host seen.newest
 WantsOf seen files Batch intent = ⊥
 WantsOf seen files (Sample images) intent = ⊥
-WantsOf seen files (Sysupdate component verb) intent = UpdateWants seen.host seen.told files component verb intent
+WantsOf seen files (Sysupdate component verb) intent = VerbWants seen.host seen.told files component verb intent
 WantsOf seen files Components intent = ComponentsWants seen.host intent
+WantsOf seen files (Mark keep) intent = MarkWants seen.number seen.host keep intent
+WantsOf seen files History intent = intent ≡ history_intent seen.host
+WantsOf seen files (HistoryChanges mark) intent = HistoryChangesWants seen.host mark intent
+WantsOf seen files (Rollback mark) intent = intent ≡ rollback_intent seen.host mark
+WantsOf seen files (Forget mark) intent = intent ≡ forget_intent seen.host mark
 
 -- of each file of the host both tell one thing
 abbrev pub TellAlike : Host → (HeldFile → Told) → (HeldFile → Told) → Type 0

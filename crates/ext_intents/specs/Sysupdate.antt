@@ -1,8 +1,9 @@
 -- The commands `sysupdate`, after systemd-sysupdate(8): the versions that a host has and those that it may have, the newest of
--- these, the features of its transfers, and its components. They read what the base of the host has, and want no other host. The
--- refusals, the first that holds, in this order, which is this project's own: a feature file is faulty; the host's release file
--- is; there is no transfer file; one is faulty; none is on; then of one transfer after the other its source has no manifest, or
--- one that is too long or faulty; and of `check-new` alone: no version is newer.
+-- these, an update to one of them, room in the targets, the features of its transfers, and its components. They read what the
+-- base of the host has; an update and making room alone may want another host. The refusals, the first that holds, in this order,
+-- which is this project's own: a feature file is faulty; the host's release file is; there is no transfer file; one is faulty; none
+-- is on; then of one transfer after the other its source has no manifest, or one that is too long or faulty; of `check-new` alone:
+-- no version is newer; and of an update and of making room what their plans are refused by.
 use Rattle.std.specs.Prelude.{◌≡◌, ◌⊎◌, ℕ, List, map, Option, Some, None, Result, Ok, Err, slice_get}
 use Rattle.ext_depot.specs.Depot.{Files}
 use Rattle.ext_tree.specs.Tree.{Entries}
@@ -25,12 +26,13 @@ use Rattle.ext_cmd.specs.declared.command.UpdateVerb.TheVariants as verbs
 use Rattle.ext_cmd.specs.declared.answer.VersionItem.{VersionItem}
 use Rattle.ext_cmd.specs.declared.refusal.Refusal.{Refusal}
 use Rattle.ext_cmd.specs.declared.refusal.Refusal.TheVariants as refusals
-use Rattle.ext_intents.specs.Updates.{AreItems, AreNoUpdates, AreUpdates}
+use Rattle.ext_intents.specs.Updates.{AreVersionItems, AreNoUpdates, AreUpdates}
+use Rattle.ext_intents.specs.Updating.{ByUpdate, ByVacuum}
 use Rattle.ext_intents.specs.declared.intent.Intent.{Intent}
 use Rattle.ext_intents.specs.declared.intent.Intent.TheVariants.{Answers, Refuses}
 use Rattle.ext_intents.specs.declared.plan_err.PlanErr.{PlanErr}
 use Rattle.ext_intents.specs.declared.plan_err.PlanErr.TheVariants.{Shelf, OutOfMemory}
-use Rattle.ext_intents.specs.declared.updates.Updates.{Updates}
+use Rattle.ext_update.specs.declared.updates.Updates.{Updates}
 
 -- how it is told why features are not known: by a refusal, or by that nothing was planned
 abbrev pub not_featured : FeaturesErr → Result Intent PlanErr
@@ -44,7 +46,7 @@ feature_item feature = record { name = feature.name; on = feature.on }
 
 -- each version that is known, the greatest first
 abbrev pub Lists : Updates → Intent → Type 0
-Lists updates intent = (items : List VersionItem) × AreItems updates items × (intent ≡ Answers (answers.Versions items))
+Lists updates intent = (items : List VersionItem) × AreVersionItems updates items × (intent ≡ Answers (answers.Versions items))
 
 -- the version that an update would install, or that none is newer than each that is installed
 abbrev pub ChecksNew : Updates → Intent → Type 0
@@ -68,15 +70,17 @@ module _ (told : HeldFile → Told) (files : Option Files) (host : Host) (base :
       × (not_featured error ≡ Ok (Refuses refusal)) × (intent ≡ Refuses refusal))
 
   -- what a verb wants of the host with this base
-  abbrev pub UpdateWantsOf : UpdateVerb → Intent → Type 0
-  UpdateWantsOf verbs.List intent = WantsByUpdates Lists intent
-  UpdateWantsOf verbs.CheckNew intent = WantsByUpdates ChecksNew intent
-  UpdateWantsOf verbs.Features intent = FeaturesWants intent
+  abbrev pub VerbWantsOf : UpdateVerb → Intent → Type 0
+  VerbWantsOf verbs.List intent = WantsByUpdates Lists intent
+  VerbWantsOf verbs.CheckNew intent = WantsByUpdates ChecksNew intent
+  VerbWantsOf (verbs.Update wanted) intent = WantsByUpdates (ByUpdate files host wanted) intent
+  VerbWantsOf verbs.Vacuum intent = WantsByUpdates (ByVacuum host) intent
+  VerbWantsOf verbs.Features intent = FeaturesWants intent
 
 -- what a verb wants of a host
-abbrev pub UpdateWants : Host → (HeldFile → Told) → Option Files → Option (List ℕ) → UpdateVerb → Intent → Type 0
-UpdateWants host told files component verb intent =
-    (base : Entries HeldFile) × IsBaseTree host base × UpdateWantsOf told files host base component verb intent
+abbrev pub VerbWants : Host → (HeldFile → Told) → Option Files → Option (List ℕ) → UpdateVerb → Intent → Type 0
+VerbWants host told files component verb intent =
+    (base : Entries HeldFile) × IsBaseTree host base × VerbWantsOf told files host base component verb intent
 
 -- what `components` wants of a host: the components that its base has
 abbrev pub ComponentsWants : Host → Intent → Type 0
@@ -88,6 +92,8 @@ ComponentsWants host intent =
 abbrev pub IsVerbFile : Entries HeldFile → Option (List ℕ) → UpdateVerb → HeldFile → Type 0
 IsVerbFile base component verbs.List held = IsUpdateFile base component held
 IsVerbFile base component verbs.CheckNew held = IsUpdateFile base component held
+IsVerbFile base component (verbs.Update wanted) held = IsUpdateFile base component held
+IsVerbFile base component verbs.Vacuum held = IsUpdateFile base component held
 IsVerbFile base component verbs.Features held = IsFeatureFile base component held
 
 -- a file of a host that is read for a verb

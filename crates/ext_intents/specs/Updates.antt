@@ -32,7 +32,7 @@ use Rattle.ext_intents.specs.declared.plan_err.PlanErr.{PlanErr}
 use Rattle.ext_intents.specs.declared.plan_err.PlanErr.TheVariants.{DepotFault, Shelf, OutOfMemory}
 use Rattle.ext_intents.specs.declared.updates.Looked.{Looked}
 use Rattle.ext_intents.specs.declared.updates.Looked.TheVariants.{Found, Refused}
-use Rattle.ext_intents.specs.declared.updates.Updates.{Updates}
+use Rattle.ext_update.specs.declared.updates.Updates.{Updates}
 
 -- how it is told why transfers are not known: by a refusal, or by that nothing was planned
 abbrev pub not_active : ActiveErr → Result Looked PlanErr
@@ -124,5 +124,5 @@ abbrev pub AreKnown : Updates → List (List ℕ) → Type 0
 AreKnown updates versions = AreVersions (updates.available ++ versions_of_items updates.installed.items) versions
 
 -- what is said of each of them, the greatest first
-abbrev pub AreItems : Updates → List VersionItem → Type 0
-AreItems updates items = (versions : List (List ℕ)) × AreKnown updates versions × (items ≡ reverse (map (version_item updates) versions))
+abbrev pub AreVersionItems : Updates → List VersionItem → Type 0
+AreVersionItems updates items = (versions : List (List ℕ)) × AreKnown updates versions × (items ≡ reverse (map (version_item updates) versions))

@@ -5,7 +5,7 @@ use Rattle.std.specs.Option.{option_copied}
 use Rattle.ext_transfer.specs.declared.transfer.Transfer.{Transfer}
 use Rattle.ext_versions.specs.Versions.{has_version}
 use Rattle.ext_intents.specs.Updates.{is_obsolete_by, protected_by, versions_of_items}
-use Rattle.ext_intents.specs.declared.updates.Updates.{Updates}
+use Rattle.ext_update.specs.declared.updates.Updates.{Updates}
 use Rattle.ext_intents.specs.declared.version_items.Flags.{Flags}
 
 -- the version is available or has an instance

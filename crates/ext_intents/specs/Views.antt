@@ -1,7 +1,9 @@
 -- The commands `sysext` and `confext`, after systemd-sysext(8): what the host has of the class, what is merged of it, and the
--- host with another view or with none. The refusals, the first that holds, in this order, which is this project's own: the
--- class is merged, to `merge` alone; the host has no release file; it is faulty; the merged host would pass a limit.
-use Rattle.std.specs.Prelude.{◌≡◌, ◌⊎◌, ℕ, Bool, true, false, List, map, Option, Some, None, Ok}
+-- host with another view or with none. This project's own are what a refresh would change, and where a path of what it would show
+-- comes from. The refusals, the first that holds, in this order, which is this project's own too: the class is merged, to `merge`
+-- alone; the host has no release file; it is faulty; the merged host would pass a limit; to `explain` alone, no layer has an entry
+-- at the path, nor hides what is there.
+use Rattle.std.specs.Prelude.{◌≡◌, ◌≢◌, ◌⊎◌, ℕ, Bool, true, false, List, [], map, Option, Some, None, Ok}
 use Rattle.ext_text.specs.declared.extension.Extension.{Extension}
 use Rattle.ext_tree.specs.Tree.{Entries}
 use Rattle.ext_host.specs.Held.{HeldFile}
@@ -19,6 +21,10 @@ use Rattle.ext_view.specs.declared.outcome.Merge.{Merge}
 use Rattle.ext_view.specs.declared.surveyed.SurveyItem.{SurveyItem}
 use Rattle.ext_view.specs.declared.surveyed.SurveyKind.{SurveyKind}
 use Rattle.ext_view.specs.declared.surveyed.SurveyKind.TheVariants as surveyed
+use Rattle.ext_changes.specs.Changes as changes
+use Rattle.ext_origin.specs.declared.origin.Origin.{Origin}
+use Rattle.ext_explain.specs.Explaining.{AreOrigins}
+use Rattle.ext_explain.specs.ViewChanges.{AreViewChanges}
 use Rattle.ext_cmd.specs.declared.answer.Answer.{Answer}
 use Rattle.ext_cmd.specs.declared.answer.Answer.TheVariants as answers
 use Rattle.ext_cmd.specs.declared.answer.Item.{Item}
@@ -101,6 +107,29 @@ abbrev pub UnmergeWants : Host → Extension → Intent → Type 0
 UnmergeWants host class intent =
     (plan : Option Plan) × Unmerges host class (Ok plan) × PlansNext host plan × (intent ≡ planned plan answers.Unmerged)
 
+-- what the merged host would show otherwise than the base, at and below the hierarchies of the class
+abbrev pub ChangesWantsOf : Host → (HeldFile → Told) → Entries HeldFile → Extension → Bool → Intent → Type 0
+ChangesWantsOf host told base class force intent =
+    ((list : changes.Changes) × AreViewChanges told host base class force list × (intent ≡ Answers (answers.Changes list)))
+    ⊎ ((refusal : Refusal) × IsNotRefreshed host told base class force refusal × (intent ≡ Refuses refusal))
+
+-- what `changes` wants of a host
+abbrev pub ChangesWants : Host → (HeldFile → Told) → Extension → Bool → Intent → Type 0
+ChangesWants host told class force intent =
+    (base : Entries HeldFile) × IsBaseTree host base × ChangesWantsOf host told base class force intent
+
+-- the layers of the merged host that have an entry at the path, or hide what is there, the topmost first
+abbrev pub ExplainWantsOf : Host → (HeldFile → Told) → Entries HeldFile → Extension → Bool → List (List ℕ) → Intent → Type 0
+ExplainWantsOf host told base class force path intent =
+    ((origins : List Origin) × AreOrigins told host base class force path origins × (origins ≢ []) × (intent ≡ Answers (answers.Explained origins)))
+    ⊎ ((AreOrigins told host base class force path [] × (intent ≡ Refuses (refusals.NoEntry path)))
+    ⊎ ((refusal : Refusal) × IsNotSurveyed told base refusal × (intent ≡ Refuses refusal)))
+
+-- what `explain` wants of a host
+abbrev pub ExplainWants : Host → (HeldFile → Told) → Extension → Bool → List (List ℕ) → Intent → Type 0
+ExplainWants host told class force path intent =
+    (base : Entries HeldFile) × IsBaseTree host base × ExplainWantsOf host told base class force path intent
+
 -- what each of these commands wants of a host
 abbrev pub ViewWants : Host → (HeldFile → Told) → Extension → ViewCommand → Intent → Type 0
 ViewWants host told class views.List intent = ListWants host told class intent
@@ -108,3 +137,5 @@ ViewWants host told class views.Status intent = intent ≡ status_intent host cl
 ViewWants host told class (views.Merge force) intent = MergeWants host told class force intent
 ViewWants host told class views.Unmerge intent = UnmergeWants host class intent
 ViewWants host told class (views.Refresh force) intent = RefreshWants host told class force intent
+ViewWants host told class (views.Changes force) intent = ChangesWants host told class force intent
+ViewWants host told class (views.Explain force path) intent = ExplainWants host told class force path intent

@@ -7,7 +7,7 @@ ghost use Rattle.ext_tree.specs.Graft.{IsOpen, is_non_directory_at};
 ghost use Rattle.ext_host.specs.Valid.{IsValidHost};
 ghost use Rattle.ext_cmd.specs.declared.refusal.Refusal.TheVariants.{Limit};
 ghost use Rattle.ext_intents.specs.DepotErr.{PlanCause};
-ghost use Rattle.ext_intents.specs.Import.{FittingWants, ImportWants, IsUnder, PartWants, TextWants, TreeWants, sized};
+ghost use Rattle.ext_intents.specs.Import.{FittingImportWants, ImportWants, IsUnder, PartWants, TextWants, TreeWants, sized};
 ghost use Rattle.ext_intents.specs.declared.intent.Intent.TheVariants.{Refuses};
 
 use crate::intent::Intent;
@@ -136,7 +136,7 @@ fn import_open(
     tree: Tree<Stamp>,
 ) -> Result<Intent, OutOfMemory>
     requires { IsOpen host.now.root path.now }
-    ensures { IfOk result (FittingWants host.now resource.now path.now tree) }
+    ensures { IfOk result (FittingImportWants host.now resource.now path.now tree) }
 {
     match from_depot(alloc, tree, resource) {
         Ok(part) => import_part(host, path, part),

@@ -4,6 +4,7 @@ ghost use Rattle.ext_intents.specs.Laws.{OneIntent};
 use ext_available::laws::{one_available, one_offers};
 use ext_choice::laws::there_is_one_choice;
 use ext_configs::laws::one_component_list;
+use ext_explain::laws::there_is_one_answer;
 use ext_feature::laws::{
     a_component_has_its_features_or_a_first_fault, a_component_has_its_transfers_or_a_first_fault,
 };
@@ -11,6 +12,7 @@ use ext_host::Held;
 use ext_installed::laws::one_installed;
 use ext_release::a_file_has_a_release_or_a_faulty_line;
 use ext_tree::laws::{first_fault_of_text, one_tree_of_text};
+use ext_update::laws::one_thing_is_wanted;
 use ext_versions::laws::an_ascending_list_is_one;
 use ext_view::laws::there_is_one_survey;
 
@@ -20,6 +22,7 @@ pub fn a_command_wants_one_thing()
     ensures { OneIntent }
 {
     there_is_one_survey();
+    there_is_one_answer();
     a_file_has_a_release_or_a_faulty_line();
     one_tree_of_text();
     first_fault_of_text();
@@ -31,4 +34,5 @@ pub fn a_command_wants_one_thing()
     an_ascending_list_is_one();
     there_is_one_choice();
     one_component_list::<Held>();
+    one_thing_is_wanted();
 }

@@ -8,11 +8,12 @@ ghost use Rattle.ext_feature.specs.Active.{IsUpdateFile};
 ghost use Rattle.ext_feature.specs.Features.{IsFeatureFile};
 ghost use Rattle.ext_cmd.specs.declared.command.UpdateVerb.TheVariants as verbs;
 ghost use Rattle.ext_intents.specs.Causes.{StepCause, ViewCause};
-ghost use Rattle.ext_intents.specs.Sysupdate.{ChecksNew, ComponentsWants, IsSysupdateFile, Lists, UpdateWants, UpdateWantsOf, feature_item, not_featured};
+ghost use Rattle.ext_intents.specs.Sysupdate.{ChecksNew, ComponentsWants, IsSysupdateFile, Lists, VerbWants, VerbWantsOf, feature_item, not_featured};
 
 use crate::intent::Intent;
 use crate::plan_err::PlanErr;
-use crate::updates::{Looked, Updates, updates_of};
+use crate::updates::{Looked, updates_of};
+use crate::updating::{update_to_step, vacuum_step};
 use crate::version_items::version_items;
 use ext_choice::{Choice, choose};
 use ext_cmd::{Answer, FeatureItem, FeatureItems, Refusal, UpdateVerb};
@@ -23,6 +24,7 @@ use ext_host::{Held, Host, Shelf};
 use ext_text::OutOfMemory;
 use ext_transfer::Component;
 use ext_tree::Tree;
+use ext_update::Updates;
 use ext_view::base_of;
 use std::alloc::Global;
 
@@ -35,24 +37,36 @@ pub(crate) fn update_step<P: Depot, H: Shelf>(
     alloc: Global,
     host: &Host,
     component: Option<&Component>,
-    verb: UpdateVerb,
+    verb: &UpdateVerb,
     depot: &mut P,
     shelf: &mut H,
 ) -> Result<Intent, PlanErr>
     requires valid { IsValidHost host.now }
     requires serves { ServesHost (H.serves shelf.old) host.now }
-    ensures wants { IfOk result (UpdateWants host.now (H.told shelf.old) (P.state depot.old).contents
-        (option_copied component.entry) verb) }
+    ensures wants { IfOk result (VerbWants host.now (H.told shelf.old) (P.state depot.old).contents
+        (option_copied component.entry) verb.now) }
     ensures kept { IsKept (P.state depot.old) (P.state depot.new) }
     ensures stays { H.stays shelf.old shelf.new }
     ensures count { H.faults shelf.old ≤ H.faults shelf.new }
-    ensures cause { IfErr result (StepCause (IsSysupdateFile host.now (option_copied component.entry) verb) host.now (H.told shelf.old)
+    ensures cause { IfErr result (StepCause (IsSysupdateFile host.now (option_copied component.entry) verb.now) host.now (H.told shelf.old)
         (H.faults shelf.old) (H.faults shelf.new) (P.state depot.old).faults (P.state depot.new).faults) }
 {
     let base = base_of(host)?;
     match verb {
         UpdateVerb::List => list_step(alloc, host, &base, component, depot, shelf),
         UpdateVerb::CheckNew => check_new_step(alloc, host, &base, component, depot, shelf),
+        UpdateVerb::Update { version } => {
+            update_to_step(
+                alloc,
+                host,
+                &base,
+                component,
+                version.as_ref(),
+                depot,
+                shelf,
+            )
+        }
+        UpdateVerb::Vacuum => vacuum_step(alloc, host, &base, component, depot, shelf),
         UpdateVerb::Features => features_step(alloc, host, &base, component, shelf),
     }
 }
@@ -68,7 +82,7 @@ fn list_step<P: Depot, H: Shelf>(
 ) -> Result<Intent, PlanErr>
     requires base { IsBaseTree host.now base.now }
     requires serves { ServesAll (H.serves shelf.old) base.now }
-    ensures wants { IfOk result (UpdateWantsOf (H.told shelf.old) (P.state depot.old).contents host.now base.now
+    ensures wants { IfOk result (VerbWantsOf (H.told shelf.old) (P.state depot.old).contents host.now base.now
         (option_copied component.entry) verbs.List) }
     ensures kept { IsKept (P.state depot.old) (P.state depot.new) }
     ensures stays { H.stays shelf.old shelf.new }
@@ -102,7 +116,7 @@ fn check_new_step<P: Depot, H: Shelf>(
 ) -> Result<Intent, PlanErr>
     requires base { IsBaseTree host.now base.now }
     requires serves { ServesAll (H.serves shelf.old) base.now }
-    ensures wants { IfOk result (UpdateWantsOf (H.told shelf.old) (P.state depot.old).contents host.now base.now
+    ensures wants { IfOk result (VerbWantsOf (H.told shelf.old) (P.state depot.old).contents host.now base.now
         (option_copied component.entry) verbs.CheckNew) }
     ensures kept { IsKept (P.state depot.old) (P.state depot.new) }
     ensures stays { H.stays shelf.old shelf.new }
@@ -141,7 +155,7 @@ fn features_step<H: Shelf>(
 ) -> Result<Intent, PlanErr>
     requires base { IsBaseTree host.now base.now }
     requires serves { ServesAll (H.serves shelf.old) base.now }
-    ensures wants { (files : Option Files) → IfOk result (UpdateWantsOf (H.told shelf.old) files host.now base.now
+    ensures wants { (files : Option Files) → IfOk result (VerbWantsOf (H.told shelf.old) files host.now base.now
         (option_copied component.entry) verbs.Features) }
     ensures stays { H.stays shelf.old shelf.new }
     ensures count { H.faults shelf.old ≤ H.faults shelf.new }

@@ -16,25 +16,12 @@ use ext_cmd::Refusal;
 use ext_depot::Depot;
 use ext_feature::{ActiveErr, Transfers, active};
 use ext_host::{Held, Host, Shelf};
-use ext_installed::{Instances, installed};
+use ext_installed::installed;
 use ext_text::{ListOf, OutOfMemory, Which};
 use ext_transfer::Component;
 use ext_tree::Tree;
-use ext_versions::Versions;
+use ext_update::Updates;
 use std::alloc::Global;
-
-/// What the updates of a component are about.
-#[derive(Debug, Drop)]
-pub struct Updates {
-    // The transfers that are on, one at least.
-    pub(crate) transfers: Transfers,
-    // What the source of each offers.
-    pub(crate) offers: ListOf<Offers>,
-    // The versions that may be taken over.
-    pub(crate) available: Versions,
-    // What the host has of them.
-    pub(crate) installed: Instances,
-}
 
 /// What a look at the updates of a component gives.
 #[derive(Debug, Drop)]

@@ -3,14 +3,14 @@ ghost use Rattle.std.specs.Prelude.{◌≡◌, ◌++◌, ◌||◌, IfOk, OnOk, m
 ghost use Rattle.std.specs.List.{flat_map};
 ghost use Rattle.std.specs.Option.{option_copied};
 ghost use Rattle.ext_versions.specs.Versions.{AreVersions};
-ghost use Rattle.ext_intents.specs.Updates.{AreItems, AreKnown, is_obsolete_by, presence_of, protected_by, version_item, versions_of_items};
+ghost use Rattle.ext_intents.specs.Updates.{AreVersionItems, AreKnown, is_obsolete_by, presence_of, protected_by, version_item, versions_of_items};
 ghost use Rattle.ext_intents.specs.VersionItems.{AreFlagsOf, IsGreatestLeast, IsGreater, IsKnown};
 
-use crate::updates::Updates;
 use ext_cmd::{Presence, VersionItem, VersionItems};
 use ext_installed::Instance;
 use ext_text::{OutOfMemory, Text};
 use ext_transfer::Transfer;
+use ext_update::Updates;
 use ext_vers::{Version, compare};
 use ext_versions::Versions;
 use std::alloc::Global;
@@ -28,7 +28,7 @@ struct Flags<'a> {
 
 // What is said of each version that is available or has an instance, the greatest first.
 pub(crate) fn version_items(alloc: Global, updates: &Updates) -> Result<VersionItems, OutOfMemory>
-    ensures { IfOk result (AreItems updates.now) }
+    ensures { IfOk result (AreVersionItems updates.now) }
 {
     let flags = flags_of(alloc, updates)?;
     let known = known_versions(alloc, updates)?;

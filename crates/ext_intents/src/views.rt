@@ -5,15 +5,18 @@ ghost use Rattle.ext_host.specs.Host.{merged_names, present};
 ghost use Rattle.ext_host.specs.Valid.{IsValidHost};
 ghost use Rattle.ext_host.specs.Planning.{ServesHost};
 ghost use Rattle.ext_cmd.specs.declared.command.ViewCommand.TheVariants as commands;
+ghost use Rattle.ext_cmd.specs.declared.refusal.Refusal.TheVariants.{NoEntry};
 ghost use Rattle.ext_intents.specs.Causes.{IsViewFile, ViewCause, refused};
-ghost use Rattle.ext_intents.specs.Views.{ListWants, MergeWants, RefreshWants, UnmergeWants, ViewWants, planned, status_intent};
+ghost use Rattle.ext_intents.specs.Views.{ChangesWants, ExplainWants, ListWants, MergeWants, RefreshWants, UnmergeWants, ViewWants, planned, status_intent};
+ghost use Rattle.ext_intents.specs.declared.intent.Intent.TheVariants.{Refuses};
 
 use crate::intent::Intent;
 use crate::plan_err::PlanErr;
 use crate::view_items::listed_items;
 use ext_cmd::{Answer, Refusal, ViewCommand};
+use ext_explain::{ExplainErr, explain, view_changes};
 use ext_host::{Host, Plan, Shelf, copy_of_list};
-use ext_text::{Extension, Names, OutOfMemory};
+use ext_text::{Extension, Names, OutOfMemory, Path};
 use ext_view::{Merge, ViewErr, merge, refresh, survey, unmerge};
 use std::alloc::Global;
 
@@ -25,23 +28,27 @@ pub(crate) fn view_step<H: Shelf>(
     alloc: Global,
     host: &Host,
     class: Extension,
-    command: ViewCommand,
+    command: &ViewCommand,
     shelf: &mut H,
 ) -> Result<Intent, PlanErr>
     requires valid { IsValidHost host.now }
     requires serves { ServesHost (H.serves shelf.old) host.now }
-    ensures wants { IfOk result (ViewWants host.now (H.told shelf.old) class command) }
+    ensures wants { IfOk result (ViewWants host.now (H.told shelf.old) class command.now) }
     ensures stays { H.stays shelf.old shelf.new }
     ensures count { H.faults shelf.old ≤ H.faults shelf.new }
-    ensures cause { IfErr result (ViewCause (IsViewFile host.now class command) host.now (H.told shelf.old) (H.faults shelf.old)
+    ensures cause { IfErr result (ViewCause (IsViewFile host.now class command.now) host.now (H.told shelf.old) (H.faults shelf.old)
         (H.faults shelf.new)) }
 {
     match command {
         ViewCommand::List => list_step(alloc, host, class, shelf),
         ViewCommand::Status => Ok(status_step(alloc, host, class)?),
-        ViewCommand::Merge { force } => merge_step(alloc, host, class, force, shelf),
+        ViewCommand::Merge { force } => merge_step(alloc, host, class, *force, shelf),
         ViewCommand::Unmerge => Ok(unmerge_step(alloc, host, class)?),
-        ViewCommand::Refresh { force } => refresh_step(alloc, host, class, force, shelf),
+        ViewCommand::Refresh { force } => refresh_step(alloc, host, class, *force, shelf),
+        ViewCommand::Changes { force } => changes_step(alloc, host, class, *force, shelf),
+        ViewCommand::Explain { force, path } => {
+            explain_step(alloc, host, class, *force, path, shelf)
+        }
     }
 }
 
@@ -111,6 +118,60 @@ fn refresh_step<H: Shelf>(
         Ok(Merge { plan, names }) => Ok(planned(plan, Answer::Merged(names))),
         Err(failed) => refused(failed),
     }
+}
+
+// What `changes` wants.
+fn changes_step<H: Shelf>(
+    alloc: Global,
+    host: &Host,
+    class: Extension,
+    force: bool,
+    shelf: &mut H,
+) -> Result<Intent, PlanErr>
+    requires valid { IsValidHost host.now }
+    requires serves { ServesHost (H.serves shelf.old) host.now }
+    ensures wants { IfOk result (ChangesWants host.now (H.told shelf.old) class force) }
+    ensures stays { H.stays shelf.old shelf.new }
+    ensures count { H.faults shelf.old ≤ H.faults shelf.new }
+    ensures cause { IfErr result (ViewCause (IsViewFile host.now class (commands.Changes force)) host.now (H.told shelf.old)
+        (H.faults shelf.old) (H.faults shelf.new)) }
+{
+    match view_changes(alloc, host, class, force, shelf) {
+        Ok(list) => Ok(Intent::Answers(Answer::Changes(list))),
+        Err(failed) => refused(failed),
+    }
+}
+
+// What `explain` wants.
+fn explain_step<H: Shelf>(
+    alloc: Global,
+    host: &Host,
+    class: Extension,
+    force: bool,
+    path: &Path,
+    shelf: &mut H,
+) -> Result<Intent, PlanErr>
+    requires valid { IsValidHost host.now }
+    requires serves { ServesHost (H.serves shelf.old) host.now }
+    ensures wants { IfOk result (ExplainWants host.now (H.told shelf.old) class force path.now) }
+    ensures stays { H.stays shelf.old shelf.new }
+    ensures count { H.faults shelf.old ≤ H.faults shelf.new }
+    ensures cause { IfErr result (ViewCause (IsViewFile host.now class (commands.Explain force path.now)) host.now (H.told shelf.old)
+        (H.faults shelf.old) (H.faults shelf.new)) }
+{
+    match explain(alloc, host, class, force, path, shelf) {
+        Ok(origins) => Ok(Intent::Answers(Answer::Explained(origins))),
+        Err(ExplainErr::NoEntry) => Ok(no_entry(path)?),
+        Err(ExplainErr::Survey(failed)) => refused(failed),
+    }
+}
+
+// The refusal of a path at which there is nothing.
+fn no_entry(path: &Path) -> Result<Intent, OutOfMemory>
+    ensures { IfOk result (λ intent. intent ≡ Refuses (NoEntry path.now)) }
+{
+    let path = path.copy()?;
+    Ok(Intent::Refuses(Refusal::NoEntry { path }))
 }
 
 // What `unmerge` wants.

@@ -15,6 +15,8 @@ returns c =
       one_survey = c.there_is_one_survey.ensures;
       not_both = c.a_file_has_a_release_or_a_faulty_line.ensures.not_both;
       one_fault = c.a_file_has_a_release_or_a_faulty_line.ensures.one_fault;
+      one_lines = c.there_is_one_answer.ensures.lines;
+      one_changes = c.there_is_one_answer.ensures.changes;
     } in
     let updates : UpdateLaws = record {
       one_features = c.a_component_has_its_features_or_a_first_fault.ensures;
@@ -25,5 +27,7 @@ returns c =
       one_versions = c.an_ascending_list_is_one.ensures.versions;
       one_choice = c.there_is_one_choice.ensures;
       one_components = c.one_component_list.ensures;
+      one_update = c.one_thing_is_wanted.ensures.update;
+      one_vacuum = c.one_thing_is_wanted.ensures.vacuum;
     } in
     one_intent texts surveys updates
