@@ -1,6 +1,6 @@
 -- What a command that touches no path related to one wants of a host: another host whose base has the same at and below that path,
 -- and whose installed manifest of that path is the same.
-use Rattle.std.proofs.Common.{◌≡◌, ℕ, zero, suc, Bool, true, false, cond, not, ◌&&◌, ◌||◌, if◌then◌else◌, List, [], ◌∷◌, ◌++◌, inl, inr, Option, Some, None, is_some, Ok, refl, sym, ap, ◌∙◌, subst, arith}
+use Rattle.std.proofs.Common.{◌≡◌, ◌==◌, ℕ, zero, suc, Bool, true, false, cond, not, ◌&&◌, ◌||◌, if◌then◌else◌, List, [], ◌∷◌, ◌++◌, inl, inr, Option, Some, None, is_some, Ok, refl, sym, ap, ◌∙◌, subst, arith}
 use Rattle.std.specs.Prelude.{Contains}
 use Rattle.std.specs.List.{filter}
 use Rattle.std.specs.Ordering.{eq_by_cmp}
@@ -9,7 +9,7 @@ use Rattle.std.proofs.Math.Bool.{or_comm}
 use Rattle.std.proofs.lemmas.Bool.{and_parts, false_from_ne_true, false≢true, true≢false}
 use Rattle.ext_lines.specs.ByteOrder.{bytes_cmp}
 use Rattle.ext_text.specs.Path.{are_related, is_prefix, path_cmp}
-use Rattle.ext_text.specs.SortedPaths.{meets}
+use Rattle.ext_text.specs.SortedPaths.{is_among, meets}
 use Rattle.ext_text.specs.declared.arch.Arch.{Arch}
 use Rattle.ext_text.specs.declared.extension.Extension.{Extension}
 use Rattle.ext_text.specs.declared.extension.Extension.TheVariants as extensions
@@ -25,17 +25,34 @@ use Rattle.ext_tree.specs.Tree.{Entries, is_directory, lookup}
 use Rattle.ext_tree.specs.declared.entry.Entry.{Entry}
 use Rattle.ext_tree.specs.declared.entry.Entry.TheVariants.{Dir, Opaque, File, Link, Hide}
 use Rattle.ext_tree.specs.declared.stamp.Stamp.{Stamp}
-use Rattle.ext_tree.proofs.ForCallers.{find-join, grafted_apart, is_cut, lookup_where}
+use Rattle.ext_tree.proofs.ForCallers.{find-join, grafted_apart, is_cut, lookup_where, prefix_split}
 use Rattle.ext_host.specs.Held.{HeldFile}
 use Rattle.ext_host.specs.Host.{IsBase, base_at, hierarchies_in, is_in, merged_hierarchies, present}
 use Rattle.ext_host.specs.Limits.{passed_limit}
 use Rattle.ext_host.specs.ReadOnly.{is_read_only}
-use Rattle.ext_host.specs.Shelf.{Told}
-use Rattle.ext_host.specs.Valid.{IsValidHost}
+use Rattle.ext_host.specs.Planning.{IsBaseTree, IsPlannedHost}
+use Rattle.ext_host.specs.Shelf.{Told, stored}
+use Rattle.ext_host.specs.Valid.{HasItems, IsValidHost}
 use Rattle.ext_host.specs.declared.home.Home.{Home}
 use Rattle.ext_host.specs.declared.host.Host.{Host}
 use Rattle.ext_host.specs.declared.host.Plan.{Plan}
 use Rattle.ext_host.specs.declared.manifest.Manifest.{Manifest}
+use Rattle.ext_host.specs.declared.past.Past.{Past}
+use Rattle.ext_updated.specs.Pieces.{piece_at}
+use Rattle.ext_updated.specs.declared.piece.Piece.{Piece}
+use Rattle.ext_updated.proofs.ForCallers.{any_among}
+use Rattle.ext_update.specs.Laws.{StandsAsBefore}
+use Rattle.ext_update.specs.Stages.{Writes, items_of, touched_by}
+use Rattle.ext_update.specs.Steps.{IfUpdated, IfVacuumed}
+use Rattle.ext_update.specs.Update as updating
+use Rattle.ext_update.specs.Update.{writes_of}
+use Rattle.ext_update.specs.Vacuum.{VacuumWants, no_writes}
+use Rattle.ext_update.specs.declared.planned.Update.{Update}
+use Rattle.ext_update.specs.declared.planned.Update.TheVariants as updated
+use Rattle.ext_update.specs.declared.planned.Vacuum.{Vacuum}
+use Rattle.ext_update.specs.declared.planned.Vacuum.TheVariants as vacuumed
+use Rattle.ext_update.specs.declared.updates.Updates.{Updates}
+use Rattle.ext_update.proofs.ForCallers.{manifests_are_kept, other_parts_stay, resources_stand, untouched_stand, update_writes, vacuum_removes}
 use Rattle.ext_gen.specs.Opened.{Generation}
 use Rattle.ext_gen.specs.Store.{State, at, none}
 use Rattle.ext_view.specs.Laws.{MergingKeepsTheBase}
@@ -48,14 +65,18 @@ use Rattle.ext_cmd.specs.declared.answer.Answer.TheVariants.{Done, Unchanged}
 use Rattle.ext_cmd.specs.declared.command.Chosen.{Chosen}
 use Rattle.ext_cmd.specs.declared.command.Command.{Command}
 use Rattle.ext_cmd.specs.declared.command.Command.TheVariants.{Init, ImportFs, Remove, Sysext, Confext, Tree, Cat, Compare, Check, Layer, Migrate, Batch, Sample, Sysupdate, Components}
+use Rattle.ext_cmd.specs.declared.command.Command.TheVariants.{Mark, History, HistoryChanges, Rollback, Forget}
+use Rattle.ext_cmd.specs.declared.command.UpdateVerb.{UpdateVerb}
+use Rattle.ext_cmd.specs.declared.command.UpdateVerb.TheVariants as verbs
 use Rattle.ext_cmd.specs.declared.command.ViewCommand.{ViewCommand}
 use Rattle.ext_cmd.specs.declared.command.ViewCommand.TheVariants as views
 use Rattle.ext_cmd.specs.declared.refusal.Refusal.TheVariants.{NoEntry, NotDirectory, ReadOnly}
 use Rattle.ext_intents.specs.Cat.{cat_at}
 use Rattle.ext_intents.specs.Change.{changed_at}
-use Rattle.ext_intents.specs.Import.{FittingWants, OpenWants, TextWants, TreeWants, sized, within}
+use Rattle.ext_intents.specs.Import.{FittingImportWants, OpenImportWants, TextWants, TreeWants, sized, within}
 use Rattle.ext_intents.specs.Init.{IsNewHost}
-use Rattle.ext_intents.specs.Intents.{IsFit, IsAnswerOrRefusal}
+use Rattle.ext_intents.specs.Intents.{IsAnswerOrRefusal}
+use Rattle.ext_intents.specs.Marks.{forget_of, mark_in}
 use Rattle.ext_intents.specs.Migrate.{migrate_intent}
 use Rattle.ext_intents.specs.Remove.{remove_intent}
 use Rattle.ext_intents.specs.Step.{WantsFirst, WantsOf}
@@ -63,8 +84,13 @@ use Rattle.ext_intents.specs.Tree.{meant_path, text_below, tree_at, tree_intent}
 use Rattle.ext_intents.specs.Views.{MergeWants, RefreshWants, ViewWants, planned}
 use Rattle.ext_intents.specs.declared.intent.Intent.{Intent}
 use Rattle.ext_intents.specs.declared.intent.Intent.TheVariants.{Answers, Changes, Checks, Refuses, Shows}
-use Rattle.ext_intents.proofs.ForCallers.{components_reply, update_replies}
-use Rattle.ext_top.specs.Untouched.{base_in, installed_in, touched}
+use Rattle.ext_intents.specs.Sysupdate.{VerbWants}
+use Rattle.ext_intents.specs.Updates.{AreUpdates}
+use Rattle.ext_intents.specs.Updating.{ByUpdate, ByVacuum, update_intent, vacuum_intent}
+use Rattle.ext_intents.proofs.ForCallers.{components_reply, history_changes_reply, history_reply, update_replies, view_replies}
+use Rattle.ext_top.specs.Machine.{bytes_at}
+use Rattle.ext_top.specs.Untouched.{CommandTouches, TouchesByVerb, base_in, installed_in}
+use Rattle.ext_top.specs.Updating.{MakesRoomIn, UpdatesHost, writes_in}
 
 -- where another host is wanted, this holds of that one
 abbrev pub IfChanges : (Host → Type 0) → Intent → Type 0
@@ -77,14 +103,6 @@ IfChanges P (Refuses refusal) = Unit {0}
 -- what is wanted is the same
 of_same : (P : Host → Type 0) (a b : Intent) → b ≡ a → IfChanges P a → IfChanges P b
 of_same P a b is holds = subst (IfChanges P) (sym is) holds
-
--- what is fit is valid
-pub fit_is_valid : (coming : ℕ) (seen : Option Host) (intent : Intent) → IsFit coming seen intent → IfChanges IsValidHost intent
-fit_is_valid coming seen (Changes host answer) fit = fit.valid
-fit_is_valid coming seen (Answers answer) fit = tt
-fit_is_valid coming seen Checks fit = tt
-fit_is_valid coming seen (Shows held) fit = tt
-fit_is_valid coming seen (Refuses refusal) fit = tt
 
 -- two paths at or above one are related
 either_true : (x y a b : Bool) → x ≡ true → y ≡ true → (a || b) ≡ true → ((x && a) || (y && b)) ≡ true
@@ -111,10 +129,6 @@ not_below other path q apart below = false_from_ne_true (is_prefix other q) (λ 
 
 not_above : (other path q : List (List ℕ)) → are_related other path ≡ false → is_prefix path q ≡ true → is_prefix q other ≡ false
 not_above other path q apart below = false_from_ne_true (is_prefix q other) (λ over. true≢false (sym (second_related other path (prefix_trans path q other below over)) ∙ apart))
-
-first_apart : (b : Bool) → (b || false) ≡ false → b ≡ false
-first_apart true apart = apart
-first_apart false apart = refl
 
 -- an element that passes a test stays
 more : {X : Type 0} (x : X) (xs : List X) (y : X) → Contains xs y → Contains (x ∷ xs) y
@@ -155,9 +169,82 @@ base_is host =
     both true x y = or_none x
     both false x y = refl
 
+-- what a host that is written over another one has of it, and of what was written
+pub record IsWrittenOver (host next : Host) (writes : Writes) : Type 0 where
+  pub rest : next ≡ record host { root = next.root; kept = next.kept }
+  pub stands : (path : List (List ℕ)) → meets (touched_by (items_of writes)) path ≡ false → StandsAsBefore host.root next.root path
+  pub manifests : IsValidHost next → (manifest : Manifest) → Contains host.kept manifest → meets (touched_by (items_of writes)) manifest.path ≡ false → Contains next.kept manifest
+  pub resources : (piece : Piece HeldFile) → Contains writes.resources piece
+      → ((rest : List (List ℕ)) → lookup next.root (piece.path ++ rest) ≡ piece_at piece rest)
+      × ((manifest : Manifest) × Contains next.kept manifest × (manifest.path ≡ piece.path) × HasItems (λ path. lookup next.root path) manifest)
+
+module _ (g : Generation) (contents : Home → List ℕ) where
+  -- where what is seen is the same, the base of the host that is written is
+  pub writes_base : (next : Host) (writes : Writes) → IsWrittenOver g.host next writes → (q : List (List ℕ)) → lookup next.root q ≡ lookup g.host.root q
+      → base_at (hierarchies_in next) (present next) q ≡ base_in (at g contents) q
+  writes_base next writes wants q same =
+      ap (λ (h : Host). base_at (hierarchies_in h) (present h) q) wants.rest
+      ∙ ap (λ o. if is_in (merged_hierarchies (hierarchies_in g.host) (present g.host)) q then lookup g.host.lower q else o) same
+
+  module _ (files : Option Files) (component : Option (List ℕ)) (base : Entries HeldFile) (updates : Updates) (is : IsBaseTree g.host base)
+      (are : AreUpdates (λ held. stored (bytes_at (at g contents) held.body)) files g.host base component updates) where
+    -- an update that changes the host, and what it writes
+    pub update_changes : (wanted : Option (List ℕ)) (version : List ℕ) (next : Host) → updating.UpdateWants files g.host updates wanted (updated.Changes version next)
+        → (update : UpdatesHost (at g contents) files component wanted) × IsWrittenOver g.host next (writes_in update) × (update.updates ≡ updates) × (update.version ≡ version)
+    update_changes wanted version next wants =
+        let all = update_writes files g.host next updates wanted version wants in (
+          record {
+            updates = updates;
+            finds = record { seen = record { host = g.host; number = g.number; newest = g.text == 2; told = λ held. stored (bytes_at (at g contents) held.body) }; is_seen = refl; base = base; is_base = is; are = are };
+            version = version;
+            next = next;
+            wants = wants;
+            resources = all.0;
+            told = all.2;
+            division = all.1;
+            divides = all.3;
+          },
+          record {
+            rest = other_parts_stay g.host next (writes_of updates version all.0 all.1) all.4;
+            stands = λ path apart. untouched_stand g.host next (writes_of updates version all.0 all.1) path all.4 apart;
+            manifests = λ valid manifest has apart. (manifests_are_kept g.host next (writes_of updates version all.0 all.1) [] all.4 valid tt).kept manifest has apart;
+            resources = λ piece has. resources_stand g.host next (writes_of updates version all.0 all.1) piece all.4 has;
+          },
+          refl,
+          refl,
+        )
+
+    -- room that is made, and what goes for it
+    pub vacuum_changes : (removed : List (List (List ℕ))) (next : Host) → VacuumWants g.host updates (vacuumed.Changes removed next)
+        → (room : MakesRoomIn (at g contents) files component) × IsWrittenOver g.host next (no_writes room.division) × (room.updates ≡ updates)
+    vacuum_changes removed next wants =
+        let all = vacuum_removes g.host next updates removed wants in (
+          record {
+            updates = updates;
+            finds = record { seen = record { host = g.host; number = g.number; newest = g.text == 2; told = λ held. stored (bytes_at (at g contents) held.body) }; is_seen = refl; base = base; is_base = is; are = are };
+            removed = removed;
+            next = next;
+            wants = wants;
+            division = all.0;
+            divides = all.1;
+            all = all.2;
+          },
+          record {
+            rest = other_parts_stay g.host next (no_writes all.0) all.3;
+            stands = λ path apart. untouched_stand g.host next (no_writes all.0) path all.3 apart;
+            manifests = λ valid manifest has apart. (manifests_are_kept g.host next (no_writes all.0) [] all.3 valid tt).kept manifest has apart;
+            resources = λ piece has. resources_stand g.host next (no_writes all.0) piece all.3 has;
+          },
+          refl,
+        )
+
 module _ (path : List (List ℕ)) (g : Generation) (contents : Home → List ℕ) where
   abbrev Stays : Intent → Type 0
   Stays = IfChanges (NextKeeps path (at g contents))
+
+  -- what is told of the host's files
+  abbrev told_here : HeldFile → Told
+  told_here held = stored (bytes_at (at g contents) held.body)
 
   -- a change at a path that is not related
   changed_keeps : (other : List (List ℕ)) (root : Entries HeldFile) → are_related other path ≡ false
@@ -182,14 +269,14 @@ module _ (path : List (List ℕ)) (g : Generation) (contents : Home → List ℕ
   within_keeps next None keeps = keeps
   within_keeps next (Some which) keeps = tt
 
-  fitting_keeps : (resource other : List (List ℕ)) (es : Entries Stamp) (intent : Intent) → are_related other path ≡ false → FittingWants g.host resource other es intent → Stays intent
+  fitting_keeps : (resource other : List (List ℕ)) (es : Entries Stamp) (intent : Intent) → are_related other path ≡ false → FittingImportWants g.host resource other es intent → Stays intent
   fitting_keeps resource other es intent apart (inl (fit, (root, grafted, is))) =
       let next = changed_at g.host other root in
       of_same (NextKeeps path (at g contents)) (sized next) intent is
       (within_keeps next (passed_limit next.root next.lower) (changed_keeps other root apart (graft_apart other _ root grafted)))
   fitting_keeps resource other es intent apart (inr (large, is)) = of_same (NextKeeps path (at g contents)) _ intent is tt
 
-  open_keeps : (resource other : List (List ℕ)) (es : Entries Stamp) (intent : Intent) → are_related other path ≡ false → OpenWants g.host resource other es intent → Stays intent
+  open_keeps : (resource other : List (List ℕ)) (es : Entries Stamp) (intent : Intent) → are_related other path ≡ false → OpenImportWants g.host resource other es intent → Stays intent
   open_keeps resource other es intent apart (inl (free, wants)) = fitting_keeps resource other es intent apart wants
   open_keeps resource other es intent apart (inr (over, under, is)) = of_same (NextKeeps path (at g contents)) _ intent is tt
 
@@ -216,6 +303,62 @@ module _ (path : List (List ℕ)) (g : Generation) (contents : Home → List ℕ
           | false ↦ changed_keeps other (cut other g.host.root) apart (λ q out _. cut_apart other q out)
         ]
       ]
+
+  -- `sysupdate`
+  none_meets : (ps : List (List (List ℕ))) → ((other : List (List ℕ)) → is_among ps other ≡ true → are_related other path ≡ false) → meets ps path ≡ false
+  none_meets ps apart = false_from_ne_true (meets ps path) (λ met. let a = any_among (λ p. are_related p path) ps met in true≢false (sym a.2 ∙ apart a.0 a.1))
+
+  writes_keep : (next : Host) (writes : Writes) → IsWrittenOver g.host next writes → IsValidHost next → meets (touched_by (items_of writes)) path ≡ false → NextKeeps path (at g contents) next
+  writes_keep next writes wants valid apart =
+      let stands = wants.stands path apart in
+      record {
+        base = λ q below.
+            let split = prefix_split path q below in
+            writes_base g contents next writes wants q (ap (lookup next.root) split ∙ stands _ ∙ sym (ap (lookup g.host.root) split));
+        installed = λ manifest is has. wants.manifests valid manifest has (subst (λ p. meets (touched_by (items_of writes)) p ≡ false) (sym is) apart);
+      }
+
+  module _ (files : Option Files) (component : Option (List ℕ)) (base : Entries HeldFile) (updates : Updates) (is : IsBaseTree g.host base) (are : AreUpdates told_here files g.host base component updates) where
+    updated_keeps : (wanted : Option (List ℕ)) (update : Update) → ((other : List (List ℕ)) → TouchesByVerb (at g contents) files component (verbs.Update wanted) other → are_related other path ≡ false)
+        → updating.UpdateWants files g.host updates wanted update → IfUpdated (IsPlannedHost g.host) update → Stays (update_intent wanted update)
+    updated_keeps wanted updated.Unchanged apart wants plans_it = tt
+    updated_keeps wanted (updated.Changes version next) apart wants plans_it =
+        let all = update_changes g contents files component base updates is are wanted version next wants in
+        writes_keep next (writes_in all.0) all.1 plans_it.valid (none_meets (touched_by (items_of (writes_in all.0))) (λ other among. apart other (all.0, among)))
+    updated_keeps wanted (updated.Refused reason) apart wants plans_it = tt
+
+    by_update_keeps : (wanted : Option (List ℕ)) (intent : Intent) → ((other : List (List ℕ)) → TouchesByVerb (at g contents) files component (verbs.Update wanted) other → are_related other path ≡ false)
+        → ByUpdate files g.host wanted updates intent → Stays intent
+    by_update_keeps wanted intent apart (update, wants, plans_it, same) = of_same (NextKeeps path (at g contents)) _ intent same (updated_keeps wanted update apart wants plans_it)
+
+    vacuumed_keeps : (vacuum : Vacuum) → ((other : List (List ℕ)) → TouchesByVerb (at g contents) files component verbs.Vacuum other → are_related other path ≡ false)
+        → VacuumWants g.host updates vacuum → IfVacuumed (IsPlannedHost g.host) vacuum → Stays (vacuum_intent vacuum)
+    vacuumed_keeps vacuumed.Unchanged apart wants plans_it = tt
+    vacuumed_keeps (vacuumed.Changes removed next) apart wants plans_it =
+        let all = vacuum_changes g contents files component base updates is are removed next wants in
+        writes_keep next (no_writes all.0.division) all.1 plans_it.valid
+        (subst (λ ps. meets ps path ≡ false) all.0.all (none_meets all.0.removed (λ other among. apart other (all.0, among))))
+    vacuumed_keeps (vacuumed.Refused reason) apart wants plans_it = tt
+
+    by_vacuum_keeps : (intent : Intent) → ((other : List (List ℕ)) → TouchesByVerb (at g contents) files component verbs.Vacuum other → are_related other path ≡ false) → ByVacuum g.host updates intent → Stays intent
+    by_vacuum_keeps intent apart (vacuum, wants, plans_it, same) = of_same (NextKeeps path (at g contents)) _ intent same (vacuumed_keeps vacuum apart wants plans_it)
+
+  reply_keeps : (intent : Intent) → IsAnswerOrRefusal intent → Stays intent
+  reply_keeps (Changes next answer) replies = absurd replies
+  reply_keeps (Answers answer) replies = tt
+  reply_keeps Checks replies = tt
+  reply_keeps (Shows held) replies = tt
+  reply_keeps (Refuses refusal) replies = tt
+
+  verb_keeps : (files : Option Files) (component : Option (List ℕ)) (verb : UpdateVerb) (intent : Intent) → ((other : List (List ℕ)) → TouchesByVerb (at g contents) files component verb other → are_related other path ≡ false)
+      → VerbWants g.host told_here files component verb intent → Stays intent
+  verb_keeps files component verbs.List intent apart wants = reply_keeps intent (update_replies g.host told_here files component verbs.List intent tt wants)
+  verb_keeps files component verbs.CheckNew intent apart wants = reply_keeps intent (update_replies g.host told_here files component verbs.CheckNew intent tt wants)
+  verb_keeps files component (verbs.Update wanted) intent apart (base, is, inl (updates, are, by)) = by_update_keeps files component base updates is are wanted intent apart by
+  verb_keeps files component (verbs.Update wanted) intent apart (base, is, inr (refusal, lacking, same)) = of_same (NextKeeps path (at g contents)) _ intent same tt
+  verb_keeps files component verbs.Vacuum intent apart (base, is, inl (updates, are, by)) = by_vacuum_keeps files component base updates is are intent apart by
+  verb_keeps files component verbs.Vacuum intent apart (base, is, inr (refusal, lacking, same)) = of_same (NextKeeps path (at g contents)) _ intent same tt
+  verb_keeps files component verbs.Features intent apart wants = reply_keeps intent (update_replies g.host told_here files component verbs.Features intent tt wants)
 
   -- commands on extensions
   kept_with : (class : Extension) (names : Option (List (List ℕ))) (root lower : Entries HeldFile) → (with_view class names root lower g.host).kept ≡ g.host.kept
@@ -259,12 +402,13 @@ module _ (path : List (List ℕ)) (g : Generation) (contents : Home → List ℕ
     unmerge_plan_keeps class (Some plan) unmerges = let base = base_is g.host in merged_keeps class base.0 [] plan.next base.1 unmerges.1
 
     view_keeps : (told : HeldFile → Told) (class : Extension) (view : ViewCommand) (intent : Intent) → ViewWants g.host told class view intent → Stays intent
-    view_keeps told class views.List intent (base, is, inl (items, surveyed, found)) = of_same (NextKeeps path (at g contents)) _ intent found tt
-    view_keeps told class views.List intent (base, is, inr (refusal, why, refuses)) = of_same (NextKeeps path (at g contents)) _ intent refuses tt
-    view_keeps told class views.Status intent is = of_same (NextKeeps path (at g contents)) _ intent is tt
+    view_keeps told class views.List intent wants = reply_keeps intent (view_replies g.host told class views.List intent tt wants)
+    view_keeps told class views.Status intent wants = reply_keeps intent (view_replies g.host told class views.Status intent tt wants)
     view_keeps told class (views.Merge force) intent wants = merge_keeps told class force intent wants
     view_keeps told class views.Unmerge intent (plan, unmerges, next, is) = of_same (NextKeeps path (at g contents)) _ intent is (unmerge_plan_keeps class plan unmerges)
     view_keeps told class (views.Refresh force) intent wants = refresh_keeps told class force intent wants
+    view_keeps told class (views.Changes force) intent wants = reply_keeps intent (view_replies g.host told class (views.Changes force) intent tt wants)
+    view_keeps told class (views.Explain force other) intent wants = reply_keeps intent (view_replies g.host told class (views.Explain force other) intent tt wants)
 
     -- commands that want no other host
     tree_at_keeps : (other : List (List ℕ)) (entry : Option (Entry HeldFile)) → Stays (tree_at g.host other entry)
@@ -286,31 +430,34 @@ module _ (path : List (List ℕ)) (g : Generation) (contents : Home → List ℕ
     migrate_keeps : (newest : Bool) → Stays (migrate_intent g.host newest)
     migrate_keeps newest = elim newest as (λ b. Stays (if b then Answers Unchanged else Changes g.host Done)) [ true ↦ tt | false ↦ same_keeps ]
 
-    reply_keeps : (intent : Intent) → IsAnswerOrRefusal intent → Stays intent
-    reply_keeps (Changes next answer) replies = absurd replies
-    reply_keeps (Answers answer) replies = tt
-    reply_keeps Checks replies = tt
-    reply_keeps (Shows held) replies = tt
-    reply_keeps (Refuses refusal) replies = tt
+    -- commands of marks
+    forget_keeps : (number : ℕ) (found : Option Past) → Stays (forget_of g.host number found)
+    forget_keeps number None = tt
+    forget_keeps number (Some mark) = record { base = λ q below. refl; installed = λ manifest is has. has }
 
     -- each command
-    pub wants_keep : (newest : Bool) (told : HeldFile → Told) (files : Option Files) (command : Command) (intent : Intent) → meets (touched command) path ≡ false
-        → WantsOf (record { host = g.host; newest = newest; told = told }) files command intent → Stays intent
-    wants_keep newest told files (Init arch scope hierarchies) intent apart is = of_same (NextKeeps path (at g contents)) _ intent is tt
-    wants_keep newest told files (ImportFs resource other) intent apart (found, text, wants) = text_keeps resource other found intent (first_apart (are_related other path) apart) wants
-    wants_keep newest told files (Remove other) intent apart is = of_same (NextKeeps path (at g contents)) _ intent is (remove_keeps other (first_apart (are_related other path) apart))
-    wants_keep newest told files (Sysext view) intent apart wants = view_keeps told extensions.Sysext view intent wants
-    wants_keep newest told files (Confext view) intent apart wants = view_keeps told extensions.Confext view intent wants
-    wants_keep newest told files (Tree other) intent apart is = of_same (NextKeeps path (at g contents)) _ intent is (tree_text_keeps (meant_path other))
-    wants_keep newest told files (Cat other) intent apart is = of_same (NextKeeps path (at g contents)) _ intent is (cat_keeps other (lookup g.host.root other))
-    wants_keep newest told files (Compare a b) intent apart is = of_same (NextKeeps path (at g contents)) _ intent is tt
-    wants_keep newest told files Check intent apart is = of_same (NextKeeps path (at g contents)) _ intent is tt
-    wants_keep newest told files Layer intent apart is = absurd is
-    wants_keep newest told files Migrate intent apart is = of_same (NextKeeps path (at g contents)) _ intent is (migrate_keeps newest)
-    wants_keep newest told files Batch intent apart is = absurd is
-    wants_keep newest told files (Sample images) intent apart is = absurd is
-    wants_keep newest told files (Sysupdate component verb) intent apart wants = reply_keeps intent (update_replies g.host told files component verb intent wants)
-    wants_keep newest told files Components intent apart wants = reply_keeps intent (components_reply g.host intent wants)
+    pub wants_keep : (files : Option Files) (command : Command) (intent : Intent) → ((other : List (List ℕ)) → CommandTouches (at g contents) files command other → are_related other path ≡ false)
+        → WantsOf (record { host = g.host; number = g.number; newest = g.text == 2; told = told_here }) files command intent → Stays intent
+    wants_keep files (Init arch scope hierarchies) intent apart is = of_same (NextKeeps path (at g contents)) _ intent is tt
+    wants_keep files (ImportFs resource other) intent apart (found, text, wants) = text_keeps resource other found intent (apart other refl) wants
+    wants_keep files (Remove other) intent apart is = of_same (NextKeeps path (at g contents)) _ intent is (remove_keeps other (apart other refl))
+    wants_keep files (Sysext view) intent apart wants = view_keeps told_here extensions.Sysext view intent wants
+    wants_keep files (Confext view) intent apart wants = view_keeps told_here extensions.Confext view intent wants
+    wants_keep files (Tree other) intent apart is = of_same (NextKeeps path (at g contents)) _ intent is (tree_text_keeps (meant_path other))
+    wants_keep files (Cat other) intent apart is = of_same (NextKeeps path (at g contents)) _ intent is (cat_keeps other (lookup g.host.root other))
+    wants_keep files (Compare a b) intent apart is = of_same (NextKeeps path (at g contents)) _ intent is tt
+    wants_keep files Check intent apart is = of_same (NextKeeps path (at g contents)) _ intent is tt
+    wants_keep files Layer intent apart is = absurd is
+    wants_keep files Migrate intent apart is = of_same (NextKeeps path (at g contents)) _ intent is (migrate_keeps (g.text == 2))
+    wants_keep files Batch intent apart is = absurd is
+    wants_keep files (Sample images) intent apart is = absurd is
+    wants_keep files (Sysupdate component verb) intent apart wants = verb_keeps files component verb intent apart wants
+    wants_keep files Components intent apart wants = reply_keeps intent (components_reply g.host intent wants)
+    wants_keep files (Mark keep) intent apart wants = of_same (NextKeeps path (at g contents)) _ intent wants.1 (record { base = λ q below. refl; installed = λ manifest is has. has })
+    wants_keep files History intent apart wants = reply_keeps intent (history_reply g.host intent wants)
+    wants_keep files (HistoryChanges mark) intent apart wants = reply_keeps intent (history_changes_reply g.host mark intent wants)
+    wants_keep files (Rollback mark) intent apart is = let touched : are_related [] path ≡ false = apart [] tt in absurd (true≢false touched)
+    wants_keep files (Forget mark) intent apart is = of_same (NextKeeps path (at g contents)) _ intent is (forget_keeps mark (mark_in mark g.host.past))
 
 -- a new host has nothing in its base, and no manifest was installed before
 bare : (b : Bool) (root lower : Entries HeldFile) (q : List (List ℕ)) → root ≡ [] → lower ≡ [] → (if b then lookup lower q else lookup root q) ≡ None
@@ -340,3 +487,8 @@ first_wants_keep path Batch intent is = absurd is
 first_wants_keep path (Sample images) intent is = absurd is
 first_wants_keep path (Sysupdate component verb) intent is = of_same (NextKeeps path none) _ intent is tt
 first_wants_keep path Components intent is = of_same (NextKeeps path none) _ intent is tt
+first_wants_keep path (Mark keep) intent is = of_same (NextKeeps path none) _ intent is tt
+first_wants_keep path History intent is = of_same (NextKeeps path none) _ intent is tt
+first_wants_keep path (HistoryChanges mark) intent is = of_same (NextKeeps path none) _ intent is tt
+first_wants_keep path (Rollback mark) intent is = of_same (NextKeeps path none) _ intent is tt
+first_wants_keep path (Forget mark) intent is = of_same (NextKeeps path none) _ intent is tt

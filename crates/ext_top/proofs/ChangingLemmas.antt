@@ -1,5 +1,5 @@
 -- A command that may change nothing wants no other host, so a run of it leaves the disk as it was.
-use Rattle.std.proofs.Common.{◌≡◌, ℕ, Bool, true, false, List, [], ◌∷◌, inl, inr, Option, Some, None, Result, refl, sym, ◌∙◌, ap, subst, if◌then◌else◌, arith}
+use Rattle.std.proofs.Common.{◌≡◌, ℕ, Bool, true, false, List, [], ◌∷◌, inl, inr, Option, Some, None, Result, refl, sym, ◌∙◌, ap, subst, if◌then◌else◌}
 use Rattle.ext_text.specs.declared.extension.Extension.{Extension}
 use Rattle.ext_text.specs.declared.extension.Extension.TheVariants as extensions
 use Rattle.ext_disk.specs.Disk.{BothTold, DiskState, Told}
@@ -16,6 +16,9 @@ use Rattle.ext_gen.specs.Opened.{Generation}
 use Rattle.ext_cmd.proofs.ForCallers.{one_command}
 use Rattle.ext_cmd.specs.declared.command.Command.{Command}
 use Rattle.ext_cmd.specs.declared.command.Command.TheVariants.{Init, ImportFs, Remove, Sysext, Confext, Tree, Cat, Compare, Check, Layer, Migrate, Batch, Sample, Sysupdate, Components}
+use Rattle.ext_cmd.specs.declared.command.Command.TheVariants.{Mark, History, HistoryChanges, Rollback, Forget}
+use Rattle.ext_cmd.specs.declared.command.UpdateVerb.{UpdateVerb}
+use Rattle.ext_cmd.specs.declared.command.UpdateVerb.TheVariants as verbs
 use Rattle.ext_cmd.specs.declared.command.ViewCommand.{ViewCommand}
 use Rattle.ext_cmd.specs.declared.command.ViewCommand.TheVariants as views
 use Rattle.ext_cmd.specs.declared.answer.Answer.TheVariants as answers
@@ -24,12 +27,12 @@ use Rattle.ext_intents.specs.Cat.{cat_at}
 use Rattle.ext_intents.specs.Intents.{IsAnswerOrRefusal, Seen}
 use Rattle.ext_intents.specs.Step.{Wants, WantsFirst, WantsOf}
 use Rattle.ext_intents.specs.Tree.{meant_path, text_below, tree_at, tree_intent}
-use Rattle.ext_intents.specs.Views.{ListWants, ViewWants}
+use Rattle.ext_intents.specs.Views.{ViewWants}
 use Rattle.ext_intents.specs.declared.intent.Intent.{Intent}
 use Rattle.ext_intents.specs.declared.intent.Intent.TheVariants.{Answers, Changes, Checks, Refuses, Shows}
-use Rattle.ext_intents.proofs.ForCallers.{components_reply, update_replies}
+use Rattle.ext_intents.proofs.ForCallers.{IsReplying, IsReplyingView, components_reply, history_changes_reply, history_reply, update_replies, view_replies}
 use Rattle.ext_top.specs.Applying.{seen_on}
-use Rattle.ext_top.specs.Changing.{StaysUnlessChanging, may_change, may_view_change}
+use Rattle.ext_top.specs.Changing.{StaysUnlessChanging, may_change, may_verb_change, may_view_change}
 use Rattle.ext_top.specs.Chain.{LinesRun, RunsOn}
 use Rattle.ext_top.specs.Devices.{DeviceStates, StoreSide, store_side_of}
 use Rattle.ext_top.specs.Exits.{does}
@@ -61,23 +64,33 @@ no_next_of_cat path (Some (File mode held)) = refl
 no_next_of_cat path (Some (Link target)) = refl
 no_next_of_cat path (Some Hide) = refl
 
-no_next_of_list : (host : Host) (told : HeldFile → ToldFile) (class : Extension) (intent : Intent) → ListWants host told class intent → next_of intent ≡ None
-no_next_of_list host told class intent (base, is, inl (items, survey, same)) = ap next_of same
-no_next_of_list host told class intent (base, is, inr (refusal, why, same)) = ap next_of same
-
-no_next_of_view : (host : Host) (told : HeldFile → ToldFile) (class : Extension) (view : ViewCommand) (intent : Intent) → may_view_change view ≡ false → ViewWants host told class view intent → next_of intent ≡ None
-no_next_of_view host told class views.List intent reads wants = no_next_of_list host told class intent wants
-no_next_of_view host told class views.Status intent reads wants = ap next_of wants
-no_next_of_view host told class (views.Merge force) intent reads wants = cc
-no_next_of_view host told class views.Unmerge intent reads wants = cc
-no_next_of_view host told class (views.Refresh force) intent reads wants = cc
-
 no_next_of_reply : (intent : Intent) → IsAnswerOrRefusal intent → next_of intent ≡ None
 no_next_of_reply (Changes next answer) replies = absurd replies
 no_next_of_reply (Answers answer) replies = refl
 no_next_of_reply Checks replies = refl
 no_next_of_reply (Shows held) replies = refl
 no_next_of_reply (Refuses refusal) replies = refl
+
+-- a command of a class that may change nothing only replies
+is_view_replying : (view : ViewCommand) → may_view_change view ≡ false → IsReplyingView view
+is_view_replying views.List reads = tt
+is_view_replying views.Status reads = tt
+is_view_replying (views.Merge force) reads = cc
+is_view_replying views.Unmerge reads = cc
+is_view_replying (views.Refresh force) reads = cc
+is_view_replying (views.Changes force) reads = tt
+is_view_replying (views.Explain force path) reads = tt
+
+no_next_of_view : (host : Host) (told : HeldFile → ToldFile) (class : Extension) (view : ViewCommand) (intent : Intent) → may_view_change view ≡ false → ViewWants host told class view intent → next_of intent ≡ None
+no_next_of_view host told class view intent reads wants = no_next_of_reply intent (view_replies host told class view intent (is_view_replying view reads) wants)
+
+-- a verb that may change nothing only replies
+is_replying : (verb : UpdateVerb) → may_verb_change verb ≡ false → IsReplying verb
+is_replying verbs.List reads = tt
+is_replying verbs.CheckNew reads = tt
+is_replying (verbs.Update wanted) reads = cc
+is_replying verbs.Vacuum reads = cc
+is_replying verbs.Features reads = tt
 
 no_next_seen : (seen : Seen) (files : Option Files) (command : Command) (intent : Intent) → may_change command ≡ false → WantsOf seen files command intent → next_of intent ≡ None
 no_next_seen seen files (Init arch scope hierarchies) intent reads wants = cc
@@ -93,8 +106,13 @@ no_next_seen seen files Layer intent reads wants = absurd wants
 no_next_seen seen files Migrate intent reads wants = cc
 no_next_seen seen files Batch intent reads wants = absurd wants
 no_next_seen seen files (Sample images) intent reads wants = absurd wants
-no_next_seen seen files (Sysupdate component verb) intent reads wants = no_next_of_reply intent (update_replies seen.host seen.told files component verb intent wants)
+no_next_seen seen files (Sysupdate component verb) intent reads wants = no_next_of_reply intent (update_replies seen.host seen.told files component verb intent (is_replying verb reads) wants)
 no_next_seen seen files Components intent reads wants = no_next_of_reply intent (components_reply seen.host intent wants)
+no_next_seen seen files (Mark keep) intent reads wants = cc
+no_next_seen seen files History intent reads wants = no_next_of_reply intent (history_reply seen.host intent wants)
+no_next_seen seen files (HistoryChanges mark) intent reads wants = no_next_of_reply intent (history_changes_reply seen.host mark intent wants)
+no_next_seen seen files (Rollback mark) intent reads wants = cc
+no_next_seen seen files (Forget mark) intent reads wants = cc
 
 no_next_first : (command : Command) (intent : Intent) → may_change command ≡ false → WantsFirst command intent → next_of intent ≡ None
 no_next_first (Init arch scope hierarchies) intent reads wants = cc
@@ -112,6 +130,11 @@ no_next_first Batch intent reads wants = absurd wants
 no_next_first (Sample images) intent reads wants = absurd wants
 no_next_first (Sysupdate component verb) intent reads wants = ap next_of wants
 no_next_first Components intent reads wants = ap next_of wants
+no_next_first (Mark keep) intent reads wants = cc
+no_next_first History intent reads wants = ap next_of wants
+no_next_first (HistoryChanges mark) intent reads wants = ap next_of wants
+no_next_first (Rollback mark) intent reads wants = cc
+no_next_first (Forget mark) intent reads wants = cc
 
 no_next : (seen : Option Seen) (files : Option Files) (command : Command) (intent : Intent) → may_change command ≡ false → Wants seen files command intent → next_of intent ≡ None
 no_next None files command intent reads wants = no_next_first command intent reads wants
@@ -142,7 +165,7 @@ store_stays command old new status reads (inr closed) = stays_told old.disk.told
 
 stays_itself : (x : Option Told) → BothTold StaysTold x x
 stays_itself None = tt
-stays_itself (Some d) = record { now = λ p. refl; appended = omega arith }
+stays_itself (Some d) = record { now = λ p. refl; appended = refl }
 
 left_alone : (old new : DeviceStates) → new.disk ≡ old.disk → BothTold StaysTold old.disk.told new.disk.told
 left_alone old new same = subst (λ disk. BothTold StaysTold old.disk.told disk.told) (sym same) (stays_itself old.disk.told)
@@ -164,6 +187,11 @@ batch_changes Batch is = refl
 batch_changes (Sample images) is = cc
 batch_changes (Sysupdate component verb) is = cc
 batch_changes Components is = cc
+batch_changes (Mark keep) is = cc
+batch_changes History is = cc
+batch_changes (HistoryChanges mark) is = cc
+batch_changes (Rollback mark) is = cc
+batch_changes (Forget mark) is = cc
 
 kind_stays : (kind : Kind) (command : Command) (old new : DeviceStates) (status : Status) → run_kind command ≡ kind → RunsKind kind command old new status → may_change command ≡ false → BothTold StaysTold old.disk.told new.disk.told
 kind_stays alone command old new status is runs reads = left_alone old new runs.disk

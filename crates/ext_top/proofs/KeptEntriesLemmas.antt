@@ -55,26 +55,6 @@ module _ (old : Stored) (depot : DepotState) (n : ℕ) where
   stays_at None b is kept = is
   stays_at (Some e) b (f, next, written, placed, is) kept = is ∙ ap Some (entry_stays e next f written placed kept)
 
-  -- with its home a file is kept
-  body_kept : (held : HeldFile) (body : Body) (next : ℕ) (placed : HeldFile) (written : List (List ℕ)) → held.body ≡ body → IsBodyPlaced old depot n held body next placed written → (home : Home) × (placed.body ≡ Kept home)
-  body_kept held (Here bytes) next placed written same (home, takes, is) = (home, ap (λ (h : HeldFile). h.body) is)
-  body_kept held (Kept home) next placed written same is = (home, ap (λ (h : HeldFile). h.body) is.0 ∙ same)
-  body_kept held (Depot path) next placed written same (home, takes, is) = (home, ap (λ (h : HeldFile). h.body) is)
-
-  entry_kept : (e : Entry HeldFile) (next : ℕ) (f : Entry HeldFile) (written : List (List ℕ)) (mode : ℕ) (held : HeldFile) → IsEntryPlaced old depot n e next f written → f ≡ File mode held → (home : Home) × (held.body ≡ Kept home)
-  entry_kept (Dir m) next f written mode held (is, nothing) same = let both : Dir m ≡ File mode held = sym is ∙ same in cc
-  entry_kept (Opaque m) next f written mode held (is, nothing) same = let both : Opaque m ≡ File mode held = sym is ∙ same in cc
-  entry_kept (File m h) next f written mode held (placed, is, at) same =
-      let both : File m placed ≡ File mode held = sym at ∙ same in
-      let one : placed ≡ held = cc in
-      subst (λ (x : HeldFile). (home : Home) × (x.body ≡ Kept home)) one (body_kept h h.body next placed written refl is)
-  entry_kept (Link target) next f written mode held (is, nothing) same = let both : Link target ≡ File mode held = sym is ∙ same in cc
-  entry_kept Hide next f written mode held (is, nothing) same = let both : Hide ≡ File mode held = sym is ∙ same in cc
-
-  pub kept_at : (a b : Option (Entry HeldFile)) → PlacedAt a b → IsKeptAt b
-  kept_at None b is mode held found = absurd (none_is (File mode held) (sym is ∙ found))
-  kept_at (Some e) b (f, next, written, placed, is) mode held found = entry_kept e next f written mode held placed (some_is f (File mode held) (sym is ∙ found))
-
   -- what the base has, with homes for the host's files
   pub base_placed : (host new : Host) (written : List (List ℕ)) (q : List (List ℕ)) → IsHostPlaced old depot n host new written
       → PlacedAt (base_at (hierarchies_in host) (present host) q) (base_at (hierarchies_in new) (present new) q)
@@ -84,3 +64,10 @@ module _ (old : Stored) (depot : DepotState) (n : ℕ) where
         | true ↦ lookup_placed host.lower (0 + length first) lower rest q two
         | false ↦ lookup_placed host.root 0 root first q one
       ])
+
+  -- what is seen at a path, and what lies under it, of a new host
+  pub root_placed : (host new : Host) (written : List (List ℕ)) (q : List (List ℕ)) → IsHostPlaced old depot n host new written → PlacedAt (lookup host.root q) (lookup new.root q)
+  root_placed host new written q (root, lower, (first, rest, one, two, parts), is) = subst (λ (h : Host). PlacedAt (lookup host.root q) (lookup h.root q)) (sym is) (lookup_placed host.root 0 root first q one)
+
+  pub lower_placed : (host new : Host) (written : List (List ℕ)) (q : List (List ℕ)) → IsHostPlaced old depot n host new written → PlacedAt (lookup host.lower q) (lookup new.lower q)
+  lower_placed host new written q (root, lower, (first, rest, one, two, parts), is) = subst (λ (h : Host). PlacedAt (lookup host.lower q) (lookup h.lower q)) (sym is) (lookup_placed host.lower (0 + length first) lower rest q two)

@@ -32,3 +32,6 @@ pub mod KeptEntriesLemmas
 pub mod BaseStaysLemmas
 pub mod WayLemmas
 pub mod UntouchedLemmas
+pub mod VersionsLemmas
+pub mod ReturningLemmas
+pub mod MarkingLemmas

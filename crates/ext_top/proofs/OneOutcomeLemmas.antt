@@ -83,8 +83,12 @@ not_taken old depot files n refusal held path next home written told body why ta
     by_refusal (refusals.BadTransfer line cause file) why is bytes there stamped = why
     by_refusal (refusals.BadManifest line place) why is bytes there stamped = why
     by_refusal refusals.NoneNewer why is bytes there stamped = why
+    by_refusal (refusals.NoSuchVersion v) why is bytes there stamped = why
+    by_refusal (refusals.NoRoom count name) why is bytes there stamped = why
+    by_refusal (refusals.Clash place) why is bytes there stamped = why
     by_refusal (refusals.BadFeature line cause file) why is bytes there stamped = why
     by_refusal refusals.NoneOn why is bytes there stamped = why
+    by_refusal (refusals.NoMark generation) why is bytes there stamped = why
 
 in_depot : (depot : DepotState) (refusal : Refusal) (held : HeldFile) → WhyNot depot refusal held → (path : List (List ℕ)) × (held.body ≡ Depot path)
 in_depot depot (refusals.NotInDepot path) held why = (path, why.body)
@@ -104,8 +108,12 @@ in_depot depot refusals.NoTransfers held why = absurd why
 in_depot depot (refusals.BadTransfer line cause file) held why = absurd why
 in_depot depot (refusals.BadManifest line place) held why = absurd why
 in_depot depot refusals.NoneNewer held why = absurd why
+in_depot depot (refusals.NoSuchVersion v) held why = absurd why
+in_depot depot (refusals.NoRoom count name) held why = absurd why
+in_depot depot (refusals.Clash place) held why = absurd why
 in_depot depot (refusals.BadFeature line cause file) held why = absurd why
 in_depot depot refusals.NoneOn held why = absurd why
+in_depot depot (refusals.NoMark generation) held why = absurd why
 
 module _ (old : Stored) (depot : DepotState) (files : Files) (told : depot.contents ≡ Some files) (n : ℕ) where
   -- such a file isn't placed
@@ -204,8 +212,12 @@ module _ (depot : DepotState) (files : Files) (told : depot.contents ≡ Some fi
   why_once (refusals.NotInDepot p) (refusals.BadTransfer line why file) x y = absurd y
   why_once (refusals.NotInDepot p) (refusals.BadManifest line place) x y = absurd y
   why_once (refusals.NotInDepot p) refusals.NoneNewer x y = absurd y
+  why_once (refusals.NotInDepot p) (refusals.NoSuchVersion v) x y = absurd y
+  why_once (refusals.NotInDepot p) (refusals.NoRoom count name) x y = absurd y
+  why_once (refusals.NotInDepot p) (refusals.Clash place) x y = absurd y
   why_once (refusals.NotInDepot p) (refusals.BadFeature line why file) x y = absurd y
   why_once (refusals.NotInDepot p) refusals.NoneOn x y = absurd y
+  why_once (refusals.NotInDepot p) (refusals.NoMark generation) x y = absurd y
   why_once (refusals.Mismatch p listed found) refusals.NoStore x y = absurd y
   why_once (refusals.Mismatch p listed found) refusals.StoreExists x y = absurd y
   why_once (refusals.Mismatch p listed found) refusals.Merged x y = absurd y
@@ -221,8 +233,12 @@ module _ (depot : DepotState) (files : Files) (told : depot.contents ≡ Some fi
   why_once (refusals.Mismatch p listed found) (refusals.BadTransfer line why file) x y = absurd y
   why_once (refusals.Mismatch p listed found) (refusals.BadManifest line place) x y = absurd y
   why_once (refusals.Mismatch p listed found) refusals.NoneNewer x y = absurd y
+  why_once (refusals.Mismatch p listed found) (refusals.NoSuchVersion v) x y = absurd y
+  why_once (refusals.Mismatch p listed found) (refusals.NoRoom count name) x y = absurd y
+  why_once (refusals.Mismatch p listed found) (refusals.Clash place) x y = absurd y
   why_once (refusals.Mismatch p listed found) (refusals.BadFeature line why file) x y = absurd y
   why_once (refusals.Mismatch p listed found) refusals.NoneOn x y = absurd y
+  why_once (refusals.Mismatch p listed found) (refusals.NoMark generation) x y = absurd y
   why_once refusals.NoStore y why wherefore = absurd why
   why_once refusals.StoreExists y why wherefore = absurd why
   why_once refusals.Merged y why wherefore = absurd why
@@ -238,8 +254,12 @@ module _ (depot : DepotState) (files : Files) (told : depot.contents ≡ Some fi
   why_once (refusals.BadTransfer line cause file) y why wherefore = absurd why
   why_once (refusals.BadManifest line place) y why wherefore = absurd why
   why_once refusals.NoneNewer y why wherefore = absurd why
+  why_once (refusals.NoSuchVersion v) y why wherefore = absurd why
+  why_once (refusals.NoRoom count name) y why wherefore = absurd why
+  why_once (refusals.Clash place) y why wherefore = absurd why
   why_once (refusals.BadFeature line cause file) y why wherefore = absurd why
   why_once refusals.NoneOn y why wherefore = absurd why
+  why_once (refusals.NoMark generation) y why wherefore = absurd why
 
 module _ (t : Tree) (s : State) (stands : Stands t s) (files : Files) where
   has_bytes : HasBytes (stored_of s) (contents_of s)
@@ -271,8 +291,12 @@ module _ (t : Tree) (s : State) (stands : Stands t s) (files : Files) where
   why_refused host (refusals.BadTransfer line why file) refused = absurd refused
   why_refused host (refusals.BadManifest line place) refused = absurd refused
   why_refused host refusals.NoneNewer refused = absurd refused
+  why_refused host (refusals.NoSuchVersion v) refused = absurd refused
+  why_refused host (refusals.NoRoom count name) refused = absurd refused
+  why_refused host (refusals.Clash place) refused = absurd refused
   why_refused host (refusals.BadFeature line why file) refused = absurd refused
   why_refused host refusals.NoneOn refused = absurd refused
+  why_refused host (refusals.NoMark generation) refused = absurd refused
 
   some_none : (which : Which) (o : Option Which) → o ≡ Some which → o ≡ None → ⊥
   some_none which o is free = let wrong : Some which ≡ None = sym is ∙ free in cc

@@ -8,7 +8,7 @@ use Rattle.ext_host.specs.declared.host.Host.{Host}
 use Rattle.ext_store_files.specs.Names.{current_path, generation_path, next_path}
 use Rattle.ext_store_files.specs.Removal.{AtMost}
 use Rattle.ext_store_files.specs.Writing.{is_at}
-use Rattle.ext_store_files.proofs.ForCallers.{told_map, told_same, told_then}
+use Rattle.ext_store_files.proofs.ForCallers.{told_map, told_same, told_then, within_most, within_none}
 use Rattle.ext_store_files.specs.declared.fault.StoreFault.TheVariants as store_faults
 use Rattle.ext_store_files.specs.LeftOvers.{most_left_overs}
 use Rattle.ext_homes.specs.Giving.{stored_by}
@@ -62,8 +62,8 @@ both_told A B (Some d) (Some e) one two = (one, two)
 
 switches : (from : Option Generation) (next : Host) (c d e : Told) → Works from next c d × FewStood from c d → SwitchesNow d e → ReplacesTold from next c e
 switches from next c d e (works, stood) now =
-    let few = works.appended in
-    let none = now.appended in
+    let few = within_most (most_bytes_of (coming_number from) next) c.appended d.appended works.appended in
+    let same = within_none d.appended e.appended now.appended in
     record {
       now = λ p. switched_at from next c.places d.places e.places p (is_switched p) refl (now.now p) (works.now p);
       few = few_stood (is_left from) c.places e.places stood;
@@ -77,7 +77,7 @@ switches_told from next x y z works few now =
 -- where it did not come to that
 pub unswitched_told : (from : Option Generation) (next : Host) (x y : Option Told) → BothTold (Works from next) x y → BothTold (FewWent from) x y → BothTold (ReplacesTold from next) x y
 unswitched_told from next x y works few =
-    told_map (λ d e. Works from next d e × FewWent from d e) (ReplacesTold from next) (λ d e w. record { now = λ p. changes (w.0.now p); few = w.1; appended = w.0.appended }) x y
+    told_map (λ d e. Works from next d e × FewWent from d e) (ReplacesTold from next) (λ d e w. record { now = λ p. changes (w.0.now p); few = w.1; appended = within_most (most_bytes_of (coming_number from) next) d.appended e.appended w.0.appended }) x y
     (both_told (Works from next) (FewWent from) x y works few)
 
 stood_went : (from : Option Generation) (x y : Option Told) → BothTold (FewStood from) x y → BothTold (FewWent from) x y
@@ -106,9 +106,11 @@ switched_met from coming written None (Some e) z cleans told now = absurd told
 switched_met from coming written (Some d) None z cleans told now = absurd told
 switched_met from coming written (Some d) (Some e) None cleans told now = absurd now
 switched_met from coming written (Some d) (Some e) (Some f) cleans told now =
-    let few = told.appended in
-    let none = now.appended in
-    record { few = cleans; generations = λ m is there. told.generations m is (ap is_some (sym (now.now (generation_path m) refl)) ∙ there); appended = omega arith }
+    record {
+      few = cleans;
+      generations = λ m is there. told.generations m is (ap is_some (sym (now.now (generation_path m) refl)) ∙ there);
+      appended = within_none e.appended f.appended now.appended ∙ told.appended;
+    }
 
 pub replaced_met : (from : Option Generation) (next : Host) (answer : Answer) (coming : Generation) (old mid new : DiskState) (depot : DepotState) → Cleans {T = Generation} (is_left from) (Ok coming) old mid → Prepares from next old mid depot coming
     → BothTold SwitchesNow mid.told new.told → Met (Changes next answer) from old new depot None (Some coming)

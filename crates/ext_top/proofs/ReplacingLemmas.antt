@@ -58,13 +58,13 @@ among_more a b trees tree (k, lt, is) = (suc (suc k), omega arith, is)
 more_of : {X : Type 0} (x : X) (xs : List X) (y : X) → Contains xs y → Contains (x ∷ xs) y
 more_of x xs y (k, lt, is) = (suc k, omega arith, is)
 
-root_among : (pasts : List Past) (past : Past) → Contains pasts past → Contains (trees_of_pasts pasts) past.root
+pub root_among : (pasts : List Past) (past : Past) → Contains pasts past → Contains (trees_of_pasts pasts) past.root
 root_among [] past (k, lt, is) = absurd (omega arith)
 root_among (p ∷ pasts) past (zero, lt, is) = (zero, omega arith, ap (λ (x : Past). x.root) is)
 root_among (p ∷ pasts) past (suc k, lt, is) =
     among_more p.root p.lower (trees_of_pasts pasts) past.root (root_among pasts past (k, omega arith, is))
 
-lower_among : (pasts : List Past) (past : Past) → Contains pasts past → Contains (trees_of_pasts pasts) past.lower
+pub lower_among : (pasts : List Past) (past : Past) → Contains pasts past → Contains (trees_of_pasts pasts) past.lower
 lower_among [] past (k, lt, is) = absurd (omega arith)
 lower_among (p ∷ pasts) past (zero, lt, is) = (suc zero, omega arith, ap (λ (x : Past). x.lower) is)
 lower_among (p ∷ pasts) past (suc k, lt, is) =
@@ -91,7 +91,7 @@ host_among coming host past tree (stays has) (inr is) =
 host_among coming host past tree (marks number root lower) (inl is) = (zero, omega arith, sym (is ∙ root))
 host_among coming host past tree (marks number root lower) (inr is) = (suc zero, omega arith, sym (is ∙ lower))
 
-of_past : (coming : ℕ) (host : Host) (pasts : List Past) (held : HeldFile) → ArePasts coming (Some host) pasts → IsFileOf (trees_of_pasts pasts) held → IsFileOf (trees_of host) held
+pub of_past : (coming : ℕ) (host : Host) (pasts : List Past) (held : HeldFile) → ArePasts coming (Some host) pasts → IsFileOf (trees_of_pasts pasts) held → IsFileOf (trees_of host) held
 of_past coming host pasts held are file =
     let of = one_of pasts file.tree file.among in
     record { tree = file.tree; among = host_among coming host of.0 file.tree (are of.0 of.1) of.2; file = file.file }

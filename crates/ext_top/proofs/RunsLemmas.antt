@@ -17,7 +17,8 @@ use Rattle.ext_intents.specs.Layer.{LayersWant, LayerWants}
 use Rattle.ext_io.specs.Whole.{Stopped}
 use Rattle.ext_io.specs.declared.whole.ReadErr.{ReadErr}
 use Rattle.ext_io.specs.declared.whole.ReadErr.TheVariants as reads
-use Rattle.ext_cmd.specs.declared.command.Command.TheVariants.{Layer, Sample}
+use Rattle.ext_cmd.specs.declared.command.Command.TheVariants.{Init, ImportFs, Remove, Sysext, Confext, Tree, Cat, Compare, Check, Layer, Migrate, Batch, Sample, Sysupdate, Components}
+use Rattle.ext_cmd.specs.declared.command.Command.TheVariants.{Mark, History, HistoryChanges, Rollback, Forget}
 use Rattle.ext_intents.specs.declared.intent.Intent.{Intent}
 use Rattle.ext_intents.specs.declared.intent.Intent.TheVariants.{Answers, Refuses}
 use Rattle.ext_top.specs.Alone.{AloneWants, IsAlone, reads_source, status_of_refusal}
@@ -112,3 +113,26 @@ command_runs words command old new OutOfMemory formed same runs = inr (record { 
 command_runs words command old new (BadStore why) formed same runs = record { command = command; well_formed = formed; same = same; runs = runs }
 command_runs words command old new Unfinished formed same runs = record { command = command; well_formed = formed; same = same; runs = runs }
 command_runs words command old new TooLong formed same runs = record { command = command; well_formed = formed; same = same; runs = runs }
+
+-- a command that is none of these is one over a store
+pub one_line_kind : (command : Command) → ((a b : List ℕ) → command ≡ Compare a b → ⊥) → (command ≡ Layer → ⊥) → (command ≡ Batch → ⊥) → ((images : ℕ) → command ≡ Sample images → ⊥) → run_kind command ≡ one_line
+one_line_kind (Init arch scope hierarchies) compare layer batch sample = refl
+one_line_kind (ImportFs resource path) compare layer batch sample = refl
+one_line_kind (Remove path) compare layer batch sample = refl
+one_line_kind (Sysext view) compare layer batch sample = refl
+one_line_kind (Confext view) compare layer batch sample = refl
+one_line_kind (Tree path) compare layer batch sample = refl
+one_line_kind (Cat path) compare layer batch sample = refl
+one_line_kind Check compare layer batch sample = refl
+one_line_kind Migrate compare layer batch sample = refl
+one_line_kind (Sysupdate component verb) compare layer batch sample = refl
+one_line_kind Components compare layer batch sample = refl
+one_line_kind (Mark keep) compare layer batch sample = refl
+one_line_kind History compare layer batch sample = refl
+one_line_kind (HistoryChanges mark) compare layer batch sample = refl
+one_line_kind (Rollback mark) compare layer batch sample = refl
+one_line_kind (Forget mark) compare layer batch sample = refl
+one_line_kind (Compare a b) compare layer batch sample = absurd (compare a b refl)
+one_line_kind Layer compare layer batch sample = absurd (layer refl)
+one_line_kind Batch compare layer batch sample = absurd (batch refl)
+one_line_kind (Sample images) compare layer batch sample = absurd (sample images refl)

@@ -1,5 +1,5 @@
 -- The lines of a sample, carried out one after another on a disk in memory, and what the state comes to that they leave.
-use Rattle.std.proofs.Common.{◌≡◌, ℕ, ◌+◌, true, false, List, [], ◌∷◌, ◌++◌, inl, inr, Option, Some, None, Result, Ok, refl, sym, ap, ◌∙◌, subst, append_assoc, codes}
+use Rattle.std.proofs.Common.{◌≡◌, ℕ, true, false, List, [], ◌∷◌, ◌++◌, inl, inr, Option, Some, None, Result, Ok, refl, sym, ap, ◌∙◌, subst, append_assoc, codes}
 use Rattle.ext_lines.specs.Words.{words_of}
 use Rattle.ext_text.specs.declared.arch.Arch.TheVariants.{X86_64}
 use Rattle.ext_text.specs.declared.scope.Scope.TheVariants.{System}

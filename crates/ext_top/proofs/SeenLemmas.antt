@@ -25,7 +25,7 @@ use Rattle.ext_gen.specs.Opened.{Generation, IsOpened}
 use Rattle.ext_gen.specs.Preparing.{is_left}
 use Rattle.ext_gen.specs.Store.{Points, State, none, at, Stands, generation_in}
 use Rattle.ext_gen.specs.Sound.{IsDurably}
-use Rattle.ext_gen.proofs.ForCallers.{opened_is_served, opened_is_valid, stands_since_wider}
+use Rattle.ext_gen.proofs.ForCallers.{opened_is_served, opened_is_valid, opened_is_valid_for, stands_since_wider}
 use Rattle.ext_find.specs.HostRelease.{ShelfFault}
 use Rattle.ext_cmd.specs.declared.command.Command.{Command}
 use Rattle.ext_intents.specs.Causes.{StepCause}
@@ -34,7 +34,8 @@ use Rattle.ext_intents.specs.Step.{TellAlike, Wants, WantsFirst, WantsOf}
 use Rattle.ext_intents.specs.declared.intent.Intent.{Intent}
 use Rattle.ext_intents.specs.declared.plan_err.PlanErr.{PlanErr}
 use Rattle.ext_intents.specs.declared.plan_err.PlanErr.TheVariants as plan_errors
-use Rattle.ext_intents.proofs.ForCallers.{wants_alike, wants_fit}
+use Rattle.ext_intents.specs.Marks.{AreBefore}
+use Rattle.ext_intents.proofs.ForCallers.{marks_before, wants_alike, wants_fit}
 use Rattle.ext_top.specs.Applying.{AppliesEnds, AppliesTold, ApplyCause, IsPassed, IsShownReply, PointsAs, RestCause, SeeCause, of_plan, apply_err_of_shelf, seen_on}
 use Rattle.ext_top.specs.Machine.{Comes, Outcome, Step, bytes_at, seen_in}
 use Rattle.ext_top.specs.declared.applied.Applied.{Applied}
@@ -67,7 +68,7 @@ wants_of_state g d disk files command intent opened told wants (at h contents) i
     let same : g ≡ h = let one : Some h ≡ Some g = is in cc in
     let here = subst IsOpened same opened in
     let seen = subst (λ x. Wants (seen_on (Some x) disk) files command intent) same wants in
-    wants_alike h.host (λ held. body_told disk held.body) (λ held. stored (bytes_at (at h contents) held.body)) (told_alike h contents d disk here told durably.stands) (h.text == 2) files command intent seen
+    wants_alike h.host (λ held. body_told disk held.body) (λ held. stored (bytes_at (at h contents) held.body)) (told_alike h contents d disk here told durably.stands) h.number (h.text == 2) files command intent seen
 
 first_of_state : (d : Told) (files : Option Files) (command : Command) (intent : Intent) → WantsFirst command intent → (s : State) → generation_in s ≡ None → IsDurably s d.places → Wants (seen_in s) files command intent
 first_of_state d files command intent wants none is durably = wants
@@ -182,10 +183,18 @@ opened_serves g host same opened =
     })
 
 -- what is wanted of its host is what is wanted of what is seen, and fit for it
-pub step_wants : (g : Generation) (disk : DiskState) (files : Option Files) (command : Command) (intent : Intent) (host : Host) (text : ℕ) → host ≡ g.host → text ≡ g.text
-    → WantsOf (record { host = host; newest = text == 2; told = λ held. body_told disk held.body }) files command intent → Wants (seen_on (Some g) disk) files command intent
-step_wants g disk files command intent host text same number wants = subst (λ h. WantsOf (record { host = h; newest = g.text == 2; told = λ held. body_told disk held.body }) files command intent) same
-    (subst (λ n. WantsOf (record { host = host; newest = n == 2; told = λ held. body_told disk held.body }) files command intent) number wants)
+pub step_wants : (g : Generation) (disk : DiskState) (files : Option Files) (command : Command) (intent : Intent) (host : Host) (number text : ℕ) → host ≡ g.host → number ≡ g.number → text ≡ g.text
+    → WantsOf (record { host = host; number = number; newest = text == 2; told = λ held. body_told disk held.body }) files command intent → Wants (seen_on (Some g) disk) files command intent
+step_wants g disk files command intent host number text same generation form wants =
+    subst (λ h. WantsOf (record { host = h; number = g.number; newest = g.text == 2; told = λ held. body_told disk held.body }) files command intent) same
+    (subst (λ n. WantsOf (record { host = host; number = n; newest = g.text == 2; told = λ held. body_told disk held.body }) files command intent) generation
+    (subst (λ n. WantsOf (record { host = host; number = number; newest = n == 2; told = λ held. body_told disk held.body }) files command intent) form wants))
+
+-- its marks are of generations before its own
+pub opened_before : (g : Generation) (host : Host) (number : ℕ) → host ≡ g.host → number ≡ g.number → IsOpened g → AreBefore number host.past
+opened_before g host number same generation opened =
+    subst (λ n. AreBefore n host.past) (sym generation)
+    (subst (λ (h : Host). AreBefore g.number h.past) (sym same) (marks_before g.number g.host.past (opened_is_valid_for g opened).past))
 
 pub step_fits : (g : Generation) (disk : DiskState) (files : Option Files) (command : Command) (intent : Intent) → IsOpened g → Wants (seen_on (Some g) disk) files command intent → IsFit (g.number + 1) (Some g.host) intent
-step_fits g disk files command intent opened wants = wants_fit (g.number + 1) (record { host = g.host; newest = g.text == 2; told = λ held. body_told disk held.body }) files command intent (opened_is_valid g opened) wants
+step_fits g disk files command intent opened wants = wants_fit (record { host = g.host; number = g.number; newest = g.text == 2; told = λ held. body_told disk held.body }) files command intent (opened_is_valid g opened) wants

@@ -1,5 +1,6 @@
 -- What a command does to a disk, and what it met on the way: over a disk that was only read before, or that was opened.
-use Rattle.std.proofs.Common.{◌≡◌, ℕ, ◌==◌, Bool, List, [], ◌∷◌, ◌++◌, inl, inr, Option, Some, None, is_some, IfOk, IfSome, Result, Ok, Err, refl, sym, ap, ◌∙◌, subst, arith}
+use Rattle.std.proofs.Common.{◌≡◌, ℕ, ◌+◌, ◌==◌, Bool, List, [], ◌∷◌, ◌++◌, length, inl, inr, Option, Some, None, is_some, IfOk, IfSome, Result, Ok, Err, refl, sym, ap, ◌∙◌, subst, arith}
+use Rattle.std.specs.List.{sum_by}
 use Rattle.ext_text.proofs.ForCallers.{all_weaker}
 use Rattle.ext_depot.specs.Depot.{DepotState, Files}
 use Rattle.ext_io.specs.SinkState.{SinkState}
@@ -11,11 +12,12 @@ use Rattle.ext_host.specs.declared.body.Body.{Body}
 use Rattle.ext_host.specs.declared.body.Body.TheVariants.{Here, Kept, Depot}
 use Rattle.ext_host.specs.declared.damage.Damage.{Damage}
 use Rattle.ext_host.specs.declared.host.Host.{Host}
+use Rattle.ext_store_files.specs.Appended.{raised}
 use Rattle.ext_store_files.specs.Copying.{IsMissing, IsReadStamp}
 use Rattle.ext_store_files.specs.HeldFiles.{IsListed, body_told, node_told, told_at}
-use Rattle.ext_store_files.specs.Names.{home_path}
+use Rattle.ext_store_files.specs.Names.{current_text, home_path}
 use Rattle.ext_store_files.specs.Removal.{AllStand, AtMost}
-use Rattle.ext_store_files.proofs.ForCallers.{told_map, told_same, told_then}
+use Rattle.ext_store_files.proofs.ForCallers.{told_map, told_same, told_then, within_none, within_same}
 use Rattle.ext_store_files.specs.LeftOvers.{most_left_overs}
 use Rattle.ext_homes.specs.Giving.{stored_by}
 use Rattle.ext_homes.specs.Placed.{brought_told}
@@ -24,6 +26,7 @@ use Rattle.ext_gen.specs.Checking.{IsAsListed, files_of_host}
 use Rattle.ext_gen.specs.Opened.{Generation}
 use Rattle.ext_gen.specs.Opening.{KeepsNow}
 use Rattle.ext_gen.specs.Preparing.{coming_number, host_before, is_left}
+use Rattle.ext_gen.specs.PreparingIndex.{coming_index}
 use Rattle.ext_gen.specs.PreparingPaths.{gone, is_gone, made, stays}
 use Rattle.ext_cmd.specs.declared.command.Command.{Command}
 use Rattle.ext_cmd.specs.declared.refusal.Refusal.{Refusal}
@@ -34,31 +37,31 @@ use Rattle.ext_intents.specs.declared.intent.Intent.{Intent}
 use Rattle.ext_intents.specs.declared.intent.Intent.TheVariants.{Changes, Answers, Checks, Shows, Refuses}
 use Rattle.ext_top.specs.Applying.{seen_on}
 use Rattle.ext_top.specs.Machine.{IsMismatch, IsNotThere}
-use Rattle.ext_top.specs.Working.{AppliedSo, AreListed, FindsDamage, HasMet, IsDamagedFor, IsReplyTo, Met, ReadsDamage, RefusesChange, StopsChange, ReplacedTold, ReplacesAt, ReplacesTold, StaysTold, WantsOn, WorksFor, WorksAsWanted, WritesMet, changes, current, refused_by}
+use Rattle.ext_top.specs.Working.{AppliedSo, AreAllAsListed, FindsDamage, HasMet, IsDamagedFor, IsReplyTo, Met, ReadsDamage, RefusesChange, StopsChange, ReplacedTold, ReplacesAt, ReplacesTold, StaysTold, WantsOn, WorksFor, WorksAsWanted, WritesMet, changes, current, refused_by}
 use Rattle.ext_top.specs.declared.applied.Applied.{Applied}
 use Rattle.ext_top.specs.declared.apply_err.ApplyErr.{ApplyErr}
 use Rattle.ext_top.proofs.PlacedLemmas.{Alike, damaged_alike, host_alike, stops_alike}
 use Rattle.ext_top.proofs.StoredLemmas.{depot_alike}
 
 keeps_itself : (d : Told) → KeepsNow d d
-keeps_itself d = record { now = λ p out. refl; appended = omega arith }
+keeps_itself d = record { now = λ p out. refl; appended = within_same 0 d.appended d.appended refl }
 
 -- so it is of one that was only read
 pub reading_keeps : (old mid : DiskState) → mid.told ≡ old.told → BothTold KeepsNow old.told mid.told
 reading_keeps old mid same = told_same KeepsNow keeps_itself old.told mid.told same
 
 keeps_stays : (d e : Told) → KeepsNow d e → StaysTold d e
-keeps_stays d e keeps = let few = keeps.appended in record { now = λ p. keeps.now p refl; appended = omega arith }
+keeps_stays d e keeps = record { now = λ p. keeps.now p refl; appended = within_none d.appended e.appended keeps.appended }
 
 pub stays_told : (x y : Option Told) → BothTold KeepsNow x y → BothTold StaysTold x y
 stays_told x y keeps = told_map KeepsNow StaysTold keeps_stays x y keeps
 
 -- and so it is of what stays afterwards
 pub stays_since : (c d e : Told) → KeepsNow c d → StaysTold d e → StaysTold c e
-stays_since c d e keeps still =
-    let few = keeps.appended in
-    let more = still.appended in
-    record { now = λ p. still.now p ∙ keeps.now p refl; appended = omega arith }
+stays_since c d e keeps still = record {
+  now = λ p. still.now p ∙ keeps.now p refl;
+  appended = still.appended ∙ within_none c.appended d.appended keeps.appended;
+}
 
 replaces_at_since : (from : Option Generation) (next : Host) (c d e : Places) (p : List (List ℕ)) → (d p).node ≡ (c p).node → ReplacesAt from next d e p → ReplacesAt from next c e p
 replaces_at_since from next c d e p same (changes (stays is)) = changes (stays (is ∙ same))
@@ -75,7 +78,7 @@ few_before left c d keeps few ps stand = few ps (record { distinct = stand.disti
 
 replaces_since : (from : Option Generation) (next : Host) (c d e : Told) → KeepsNow c d → ReplacesTold from next d e → ReplacesTold from next c e
 replaces_since from next c d e keeps replaces =
-    let few = keeps.appended in
+    let same = within_none c.appended d.appended keeps.appended in
     let more = replaces.appended in
     record {
       now = λ p. replaces_at_since from next c.places d.places e.places p (keeps.now p refl) (replaces.now p);
@@ -120,7 +123,7 @@ module _ (old mid : DiskState) (keeps : BothTold KeepsNow old.told mid.told) whe
 
   seen_kept : (from : Option Generation) → seen_on from mid ≡ seen_on from old
   seen_kept None = refl
-  seen_kept (Some g) = λ i. Some (record { host = g.host; newest = g.text == 2; told = λ held. body_kept held.body i })
+  seen_kept (Some g) = λ i. Some (record { host = g.host; number = g.number; newest = g.text == 2; told = λ held. body_kept held.body i })
 
   pub wants_kept : (from : Option Generation) (files : Option Files) (command : Command) (intent : Intent) → WantsOn from mid files command intent → WantsOn from old files command intent
   wants_kept from files command intent wants = subst (λ seen. Wants seen files command intent) (seen_kept from) wants
@@ -133,15 +136,18 @@ module _ (old mid : DiskState) (keeps : BothTold KeepsNow old.told mid.told) whe
     brought = λ body. depot_alike depot later same body;
   }
 
-  listed_kept : (from : Option Generation) → AreListed from mid → AreListed from old
+  listed_kept : (from : Option Generation) → AreAllAsListed from mid → AreAllAsListed from old
   listed_kept None listed = tt
   listed_kept (Some g) listed = all_weaker (IsAsListed mid) (IsAsListed old) (λ held is. subst (λ t. IsListed t held.stamp) (body_kept held.body) is) (files_of_host g.host) listed
 
 replaced_since : (from : Option Generation) (coming : Generation) (written : List (List ℕ)) (c d e : Told) → KeepsNow c d → ReplacedTold from coming written d e → ReplacedTold from coming written c e
 replaced_since from coming written c d e keeps replaced =
-    let few = keeps.appended in
-    let more = replaced.appended in
-    record { few = few_before (is_left from) c d keeps replaced.few; generations = replaced.generations; appended = omega arith }
+    let ours = sum_by length written + (length (coming_index coming.number coming.host) + length (current_text coming.number)) in
+    record {
+      few = few_before (is_left from) c d keeps replaced.few;
+      generations = replaced.generations;
+      appended = replaced.appended ∙ ap (λ k. raised k ours) (within_none c.appended d.appended keeps.appended);
+    }
 
 few_told : (from : Option Generation) (x y : Option Told) → BothTold KeepsNow x y → IfSome y (λ e. AtMost most_left_overs (is_left from) e.places) → IfSome x (λ d. AtMost most_left_overs (is_left from) d.places)
 few_told from None y keeps few = tt
@@ -190,8 +196,12 @@ module _ (from : Option Generation) (next : Host) (old mid : DiskState) (later d
   refused_since (refusals.BadTransfer line why file) refused = absurd refused
   refused_since (refusals.BadManifest line place) refused = absurd refused
   refused_since refusals.NoneNewer refused = absurd refused
+  refused_since (refusals.NoSuchVersion v) refused = absurd refused
+  refused_since (refusals.NoRoom count name) refused = absurd refused
+  refused_since (refusals.Clash place) refused = absurd refused
   refused_since (refusals.BadFeature line why file) refused = absurd refused
   refused_since refusals.NoneOn refused = absurd refused
+  refused_since (refusals.NoMark generation) refused = absurd refused
 
 met_since : (from : Option Generation) (old mid new : DiskState) (later depot : DepotState) (refusal : Option Refusal) (after : Option Generation) → BothTold KeepsNow old.told mid.told → later.contents ≡ depot.contents → (intent : Intent)
     → Met intent from mid new later refusal after → Met intent from old new depot refusal after

@@ -4,6 +4,9 @@ use Rattle.ext_disk.specs.Disk.{BothTold}
 use Rattle.ext_cmd.specs.Words.{IsWellFormed, command_words}
 use Rattle.ext_cmd.specs.declared.command.Command.{Command}
 use Rattle.ext_cmd.specs.declared.command.Command.TheVariants.{Init, ImportFs, Remove, Sysext, Confext, Tree, Cat, Compare, Check, Layer, Migrate, Batch, Sample, Sysupdate, Components}
+use Rattle.ext_cmd.specs.declared.command.Command.TheVariants.{Mark, History, HistoryChanges, Rollback, Forget}
+use Rattle.ext_cmd.specs.declared.command.UpdateVerb.{UpdateVerb}
+use Rattle.ext_cmd.specs.declared.command.UpdateVerb.TheVariants as verbs
 use Rattle.ext_cmd.specs.declared.command.ViewCommand.{ViewCommand}
 use Rattle.ext_cmd.specs.declared.command.ViewCommand.TheVariants as views
 use Rattle.ext_top.specs.Devices.{DeviceStates}
@@ -16,6 +19,16 @@ may_view_change views.Status = false
 may_view_change (views.Merge force) = true
 may_view_change views.Unmerge = true
 may_view_change (views.Refresh force) = true
+may_view_change (views.Changes force) = false
+may_view_change (views.Explain force path) = false
+
+-- a verb of `sysupdate` that may want another host
+abbrev pub may_verb_change : UpdateVerb → Bool
+may_verb_change verbs.List = false
+may_verb_change verbs.CheckNew = false
+may_verb_change (verbs.Update wanted) = true
+may_verb_change verbs.Vacuum = true
+may_verb_change verbs.Features = false
 
 -- a command that may want another host; a batch may, whatever its lines
 abbrev pub may_change : Command → Bool
@@ -32,8 +45,13 @@ may_change Layer = false
 may_change Migrate = true
 may_change Batch = true
 may_change (Sample images) = false
-may_change (Sysupdate component verb) = false
+may_change (Sysupdate component verb) = may_verb_change verb
 may_change Components = false
+may_change (Mark keep) = true
+may_change History = false
+may_change (HistoryChanges mark) = false
+may_change (Rollback mark) = true
+may_change (Forget mark) = true
 
 -- where the words are those of a command that may change nothing, nothing is made, removed or appended, whatever the disk has
 abbrev pub StaysUnlessChanging : List (List ℕ) → DeviceStates → DeviceStates → Type 0

@@ -15,5 +15,7 @@ pub mod Running
 pub mod Sampling
 pub mod Completing
 pub mod Changing
+pub mod Updating
+pub mod Returning
 pub mod Untouched
 pub mod Laws

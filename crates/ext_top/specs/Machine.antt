@@ -62,7 +62,7 @@ bytes_at s (Depot path) = []
 -- its host, where it has one, with the bytes of the host's files
 abbrev pub seen_in : State → Option Seen
 seen_in none = None
-seen_in (at g contents) = Some (record { host = g.host; newest = g.text == 2; told = λ held. stored (bytes_at (at g contents) held.body) })
+seen_in (at g contents) = Some (record { host = g.host; number = g.number; newest = g.text == 2; told = λ held. stored (bytes_at (at g contents) held.body) })
 
 -- the trees of its host; of no host, none
 abbrev pub trees_in : State → List (Entries HeldFile)

@@ -11,6 +11,7 @@ use Rattle.ext_host.specs.Held.{HeldFile}
 use Rattle.ext_host.specs.Shelf.{IsKeptAs, IsTold}
 use Rattle.ext_host.specs.declared.damage.Damage.{Damage}
 use Rattle.ext_host.specs.declared.host.Host.{Host}
+use Rattle.ext_store_files.specs.Appended.{raised}
 use Rattle.ext_store_files.specs.HeldFiles.{IsListed, body_told}
 use Rattle.ext_store_files.specs.Names.{IsGeneration, current_path, current_text, generation_path}
 use Rattle.ext_store_files.specs.Removal.{AtMost}
@@ -46,7 +47,7 @@ use Rattle.ext_top.specs.declared.apply_err.ApplyErr.TheVariants.{Fault, Unfinis
 -- nothing is made, removed or appended
 pub record StaysTold (d e : Told) : Type 0 where
   pub now : (p : List (List ℕ)) → (e.places p).node ≡ (d.places p).node
-  pub appended : e.appended ≤ d.appended
+  pub appended : e.appended ≡ d.appended
 
 -- at a path stands what stood there; or nothing, where it is a left-over's; or it is one at which a change makes something: the
 -- coming generation, its index and its files, with their folders, `next` and `current`
@@ -79,13 +80,13 @@ abbrev pub WorksFor : (Intent → Type 0) → Option Generation → Told → Tol
 WorksFor W from d e = StaysTold d e ⊎ ((intent : Intent) × W intent × WorksAsWanted from (next_of intent) d e)
 
 -- The left-overs were few enough; of generations there is the coming one, and those that are needed; and what was appended is
--- the files that were written, the index, and the line of `next`.
+-- exactly the files that were written, the index, and the line of `next`.
 pub record ReplacedTold (from : Option Generation) (coming : Generation) (written : List (List ℕ)) (d e : Told) : Type 0 where
   pub few : AtMost most_left_overs (is_left from) d.places
   pub generations : (m : ℕ) → IsGeneration m → is_some (e.places (generation_path m)).node ≡ true
       → (m ≡ coming.number) ⊎ (is_needed from m ≡ true)
-  pub appended : e.appended ≤ d.appended
-      + (sum_by length written + (length (coming_index coming.number coming.host) + length (current_text coming.number)))
+  pub appended : e.appended
+      ≡ raised d.appended (sum_by length written + (length (coming_index coming.number coming.host) + length (current_text coming.number)))
 
 -- Another host was put there. Each file that it brings has the least home at which the store has the same bytes, where all that
 -- were compared with it are as listed; or it was written, and the written ones have their numbers in this order.
@@ -110,16 +111,16 @@ RefusesChange from next old depot (Mismatch path listed found) = StopsChange fro
 RefusesChange from next old depot _ = ⊥
 
 -- each file of the host has its stamp, where its bytes are told
-abbrev pub AreListed : Option Generation → DiskState → Type 0
-AreListed None disk = Unit {0}
-AreListed (Some g) disk = AllByRecursion (IsAsListed disk) (files_of_host g.host)
+abbrev pub AreAllAsListed : Option Generation → DiskState → Type 0
+AreAllAsListed None disk = Unit {0}
+AreAllAsListed (Some g) disk = AllByRecursion (IsAsListed disk) (files_of_host g.host)
 
 -- what was met of an intent, by the refusal, if there is one, and by the generation that the store has then
 abbrev pub Met : Intent → Option Generation → DiskState → DiskState → DepotState → Option Refusal → Option Generation → Type 0
 Met (Changes next answer) from old new depot None after = (coming : Generation) × (after ≡ Some coming) × Replaced from next old new depot coming
 Met (Changes next answer) from old new depot (Some refusal) after = (after ≡ from) × RefusesChange from next old depot refusal
 Met (Answers answer) from old new depot refusal after = (after ≡ from) × (refusal ≡ None)
-Met Checks from old new depot refusal after = (after ≡ from) × (refusal ≡ None) × AreListed from old
+Met Checks from old new depot refusal after = (after ≡ from) × (refusal ≡ None) × AreAllAsListed from old
 Met (Shows held) from old new depot refusal after = (after ≡ from) × (refusal ≡ None) × IsListed (body_told old held.body) held.stamp
 Met (Refuses why) from old new depot refusal after = (after ≡ from) × (refusal ≡ Some why)
 

@@ -15,7 +15,7 @@ ghost use Rattle.ext_cmd.specs.Line.{may_be_line};
 ghost use Rattle.ext_top.specs.Machine.{Comes, Counts, Step, bytes_at, checked_text, shows};
 ghost use Rattle.ext_top.specs.Applying.{AppliesTold, ApplyCause, IsShownReply, PointsAs};
 ghost use Rattle.ext_top.specs.Applying.{RestCause, SeeCause, WhereDamaged, WhereUnfinished, seen_on};
-ghost use Rattle.ext_top.specs.Working.{AppliedSo, AreListed, FindsDamage, IsHeldReply, IsReplyTo, IsTextReply, LeavesCurrent};
+ghost use Rattle.ext_top.specs.Working.{AppliedSo, AreAllAsListed, FindsDamage, IsHeldReply, IsReplyTo, IsTextReply, LeavesCurrent};
 ghost use Rattle.ext_top.specs.Working.{Met, ReadsDamage, SeesDamage, WantsOn, WantsWithin, WorksFor, refused_by};
 
 use crate::applied::{Applied, Reply};
@@ -97,7 +97,15 @@ fn intended<D: Disk, P: Depot>(
         Some(opened) => {
             let newest = opened.text() == 2;
             let mut shelf = GenShelf { disk };
-            Ok(step(alloc, command, opened.host(), newest, depot, &mut shelf)?)
+            Ok(step(
+                alloc,
+                command,
+                opened.host(),
+                opened.generation(),
+                newest,
+                depot,
+                &mut shelf,
+            )?)
         }
     }
 }
@@ -153,7 +161,7 @@ fn check_files<D: Disk>(
     requires opened { IfSome opened IsOpened }
     ensures rests { Rests (D.state disk.old) (D.state disk.new) }
     ensures met { IfOk result (λ applied. (applied.opened ≡ opened) × (refused_by applied.reply ≡ None)
-        × AreListed opened (D.state disk.old)) }
+        × AreAllAsListed opened (D.state disk.old)) }
     ensures replies { IfOk result (λ applied. IfSome opened (λ g. IsTextReply (checked_text g.host) applied.reply)) }
     ensures checks { BothTold (AppliesTold (λ s. Counts s) opened result) (D.state disk.old).told (D.state disk.new).told }
     ensures shown { IfOk result (λ applied. IsShownReply opened (D.state disk.old) (D.state disk.new) applied.reply) }

@@ -1,8 +1,8 @@
 //! Laws of the machine, each the contract of a function that does nothing: what holds of every command, state and source.
 ghost use Rattle.ext_top.specs.Exits.{IsOnTheWay};
-ghost use Rattle.ext_top.specs.Laws.{AfterSomeIsOnTheWay, CompareIsDone, DoneLinesLeaveTheStateAfter, OnTheWayIsAfterSome};
-ghost use Rattle.ext_top.specs.Laws.{OneOutcome, OneReply, RefreshLeavesWhatBothLeave, UntouchedManifestsStay};
-ghost use Rattle.ext_top.specs.Laws.{WhatNoLineTouchesStays};
+ghost use Rattle.ext_top.specs.Laws.{AddedVersionsStay, AfterSomeIsOnTheWay, CompareIsDone, DoneLinesLeaveTheStateAfter};
+ghost use Rattle.ext_top.specs.Laws.{MarksAppendTheirIndex, OnTheWayIsAfterSome, OneOutcome, OneReply, ProtectedVersionsStay};
+ghost use Rattle.ext_top.specs.Laws.{RefreshLeavesWhatBothLeave, RollbackGivesWhatWasMarked, UntouchedManifestsStay, WhatNoLineTouchesStays};
 ghost use Rattle.ext_top.specs.Untouched.{After};
 
 use ext_intents::laws::a_command_wants_one_thing;
@@ -54,8 +54,9 @@ pub fn done_lines_leave_the_state_after()
 
 /// What no line touches stays. From a state for which a store stands, lines none of which touches a path that is at, above or
 /// below a path leave the base the same entries at and below that path, and the files there the same bytes, after all of them
-/// and on the way. `import-fs` and `remove` touch their path, and no other command touches any: merging, unmerging and
-/// refreshing change what is seen over the base.
+/// and on the way. `import-fs` and `remove` touch their path. An update that changes the host touches what it writes and what goes
+/// for that, and `vacuum` what goes. A rollback touches every path. No other command touches any: merging, unmerging and refreshing
+/// change what is seen over the base.
 pub fn what_no_line_touches_stays()
     ensures after { WhatNoLineTouchesStays After }
     ensures on_the_way { WhatNoLineTouchesStays IsOnTheWay }
@@ -72,3 +73,35 @@ pub fn untouched_manifests_stay()
 {
     merging_keeps_the_base();
 }
+
+/// Every version that an update added, and that no later line touches, equals its manifest. From a state for which a store stands,
+/// after any lines, a done `sysupdate update` leaves the state as it is, or replies the version that it added. Each resource of that
+/// has a manifest, which lists the files that the depot listed, with their digests. Where no later line touches a path that is at,
+/// above or below the resource's, the manifest stays installed, and the files at and below its path in the base are its items,
+/// after all of the lines and on the way.
+pub fn added_versions_stay()
+    ensures after { AddedVersionsStay After }
+    ensures on_the_way { AddedVersionsStay IsOnTheWay }
+{
+    merging_keeps_the_base();
+}
+
+/// No update and no `vacuum` removes a protected version. From a state for which a store stands, after any lines, a done one leaves
+/// the state as it is, or leaves the same entries in the base, with the same bytes, at and below the path of each instance whose
+/// version its transfer protects.
+pub fn protected_versions_stay()
+    ensures { ProtectedVersionsStay }
+{}
+
+/// A rollback gives back what was marked. From a state for which a store stands, after a done `mark` and any lines, a done rollback to
+/// that mark leaves a host that has at each path what was seen and what lay under that, with the same bytes, and the same merged
+/// names, attachments and manifests. It is refused where the lines dropped the mark.
+pub fn a_rollback_gives_what_was_marked()
+    ensures { RollbackGivesWhatWasMarked }
+{}
+
+/// A done `mark`, `rollback` or `forget` writes no file. On any disk that tells what it holds, what a run says that its line met goes
+/// with this: it appends exactly the index of the coming generation and the line of `next`.
+pub fn marks_append_their_index()
+    ensures { MarksAppendTheirIndex }
+{}

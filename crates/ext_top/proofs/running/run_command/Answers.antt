@@ -1,7 +1,7 @@
-use Rattle.std.proofs.Common.{[], refl}
+use Rattle.std.proofs.Common.{[], refl, rules}
 use Rattle.ext_cmd.specs.declared.command.Command.TheVariants.{Compare}
 use Rattle.ext_intents.specs.Compare.{compare_intent}
-use Rattle.ext_top.proofs.RunsLemmas.{intent_ends, sample_ends}
+use Rattle.ext_top.proofs.RunsLemmas.{intent_ends, one_line_kind, sample_ends}
 use Rattle.ext_top.proofs.running.run_command.Goals as goal
 
 pub returns-in-Compare-clause-runs : goal.returns-in-Compare-clause-runs
@@ -23,3 +23,11 @@ returns-in-Sample-clause-runs g c =
       depot = refl;
       ends = sample_ends c.in-Sample.images source (g.K.Sink.state c.args.devices.now.sink) (g.K.Sink.state c.run_sample.new.sink) c.run_sample.result c.run_sample.ensures.writes;
     })
+
+pub returns-in_default : goal.returns-in_default
+returns-in_default g c =
+    let kind = one_line_kind c.args.command.now c.in_default.not-Compare c.in_default.not-Layer c.in_default.not-Batch c.in_default.not-Sample in
+    record {
+      runs = rw kind (record { source = refl; runs = c.run_single.ensures.runs });
+      counts = search rules;
+    }
