@@ -125,15 +125,46 @@ _hostext_components() {
     done < <(_hostext_run sysupdate components | tail -n +2)
 }
 
+# Replies the versions that are available and not installed.
+_hostext_versions() {
+    local line
+    while IFS= read -r line; do
+        [[ $line != *' available'* || $line == *' installed'* ]] || _hostext_reply "${line%% *}"
+    done < <(_hostext_run sysupdate "$@" list)
+}
+
 _hostext_updates() {
-    if ((${#words[@]} == 6)); then
-        [[ ${words[4]} != --component=* ]] || _hostext_reply list check-new features
-    elif [[ ${words[4]} == --component=* ]]; then
+    local option=()
+    [[ ${words[4]} != --component=* ]] || option=("${words[4]}")
+    if ((${#words[@]} == 6 + ${#option[@]})); then
+        [[ ${words[-2]} != update ]] || _hostext_versions "${option[@]}"
+    elif ((${#words[@]} == 6)); then
+        _hostext_reply list check-new update vacuum features
+    elif ((${#option[@]})); then
         _hostext_components
     else
-        _hostext_reply list check-new features components --component=
+        _hostext_reply list check-new update vacuum features components --component=
         [[ ${words[4]} != -* ]] || _hostext_option -o nospace
     fi
+}
+
+# Replies what may follow the verb of a view.
+_hostext_view() {
+    case ${words[4]} in
+        merge | refresh | changes) _hostext_reply --force ;;
+        explain)
+            _hostext_reply --force
+            _hostext_paths dfl
+            ;;
+    esac
+}
+
+# Replies the marks of the store.
+_hostext_marks() {
+    local mark
+    while IFS= read -r mark; do
+        _hostext_reply "${mark%% *}"
+    done < <(_hostext_run history)
 }
 
 # What may stand after a command, by how many words there are.
@@ -145,9 +176,13 @@ _hostext_arguments() {
         import-fs:6 | tree:5) _hostext_paths d ;;
         remove:5) _hostext_paths dfl ;;
         cat:5) _hostext_paths f ;;
-        sysext:5 | confext:5) _hostext_reply list status merge unmerge refresh ;;
-        sysext:6 | confext:6) [[ ${words[4]} != merge && ${words[4]} != refresh ]] || _hostext_reply --force ;;
-        sysupdate:5 | sysupdate:6) _hostext_updates ;;
+        sysext:5 | confext:5) _hostext_reply list status merge unmerge refresh changes explain ;;
+        sysext:6 | confext:6) _hostext_view ;;
+        sysext:7 | confext:7) [[ ${words[4]} != explain || ${words[5]} != --force ]] || _hostext_paths dfl ;;
+        history:5) _hostext_reply --changes ;;
+        history:6) [[ ${words[4]} != --changes ]] || _hostext_marks ;;
+        rollback:5 | forget:5) _hostext_marks ;;
+        sysupdate:[567]) _hostext_updates ;;
     esac
 }
 
@@ -160,7 +195,7 @@ _hostext() {
             _hostext_option -o filenames -o dirnames
             ((${#words[@]} == 3)) || [[ ${words[1]} != -* ]] || _hostext_reply --help --version
             ;;
-        4) _hostext_reply init import-fs remove sysext confext sysupdate tree cat check migrate compare layer batch sample ;;
+        4) _hostext_reply init import-fs remove sysext confext sysupdate mark history rollback forget tree cat check migrate compare layer batch sample ;;
         *) _hostext_arguments ;;
     esac
 }

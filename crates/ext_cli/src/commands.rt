@@ -1,5 +1,5 @@
 // What is said of each command to a person, and which folders one can't have.
-use ext_cmd::Command;
+use ext_cmd::{Command, UpdateVerb};
 use ext_folder::{Nesting, nesting_of};
 use ext_text::OutOfMemory;
 
@@ -10,7 +10,7 @@ pub(crate) struct Synopsis {
 }
 
 /// One of each command.
-pub(crate) static SYNOPSES: [Synopsis; 14] = [
+pub(crate) static SYNOPSES: [Synopsis; 18] = [
     Synopsis {
         word: "init",
         words: "init ARCH SCOPE [HIERS [HIERS]], where ARCH is x86, x86-64, arm, arm64, riscv64, s390x, ppc64-le or loongarch64, SCOPE is system or initrd, and HIERS are as /usr:/opt",
@@ -25,15 +25,31 @@ pub(crate) static SYNOPSES: [Synopsis; 14] = [
     },
     Synopsis {
         word: "sysext",
-        words: "sysext list, status, merge [--force], unmerge or refresh [--force]",
+        words: "sysext list, status, merge [--force], unmerge, refresh [--force], changes [--force] or explain [--force] PATH, where PATH begins with a slash, and isn't the root",
     },
     Synopsis {
         word: "confext",
-        words: "confext list, status, merge [--force], unmerge or refresh [--force]",
+        words: "confext list, status, merge [--force], unmerge, refresh [--force], changes [--force] or explain [--force] PATH, where PATH begins with a slash, and isn't the root",
     },
     Synopsis {
         word: "sysupdate",
-        words: "sysupdate [--component=NAME] list, check-new or features, or sysupdate components, where sysupdate.NAME.d is a name, and NAME doesn't begin with a dash",
+        words: "sysupdate [--component=NAME] list, check-new, update [VERSION], vacuum or features, or sysupdate components, where sysupdate.NAME.d is a name, NAME doesn't begin with a dash, and VERSION is as 2.0~rc1",
+    },
+    Synopsis {
+        word: "mark",
+        words: "mark [K], where K is 1 to 16",
+    },
+    Synopsis {
+        word: "history",
+        words: "history [--changes G], where G is the number of a generation",
+    },
+    Synopsis {
+        word: "rollback",
+        words: "rollback G, where G is the number of a generation",
+    },
+    Synopsis {
+        word: "forget",
+        words: "forget G, where G is the number of a generation",
     },
     Synopsis {
         word: "tree",
@@ -69,8 +85,8 @@ pub(crate) static SYNOPSES: [Synopsis; 14] = [
     },
 ];
 
-/// How the depot stands to the store folder, where a command reads what stands there, or a line of a batch may: in it or below
-/// it cleaning would take away what is to be read.
+/// How the depot stands to the store folder, where a command reads what stands in the depot, or a line of a batch may: in it or
+/// below it cleaning would take away what is to be read. A `list` cleans nothing, but must not offer what its `update` could not take.
 ///
 /// # Errors
 /// `OutOfMemory` alone.
@@ -80,8 +96,24 @@ pub(crate) fn nesting_for(
     store: &str,
     depot: &str,
 ) -> Result<Nesting, OutOfMemory> {
+    if !reads_depot(command) {
+        return Ok(Nesting::Apart);
+    }
+    nesting_of(rt.alloc(), rt, depot, store)
+}
+
+// Whether a command reads what stands in the depot, or a line of a batch may.
+fn reads_depot(command: &Command) -> bool {
     match command {
-        Command::ImportFs { .. } | Command::Batch => nesting_of(rt.alloc(), rt, depot, store),
-        _ => Ok(Nesting::Apart),
+        Command::ImportFs { .. } | Command::Batch => true,
+        Command::Sysupdate { verb, .. } => verb_reads_depot(verb),
+        _ => false,
+    }
+}
+
+fn verb_reads_depot(verb: &UpdateVerb) -> bool {
+    match verb {
+        UpdateVerb::List | UpdateVerb::CheckNew | UpdateVerb::Update { .. } => true,
+        UpdateVerb::Vacuum | UpdateVerb::Features => false,
     }
 }

@@ -27,16 +27,35 @@ commands:
   sysext unmerge      take the view away
   sysext refresh [--force]
                       merge anew, in one change
+  sysext changes [--force]
+                      write what a refresh would show that the base has not, and
+                      what it would hide or change of that
+  sysext explain [--force] PATH
+                      write which layers of a refresh have an entry at the path,
+                      or hide what is below them there
   confext ..          as sysext, with configuration extensions
   sysupdate [--component=NAME] list
                       write the versions that the host's transfers have
                       installed or may take over from the depot
   sysupdate [--component=NAME] check-new
                       write the version that an update would install
+  sysupdate [--component=NAME] update [VERSION]
+                      install that version or else the newest, and remove the
+                      oldest so that there is room
+  sysupdate [--component=NAME] vacuum
+                      remove the oldest versions that are too many
   sysupdate [--component=NAME] features
                       write which features of transfers are on
   sysupdate components
                       write which components have transfers of their own
+  mark [K]            mark what the host has now, to go back to, and keep the K
+                      youngest marks; K is 1 to 16, by default 16
+  history [--changes G]
+                      write the marks, the youngest first, each with the number
+                      of its generation and how many entries and files it has;
+                      or what has changed since mark G
+  rollback G          go back to mark G
+  forget G            drop mark G
   tree [PATH]         write the tree text of what stands below the path
   cat PATH            write the bytes of a file; links are not followed
   check               compare each file of the store with its digest
