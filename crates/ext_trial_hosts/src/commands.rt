@@ -77,8 +77,8 @@ fn append_command(alloc: Global, text: &mut Text, command: &Command) -> Result<(
             append_at(alloc, text, " ", path)
         }
         Command::Remove { path } => append_at(alloc, text, "Remove ", path),
-        Command::Sysext(view) => append_words(text, &["Sysext ", view_words(*view)]),
-        Command::Confext(view) => append_words(text, &["Confext ", view_words(*view)]),
+        Command::Sysext(view) => append_view(alloc, text, "Sysext ", view),
+        Command::Confext(view) => append_view(alloc, text, "Confext ", view),
         Command::Tree { path: None } => append_str(text, "Tree"),
         Command::Tree { path: Some(path) } => append_at(alloc, text, "Tree ", path),
         Command::Cat { path } => append_at(alloc, text, "Cat ", path),
@@ -87,16 +87,19 @@ fn append_command(alloc: Global, text: &mut Text, command: &Command) -> Result<(
         Command::Layer => append_str(text, "Layer"),
         Command::Migrate => append_str(text, "Migrate"),
         Command::Batch => append_str(text, "Batch"),
-        Command::Sample { images } => {
-            append_str(text, "Sample ")?;
-            append_number(alloc, text, u64::from(*images))
-        }
+        Command::Sample { images } => append_counted(alloc, text, "Sample ", *images),
         Command::Sysupdate { component, verb } => {
             append_str(text, "Sysupdate ")?;
             append_component(text, component)?;
-            append_str(text, update_word(*verb))
+            append_update(text, verb)
         }
         Command::Components => append_str(text, "Components"),
+        Command::Mark { keep: None } => append_str(text, "Mark"),
+        Command::Mark { keep: Some(keep) } => append_counted(alloc, text, "Mark ", *keep),
+        Command::History => append_str(text, "History"),
+        Command::HistoryChanges { mark } => append_counted(alloc, text, "HistoryChanges ", *mark),
+        Command::Rollback { mark } => append_counted(alloc, text, "Rollback ", *mark),
+        Command::Forget { mark } => append_counted(alloc, text, "Forget ", *mark),
     }
 }
 
@@ -105,6 +108,12 @@ fn append_words(text: &mut Text, words: &[&str]) -> Result<(), Trouble> {
         append_str(text, word)?;
     }
     Ok(())
+}
+
+// A word, and a number.
+fn append_counted(alloc: Global, text: &mut Text, word: &str, number: u32) -> Result<(), Trouble> {
+    append_str(text, word)?;
+    append_number(alloc, text, u64::from(number))
 }
 
 // A word, and a path after a slash.
@@ -134,15 +143,40 @@ fn append_component(text: &mut Text, component: &Option<Component>) -> Result<()
     }
 }
 
-fn update_word(verb: UpdateVerb) -> &'static str {
+// What is asked of updates, and the version of an update after a space.
+fn append_update(text: &mut Text, verb: &UpdateVerb) -> Result<(), Trouble> {
     match verb {
-        UpdateVerb::List => "List",
-        UpdateVerb::CheckNew => "CheckNew",
-        UpdateVerb::Features => "Features",
+        UpdateVerb::List => append_str(text, "List"),
+        UpdateVerb::CheckNew => append_str(text, "CheckNew"),
+        UpdateVerb::Update { version: None } => append_str(text, "Update"),
+        UpdateVerb::Update {
+            version: Some(version),
+        } => {
+            append_str(text, "Update ")?;
+            text.append(version.bytes())?;
+            Ok(())
+        }
+        UpdateVerb::Vacuum => append_str(text, "Vacuum"),
+        UpdateVerb::Features => append_str(text, "Features"),
     }
 }
 
-fn view_words(view: ViewCommand) -> &'static str {
+// What is done with the extensions of a class, and the path that is explained after a space.
+fn append_view(
+    alloc: Global,
+    text: &mut Text,
+    class: &str,
+    view: &ViewCommand,
+) -> Result<(), Trouble> {
+    append_str(text, class)?;
+    append_str(text, view_words(view))?;
+    match view {
+        ViewCommand::Explain { path, .. } => append_at(alloc, text, " ", path),
+        _ => Ok(()),
+    }
+}
+
+fn view_words(view: &ViewCommand) -> &'static str {
     match view {
         ViewCommand::List => "List",
         ViewCommand::Status => "Status",
@@ -151,6 +185,10 @@ fn view_words(view: ViewCommand) -> &'static str {
         ViewCommand::Unmerge => "Unmerge",
         ViewCommand::Refresh { force: false } => "Refresh",
         ViewCommand::Refresh { force: true } => "Refresh forced",
+        ViewCommand::Changes { force: false } => "Changes",
+        ViewCommand::Changes { force: true } => "Changes forced",
+        ViewCommand::Explain { force: false, .. } => "Explain",
+        ViewCommand::Explain { force: true, .. } => "Explain forced",
     }
 }
 

@@ -1,9 +1,11 @@
-// The laws of commands, hosts, indexes, searches and views.
+// The laws of commands, hosts, marks, changes, indexes, searches and views.
 use ext_tree::Stamp;
 
 /// Calls each law, a generic one for stamps. A law has no body that could do anything. Its contract is a theorem.
 pub(crate) fn call_laws() {
     call_laws_of_hosts();
+    call_laws_of_marks();
+    call_laws_of_changes();
     call_laws_of_indexes();
     call_laws_of_views();
     ext_find::laws::an_entry_gives_one_item::<Stamp>();
@@ -20,6 +22,25 @@ fn call_laws_of_hosts() {
     ext_host::laws::entries_are_of_sources::<Stamp>();
     ext_host::laws::results_are_drawn();
     ext_host::laws::a_touched_host_is_valid();
+}
+
+fn call_laws_of_marks() {
+    ext_history::laws::a_rollback_at_once_changes_nothing();
+    ext_history::laws::a_rollback_gives_what_was_marked();
+    ext_history::laws::a_rollback_undoes_all_changes();
+    ext_history::laws::calls_keep_marks();
+    ext_history::laws::forgetting_takes_one_mark();
+    ext_history::laws::the_youngest_stay_and_come_first();
+    ext_history::laws::there_is_one_answer();
+}
+
+fn call_laws_of_changes() {
+    ext_changes::laws::one_list::<Stamp, Stamp>();
+    ext_changes::laws::none_of_equal::<Stamp, Stamp>();
+    ext_changes::laws::each_differs::<Stamp, Stamp>();
+    ext_changes::laws::turned_the_other_way::<Stamp, Stamp>();
+    ext_changes::laws::below_of_all::<Stamp, Stamp>();
+    ext_changes::laws::one_list_of_text::<Stamp, Stamp>();
 }
 
 fn call_laws_of_indexes() {

@@ -17,6 +17,7 @@ mod hosts;
 mod indexes;
 mod items;
 mod laws;
+mod marks;
 mod parts;
 mod records;
 mod refusals;

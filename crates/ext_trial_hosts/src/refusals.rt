@@ -1,6 +1,8 @@
 // Refusals, their numbers and their lines.
 use crate::updates::{bad_feature, bad_transfer};
-use ext_case::{Trouble, digest, five, none, number, number_line, one, one_and_more, path, two};
+use ext_case::{
+    Trouble, digest, five, name, none, number, number_line, one, one_and_more, path, small, two,
+};
 use ext_cmd::{Refusal, refusal_text};
 use ext_text::{Text, Which};
 use ext_tree::Stamp;
@@ -39,7 +41,8 @@ fn plain_refusal(word: &[u8]) -> Option<Refusal> {
 }
 
 // A refusal that tells more: `bad-host-release LINE`, `limit WHICH`, `bad-transfer LINE WHY FILE`, `bad-feature LINE WHY FILE`,
-// `bad-manifest LINE PATH`, `bad-tree LINE [PATH]`, a word and a path, or `mismatch PATH SIZE DIGEST SIZE DIGEST`.
+// `bad-manifest LINE PATH`, `bad-tree LINE [PATH]`, `mismatch PATH SIZE DIGEST SIZE DIGEST`, `no-such-version TEXT`,
+// `no-room COUNT FILE`, `no-mark N`, or a word and a path.
 fn full_refusal(alloc: Global, word: &[u8], rest: &[Text]) -> Result<Refusal, Trouble> {
     match word {
         b"bad-host-release" => Ok(Refusal::BadHostRelease {
@@ -53,6 +56,13 @@ fn full_refusal(alloc: Global, word: &[u8], rest: &[Text]) -> Result<Refusal, Tr
         b"bad-manifest" => bad_manifest(alloc, rest),
         b"bad-tree" => bad_tree(alloc, rest),
         b"mismatch" => mismatch(alloc, rest),
+        b"no-such-version" => Ok(Refusal::NoSuchVersion {
+            version: one(rest)?.copy()?,
+        }),
+        b"no-room" => no_room(alloc, rest),
+        b"no-mark" => Ok(Refusal::NoMark {
+            generation: small(one(rest)?)?,
+        }),
         _ => refusal_at(alloc, word, one(rest)?),
     }
 }
@@ -108,6 +118,14 @@ fn stamp(size: &Text, digits: &Text) -> Result<Stamp, Trouble> {
     })
 }
 
+fn no_room(alloc: Global, arguments: &[Text]) -> Result<Refusal, Trouble> {
+    let (count, file) = two(arguments)?;
+    Ok(Refusal::NoRoom {
+        count: number(count, u64::MAX)?,
+        file: name(alloc, file)?,
+    })
+}
+
 // A refusal that tells a path.
 fn refusal_at(alloc: Global, word: &[u8], at: &Text) -> Result<Refusal, Trouble> {
     let path = path(alloc, at)?;
@@ -117,6 +135,7 @@ fn refusal_at(alloc: Global, word: &[u8], at: &Text) -> Result<Refusal, Trouble>
         b"not-directory" => Ok(Refusal::NotDirectory { path }),
         b"not-file" => Ok(Refusal::NotFile { path }),
         b"not-in-depot" => Ok(Refusal::NotInDepot { path }),
+        b"clash" => Ok(Refusal::Clash { path }),
         _ => Err(Trouble::Unreadable("no such refusal")),
     }
 }

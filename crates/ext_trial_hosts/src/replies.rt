@@ -1,9 +1,10 @@
 // Answers and their texts.
 use crate::items::items;
+use crate::marks::{changes, marks, origins};
 use crate::updates::{feature_items, version_items};
-use ext_case::{Trouble, digest, four, name, none, number, one, one_and_more, two};
+use ext_case::{Trouble, digest, four, name, none, number, one, one_and_more, path, small, two};
 use ext_cmd::{Answer, answer_text};
-use ext_text::{Names, Text};
+use ext_text::{Names, SortedPaths, Text};
 use std::alloc::Global;
 use std::cmp::Ordering;
 
@@ -37,7 +38,8 @@ fn plain_answer(word: &[u8]) -> Option<Answer> {
 }
 
 // An answer that tells more: `merged NAME..`, `found ITEM..`, `tree TEXT`, `checked FILES BYTES`,
-// `sample ENTRIES FILES BYTES DIGEST`, `versions ITEM..`, `version TEXT`, `features ITEM..`, `components NAME..`.
+// `sample ENTRIES FILES BYTES DIGEST`, `versions ITEM..`, `version TEXT`, `updated TEXT`, `removed PATH..`, `features ITEM..`,
+// `components NAME..`, `marked N`, `history MARK..`, `changes CHANGE..`, `explained ORIGIN..`.
 fn full_answer(alloc: Global, word: &[u8], rest: &[Text]) -> Result<Answer, Trouble> {
     match word {
         b"merged" => Ok(Answer::Merged(names_of(alloc, rest)?)),
@@ -47,8 +49,16 @@ fn full_answer(alloc: Global, word: &[u8], rest: &[Text]) -> Result<Answer, Trou
         b"sample" => sample(rest),
         b"versions" => Ok(Answer::Versions(version_items(alloc, rest)?)),
         b"version" => Ok(Answer::Version(one(rest)?.copy()?)),
+        b"updated" => Ok(Answer::Updated(one(rest)?.copy()?)),
+        b"removed" => Ok(Answer::Removed(paths_of(alloc, rest)?)),
         b"features" => Ok(Answer::Features(feature_items(alloc, rest)?)),
         b"components" => Ok(Answer::Components(names_of(alloc, rest)?)),
+        b"marked" => Ok(Answer::Marked {
+            generation: small(one(rest)?)?,
+        }),
+        b"history" => Ok(Answer::History(marks(alloc, rest)?)),
+        b"changes" => Ok(Answer::Changes(changes(alloc, rest)?)),
+        b"explained" => Ok(Answer::Explained(origins(alloc, rest)?)),
         _ => Err(Trouble::Unreadable("no such answer")),
     }
 }
@@ -59,6 +69,15 @@ fn names_of(alloc: Global, arguments: &[Text]) -> Result<Names, Trouble> {
         names.push(name(alloc, argument)?)?;
     }
     Ok(names)
+}
+
+// The paths in path order, each once.
+fn paths_of(alloc: Global, arguments: &[Text]) -> Result<SortedPaths, Trouble> {
+    let mut paths = Vec::new(alloc);
+    for argument in arguments {
+        paths.push(path(alloc, argument)?)?;
+    }
+    Ok(SortedPaths::of(paths))
 }
 
 fn checked(arguments: &[Text]) -> Result<Answer, Trouble> {
