@@ -3,10 +3,11 @@ usage fault, and what the reply to a command may look like."""
 import re
 
 from scenes.index_texts import ARCHITECTURES
+from scenes.transfers import is_version
 from scenes.tree_texts import is_name, names_of
 
-VERBS = {b"list": (), b"status": (), b"merge": (b"--force",), b"unmerge": (), b"refresh": (b"--force",)}
-UPDATES = b"list", b"check-new", b"features"
+VERBS = {b"list": (), b"status": (), b"merge": (b"--force",), b"unmerge": (), b"refresh": (b"--force",), b"changes": (b"--force",)}
+UPDATES = b"list", b"check-new", b"update", b"vacuum", b"features"
 NOT_IN_A_LINE = b"layer", b"batch", b"sample"
 
 
@@ -38,12 +39,29 @@ def is_sample(word):
     return bool(re.fullmatch(rb"[1-9][0-9]{0,2}", word)) and int(word) <= 500
 
 
+def is_count(word, most):
+    return bool(re.fullmatch(rb"[1-9][0-9]{0,9}", word)) and int(word) <= most
+
+
+def is_keep(word):
+    return is_count(word, 16)
+
+
+def is_mark(word):
+    return is_count(word, 4294967295)
+
+
 def is_any(_word):
     return True
 
 
 def one_of(words):
     return lambda word: word in words
+
+
+def of_a_component(form):
+    """Words after `sysupdate`, and the same with the option before them."""
+    return [form, (is_component, *form)]
 
 
 # What each word after the first may be; `init` and the verbs of views and updates have more to say.
@@ -58,11 +76,18 @@ FORMS = {
     b"layer": [()],
     b"batch": [()],
     b"sample": [(is_sample,)],
-    b"sysupdate": [(one_of(UPDATES),), (is_component, one_of(UPDATES)), (one_of((b"components",)),)],
+    b"mark": [(), (is_keep,)],
+    b"history": [(), (one_of((b"--changes",)), is_mark)],
+    b"rollback": [(is_mark,)],
+    b"forget": [(is_mark,)],
+    b"sysupdate": [*of_a_component((one_of(UPDATES),)), *of_a_component((one_of((b"update",)), is_version)), (one_of((b"components",)),)],
     b"init": [(one_of(ARCHITECTURES), one_of((b"system", b"initrd")), *(hierarchies_of,) * count) for count in (0, 1, 2)],
     **dict.fromkeys(
         (b"sysext", b"confext"),
-        [form for verb, options in VERBS.items() for form in [(one_of((verb,)),), *((one_of((verb,)), one_of((option,))) for option in options)]],
+        [
+            *(form for verb, options in VERBS.items() for form in [(one_of((verb,)),), *((one_of((verb,)), one_of((option,))) for option in options)]),
+            *((one_of((b"explain",)), *options, is_path_below) for options in ((), (one_of((b"--force",)),))),
+        ],
     ),
 }
 
@@ -95,5 +120,6 @@ TREE = rb"hostext-tree [12]\n(?:[dofl] [^\n]*\n|w [^\n]*\n)*?end\n"
 MERGED = rb"(?:unmerged|merged [0-9]+(?:\n[^\n/]+)*?)\n"
 REFUSED = {
     b"no-store": 1, b"store-exists": 2, b"merged": 3, b"read-only": 4, b"no-host-release": 5, b"bad-host-release": 6, b"limit": 7, b"no-entry": 8, b"not-directory": 9,
-    b"not-file": 10, b"no-transfers": 20, b"bad-transfer": 21, b"bad-manifest": 22, b"bad-tree": 23, b"not-in-depot": 24, b"mismatch": 25, b"none-newer": 26, b"bad-feature": 32, b"none-on": 33,
+    b"not-file": 10, b"no-transfers": 20, b"bad-transfer": 21, b"bad-manifest": 22, b"bad-tree": 23, b"not-in-depot": 24, b"mismatch": 25, b"none-newer": 26, b"no-such-version": 27,
+    b"no-room": 28, b"clash": 29, b"bad-feature": 32, b"none-on": 33, b"no-mark": 37,
 }

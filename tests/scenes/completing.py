@@ -18,12 +18,13 @@ from pathlib import Path
 from scenes.documents import Sources
 from scenes.manuals import commands_of_the_grammar
 from scenes.running import SECONDS, TOP, Failed, Skipped, named, shortened
-from scenes.stores import DONE, Place
+from scenes.stores import DONE, Place, digest
 from scenes.uses import tree_of
 
 BASH, ZSH = "completion/hostext.bash", "completion/_hostext"
 # Names that a shell has to be told in quotes, or breaks words at. No two begin alike.
 NAMES = ["a b", "b'c", 'c"d', "d$e", "e:f", "f\\g", "g`h", "#i", "j&k;l", "k(l)", "*m", "[n]", "~o", "ü p", "!q", "r=s", "t  u ", "v<w>", "{x,y}"]
+DISKS = b"[Source]\nType=regular-file\nPath=/images\nMatchPattern=disk_@v\n[Target]\nType=regular-file\nPath=/etc/disks\n"
 ASK = """
 COMP_WORDBREAKS=$' \\t\\n"\\'@><=;|&(:'
 while IFS= read -r COMP_LINE; do
@@ -61,11 +62,14 @@ def fill(place):
     """A host with a file of each name, links, directories and components, and a depot with resources of such names."""
     files = {f"usr/{name}": content_of(name) for name in NAMES}
     files |= {"usr/sub/dir/file": b"file\n", "usr/sub/dirt": b"dirt\n", "etc/sysupdate.web.d/x": b"x", "etc/sysupdate.w $e.d/x": b"x"}
+    files |= {"etc/sysupdate.w $e.d/disk.transfer": DISKS, "etc/disks/disk_1": b"1"}
     text = tree_of(files).decode().replace("d 755 usr/sub\n", "l 9 to/ no/is usr/sublink\nd 755 usr/sub\n")
     lines = text.splitlines()
     place.resource("host", "".join(f"{line}\n" for line in [lines[0], *sorted(lines[1:-1], key=path_of), lines[-1]]).encode(), files)
     for name in "images/tool 1", "images/tool$2", "other:x":
         place.resource(name, b"hostext-tree 1\nend\n")
+    (place.depot / "images/SHA256SUMS").write_text("".join(f"{digest(version.encode())}  disk_{version}\n" for version in ("1", "2.0~rc1", "3")))
+    (place.depot / "images/disk_3").write_text("3")
     (place.depot / "host").mkdir(exist_ok=True)
     place.expect(("init x86-64 system", DONE), ("import-fs host /", DONE))
 
@@ -105,8 +109,9 @@ def each_word_of_a_command_is_offered(place, folder):
     rows = [("hostext s d ", sorted({words[0] for words in grammar})), ("hostext -", ["--help", "--version"])]
     for view in "sysext", "confext":
         rows += [(f"hostext s d {view} ", views), (f"hostext s d {view} re", ["refresh"]), (f"hostext s d {view} status ", [])]
-        rows += [(f"hostext s d {view} {verb} ", ["--force"]) for verb in ("merge", "refresh")]
-    of_component = [words[-1] for words in grammar if words[0] == "sysupdate" and "[--component=NAME]" in words]
+        rows += [(f"hostext s d {view} {verb} ", ["--force"]) for verb in ("merge", "refresh", "changes")]
+        rows += [(f"hostext s d {view} explain --fo", ["--force"]), (f"hostext s d {view} explain /us", ["/usr"]), (f"hostext s d {view} explain --force /us", ["/usr"])]
+    of_component = [words[2] for words in grammar if words[0] == "sysupdate" and "[--component=NAME]" in words]
     rows += [("hostext s d sysupdate ", [*of_component, "components", "--component="]), ("hostext s d sysupdate --component=x ", of_component)]
     architectures = re.search(r"\| architecture \| (.*?) \|", Sources().text("docs/FORMATS.md"))[1]
     rows += [("hostext s d init ", re.findall(r"`(.*?)`", architectures)), ("hostext s d init arm sy", ["system"]), ("hostext s d init x86 ", ["system", "initrd"])]
@@ -163,6 +168,21 @@ def resources_of_the_depot_and_components_are_offered(place, folder):
         ("hostext s d sysupdate --component=", ["w\\ \\$e", "web"]),
         ("hostext s d sysupdate --component=we", ["web"]),
         ("hostext s d sysupdate '--component=w ", ["--component=w $e"]),
+    )
+
+
+def versions_that_an_update_may_install_are_offered(place, folder):
+    """Those that are available and not installed; none where the transfers or the manifests can't be read."""
+    offered(
+        folder,
+        ("hostext s d sysupdate '--component=w $e' update ", ["2.0\\~rc1", "3"]),
+        ("hostext s d sysupdate --component=w\\ \\$e update 2", ["2.0\\~rc1"]),
+        ("hostext s d sysupdate '--component=w $e' update 3 ", []),
+        ("hostext s d sysupdate '--component=w $e' vacuum ", []),
+        ("hostext s d sysupdate --component=web update ", []),
+        ("hostext s d sysupdate update ", []),
+        ("hostext s d sysupdate list ", []),
+        ("hostext s gone sysupdate '--component=w $e' update ", []),
     )
 
 
@@ -295,6 +315,7 @@ def the_words_around_are_completed(shell):
     shows(shell, "hostext s d import-fs im\ttool\\ \t /sr", "done")
     shows(shell, "hostext s d sysext st\t", "unmerged")
     shows(shell, "hostext s d sysupdate --comp\tw\\ \t features", "")
+    shows(shell, "hostext s d sysupdate --comp\tw\\ \tup\t3\t", "updated 3")
 
 
 def bash_completes_on_a_terminal(place, folder):
@@ -331,7 +352,7 @@ def zsh_waits_for_no_store(place, folder):
 
 CALLS = [
     *(each_word_of_a_command_is_offered, paths_of_the_store_are_offered_by_their_kinds, names_are_quoted_as_the_word_was_begun),
-    *(resources_of_the_depot_and_components_are_offered, the_store_may_stand_in_quotes_a_variable_or_the_home),
+    *(resources_of_the_depot_and_components_are_offered, versions_that_an_update_may_install_are_offered, the_store_may_stand_in_quotes_a_variable_or_the_home),
     *(a_store_that_is_none_or_is_locked_is_not_waited_for, a_program_that_does_not_end_is_not_waited_for),
     *(bash_completes_on_a_terminal, zsh_completes_on_a_terminal, zsh_waits_for_no_store),
 ]

@@ -271,7 +271,7 @@ def commands_of(sources):
     text = sources.text("crates/ext_cmd/specs/Words.antt")
     commands = re.findall(r'^command_words .*?=\s+codes "([a-z-]+)"', text, re.M)
     verbs = re.findall(r'^view_words .*?=\s+codes "([a-z-]+)"', text, re.M)
-    updates = re.findall(r'^update_verb_text .*?=\s+codes "([a-z-]+)"', sources.text("crates/ext_cmd/specs/Keyword.antt"), re.M)
+    updates = re.findall(r'^update_words .*?=\s+codes "([a-z-]+)"', text, re.M)
     if not commands or not verbs or not updates:
         raise Failed("the definitions of words have no commands")
     return commands, {"sysext": verbs, "confext": verbs, "sysupdate": updates}

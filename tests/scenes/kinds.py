@@ -16,7 +16,7 @@ from scenes.running import ABC, EMPTY, TOP, Failed, tree_text
 from scenes.stores import EMPTY_INDEX, KEPT, MERGED, OLD_INDEX
 from scenes.tree_texts import Faulty, entry_of, layered, names_of, read_sequence, read_tree, resolved, text_of
 from scenes.updates import compared
-from scenes.uses import RESOURCES, TRANSFER, tree_of
+from scenes.uses import RESOURCES, TRANSFER, list_updates, tree_of
 from scenes.words import CHAIN, ORDERS
 
 EXAMPLES = TOP / "examples/depot"
@@ -36,8 +36,10 @@ def copy_examples(bench):
     """Puts the resources of the examples, and some of the uses, into the depot."""
     for name in "host", "images/tool-2", "images/vendor":
         bench.resource(name, (EXAMPLES / f"{name}.tree").read_bytes(), files_below(EXAMPLES / name))
-    for name, files in {**{name: RESOURCES[name] for name in ("few", "x")}, "conf": CONFIGURATION}.items():
+    used = "few", "x", "foos", "two-transfers", "images/tool_2"
+    for name, files in {**{name: RESOURCES[name] for name in used}, "conf": CONFIGURATION}.items():
         bench.resource(name, tree_of(files), files)
+    list_updates(bench.depot / "images")
 
 
 MERGED_STORE = (
@@ -611,6 +613,10 @@ class Versions(Kind):
         return compared(*(text.decode("latin-1") for text in pair))
 
 
+# They bring two transfers and a target with three versions, and install a version in place of one.
+UPDATING = b"import-fs two-transfers /etc/sysupdate.d", b"import-fs foos /var/lib/foo", b"sysupdate update 2", b"sysupdate vacuum", b"sysupdate update"
+
+
 class Worded(Kind):
     """Inputs that are words of commands. A store is put back where a command may have changed it."""
 
@@ -619,6 +625,8 @@ class Worded(Kind):
         *(b"remove /srv/a", b"remove /etc/motd", b"sysext list", b"sysext status", b"sysext merge", b"sysext merge --force", b"sysext unmerge", b"sysext refresh", b"confext list"),
         *(b"confext refresh --force", b"confext unmerge", b"tree", b"tree /srv", b"cat /srv/a/new", b"cat /usr/bin/tool", b"check", b"migrate", b"compare 1.0~rc1 1.0", b"layer"),
         *(b"batch", b"sample 2", b"sysupdate list", b"sysupdate --component=web check-new", b"sysupdate features", b"sysupdate components", b"import-fs few /srv/x", b"tree /usr"),
+        *(b"mark", b"mark 3", b"history", b"history --changes 2", b"rollback 2", b"forget 2", b"sysext changes", b"confext changes --force", b"sysext explain /usr/bin/tool"),
+        *(b"confext unmerge", *UPDATING, b"sysupdate --component=web update", b"sysupdate --component=web vacuum", b"sysupdate update 2.0~rc1"),
     )
 
     def prepare(self):
@@ -644,7 +652,8 @@ class Batches(Worded):
     def found_bases(self):
         lines = [command + b"\n" for command in self.COMMANDS]
         pieces = [b"".join(lines[at : at + 6]) for at in range(0, len(lines), 3)]
-        return [*pieces, b"# a comment\n\n \t\n" + lines[2] + lines[5], *base_texts.batches()]
+        updates = b"".join(line + b"\n" for line in (b"confext unmerge", *UPDATING))
+        return [*pieces, *[updates] * 2, b"# a comment\n\n \t\n" + lines[2] + lines[5], *base_texts.batches()]
 
     def judge(self, texts):
         for text in texts:

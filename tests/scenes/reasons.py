@@ -89,10 +89,10 @@ def a_bad_store_names_the_line_or_the_file(place):
     explains(told(place, "tree"), "bad store", f"{place.store}/current names no generation; {SEE}", 8)
 
 
-COMMANDS = "init, import-fs, remove, sysext, confext, sysupdate, tree, cat, compare, check, layer, migrate, batch, sample"
+COMMANDS = "init, import-fs, remove, sysext, confext, sysupdate, mark, history, rollback, forget, tree, cat, compare, check, layer, migrate, batch, sample"
 INIT = "the words are init ARCH SCOPE [HIERS [HIERS]], where ARCH is x86, x86-64, arm, arm64, riscv64, s390x, ppc64-le or loongarch64, SCOPE is system or initrd, and HIERS are as /usr:/opt"
-UPDATES = "the words are sysupdate [--component=NAME] list, check-new or features, or sysupdate components, where sysupdate.NAME.d is a name, and NAME doesn't begin with a dash"
-VIEWS = "the words are {} list, status, merge [--force], unmerge or refresh [--force]"
+UPDATES = "the words are sysupdate [--component=NAME] list, check-new, update [VERSION], vacuum or features, or sysupdate components, where sysupdate.NAME.d is a name, NAME doesn't begin with a dash, and VERSION is as 2.0~rc1"
+VIEWS = "the words are {} list, status, merge [--force], unmerge, refresh [--force], changes [--force] or explain [--force] PATH, where PATH begins with a slash, and isn't the root"
 
 
 def words_that_are_no_command_are_explained(place):
@@ -105,6 +105,11 @@ def words_that_are_no_command_are_explained(place):
         (["sysupdate", "--component=x", "components"], 3, f"{UPDATES}: not `components`"),
         (["import-fs", "a"], 3, "the words are import-fs RES PATH, where RES.tree is in the depot, and PATH begins with a slash: one is missing"),
         (["remove", "/"], 2, "the words are remove PATH, where PATH begins with a slash, and isn't the root: not `/`"),
+        (["sysext", "explain", "--force"], 4, f"{VIEWS.format('sysext')}: one is missing"),
+        (["mark", "17"], 2, "the words are mark [K], where K is 1 to 16: not `17`"),
+        (["history", "--changes"], 3, "the words are history [--changes G], where G is the number of a generation: one is missing"),
+        (["rollback", "g-2"], 2, "the words are rollback G, where G is the number of a generation: not `g-2`"),
+        (["forget"], 2, "the words are forget G, where G is the number of a generation: one is missing"),
         (["check", "now"], 2, "the words are check: not `now`"),
         (["batch", "file"], 2, "the words are batch, which reads lines of commands from standard input: not `file`"),
         (["sample", "0"], 2, "the words are sample N, where N is 1 to 500: not `0`"),
@@ -148,7 +153,10 @@ def what_a_store_has_is_its_owners_alone(place):
                 raise Failed(f"{path} has the mode {mode:o}")
 
 
-def an_import_and_a_batch_from_the_store_itself_are_refused(place):
+READERS = [("sysupdate", *component, *verb) for component in ((), ("--component=web",)) for verb in (("list",), ("check-new",), ("update",), ("update", "2"))]
+
+
+def what_reads_the_depot_is_refused_where_it_is_the_store_or_below(place):
     place.resource("host", HOST, {"usr/a": b""})
     place.expect(("init x86-64 system", DONE))
     inner = place.store / "g-7/depot"
@@ -159,17 +167,18 @@ def an_import_and_a_batch_from_the_store_itself_are_refused(place):
     reason = "DEPOT is STORE or stands below it, where cleaning would take away what is to be read"
     for depot in place.store, inner, place.store / "g-7", link, place.store / "../store/./g-7/":
         before = place.stands()
-        for words in ("import-fs", "host", "/"), ("batch",):
+        for words in ("import-fs", "host", "/"), ("batch",), *READERS:
             explains(told(place, *words, depot=depot), "usage 1", reason, 2)
             place.holds(before)
-    for words in ("tree",), ("check",), ("remove", "/a"), ("sysext", "status"):
+    for words in ("tree",), ("check",), ("remove", "/a"), ("sysext", "status"), ("sysupdate", "vacuum"), ("sysupdate", "features"), ("sysupdate", "components"):
         if run(place.program, [os.fsencode(word) for word in (place.store, place.store, *words)])[2] > 1:
             raise Failed(f"`{words[0]}` does not take STORE for DEPOT")
     shutil.rmtree(place.store / "g-7")
     upper = Place.__new__(Place)
     upper.program, upper.store, upper.depot = place.program, place.depot / "store", place.depot
     upper.store.mkdir()
-    upper.expect(("init x86-64 system", DONE), ("import-fs host /", DONE), ("tree", HOST))
+    upper.expect(("init x86-64 system", DONE), ("import-fs host /", DONE), ("tree", HOST), ("sysupdate list", b"refused 20 no-transfers\n"), ("sysupdate update", b"refused 20 no-transfers\n"))
+
 
 def an_import_from_too_deep_below_the_store_is_a_fault(place):
     """So deep that a name of the folders above is longer than the system takes: it can't be told that the depot stands in the store."""
@@ -192,6 +201,6 @@ CALLS = [
     *(a_fault_of_a_device_names_the_call_and_the_path, a_refusal_of_the_system_has_its_words, a_full_file_system_is_named),
     *(control_bytes_are_escaped, a_bad_store_names_the_line_or_the_file, words_that_are_no_command_are_explained),
     *(the_reason_is_told_to_a_terminal_and_to_nobody_else, what_a_store_has_is_its_owners_alone),
-    *(an_import_and_a_batch_from_the_store_itself_are_refused, an_import_from_too_deep_below_the_store_is_a_fault),
+    *(what_reads_the_depot_is_refused_where_it_is_the_store_or_below, an_import_from_too_deep_below_the_store_is_a_fault),
 ]
 scenes = named(*map(in_a_place, CALLS))

@@ -7,8 +7,10 @@ from scenes.running import Failed
 VERDICT = rb"(?:fits|scope|architecture|no-id|id|level|version)"
 WHY = rb"(?:not-directory|has-os-release|no-release|bad-release [1-9][0-9]*)"
 LISTED = rb"(?:[^\n]+ (?:image /[^\n]* %b|masked /[^\n]*|raw /[^\n]*|broken /[^\n]* %b)\n)*" % (VERDICT, WHY)
-COUNTED = re.compile(rb"(merged|components) ([0-9]+)\n")
+COUNTED = re.compile(rb"(merged|components|removed) ([0-9]+)\n")
 OFFERED = rb"(?:[A-Za-z0-9._+~^-]+(?: (?:available|installed|partial|protected|obsolete))+\n)*"
+CHANGED = rb"(?:[-+*] /[^\n]*\n)*"
+EXPLAINED = rb"(?:(?:image [^\n]+|base) (?:[do] [0-7]+|f [0-7]+ [0-9]+ [0-9a-f]{64}|l [^\n]+|w|covers /[^\n]*)\n)+"
 # What each command may write that is done, the numbers of its refusals, and whether it then has changed the store. Each command
 # over a store may be refused since there is none.
 FORMS = {
@@ -20,25 +22,38 @@ FORMS = {
     b"merge": (MERGED, (1, 3, 5, 6, 7), True),
     b"refresh": (MERGED, (1, 5, 6, 7), True),
     b"unmerge": (rb"unmerged\n", (1, 7), True),
+    b"changes": (CHANGED, (1, 5, 6, 7), False),
+    b"explain": (EXPLAINED, (1, 5, 6, 8), False),
+    b"mark": (rb"marked [0-9]+\n", (1, 7), True),
+    b"history": (rb"(?:[0-9]+ [0-9]+ [0-9]+\n)*", (1,), False),
+    b"history --changes": (CHANGED, (1, 37), False),
+    b"rollback": (rb"done\n", (1, 7, 37), True),
+    b"forget": (rb"done\n", (1, 7, 37), True),
     b"tree": (TREE, (1, 8, 9), False),
     b"check": (rb"ok [0-9]+ [0-9]+\n", (1,), False),
     b"migrate": (rb"(?:done|unchanged)\n", (1, 7), True),
     b"compare": (rb"(?:less|equal|greater)\n", (), False),
     b"sysupdate list": (OFFERED, (1, 6, 7, 20, 21, 22, 24, 32, 33), False),
     b"sysupdate check-new": (rb"[A-Za-z0-9._+~^-]+\n", (1, 6, 7, 20, 21, 22, 24, 26, 32, 33), False),
+    b"sysupdate update": (rb"(?:updated [A-Za-z0-9._+~^-]+|unchanged)\n", (1, 4, 6, 7, 9, 20, 21, 22, 23, 24, 25, 27, 28, 29, 32, 33), True),
+    b"sysupdate vacuum": (rb"removed [0-9]+\n", (1, 4, 6, 7, 20, 21, 22, 24, 28, 29, 32, 33), True),
     b"sysupdate features": (rb"(?:[^\n]+ (?:on|off)\n)*", (1, 32), False),
     b"sysupdate components": (rb"components [0-9]+\n", (1,), False),
     b"cat": (rb"", (1, 8, 10), False),
 }
 # Those whose reply begins with the number of its other lines, where it has any.
-COUNTING = b"status", b"merge", b"refresh", b"sysupdate components"
+COUNTING = b"status", b"merge", b"refresh", b"sysupdate components", b"sysupdate vacuum"
+# The replies of commands that may change a store, where they didn't.
+KEPT = b"unchanged\n", b"removed 0\n"
 NUMBERS = {number: word for word, number in REFUSED.items()}
 
 
 def form_name(words):
     """The name of the row of a command."""
     if words[0] == b"sysupdate":
-        return b"sysupdate " + words[-1]
+        return b"sysupdate " + words[2 if words[1].startswith(b"--component=") else 1]
+    if words[0] == b"history":
+        return b" ".join(words[:2])
     return words[1] if words[0] in (b"sysext", b"confext") else words[0]
 
 
@@ -61,7 +76,7 @@ class Replies:
         if name == b"cat":
             return at + self.content_at(words, written, at), False
         end = self.matched(form, words, written, at)
-        return self.counted(end, written, at) if name in COUNTING else end, changes and not written.startswith(b"unchanged", at)
+        return self.counted(end, written, at) if name in COUNTING else end, changes and not written.startswith(KEPT, at)
 
     def matched(self, form, words, written, at):
         found = re.compile(form, re.S).match(written, at)

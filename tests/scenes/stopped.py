@@ -18,7 +18,8 @@ SECONDS = 300
 # How many folders are built and looked at together, and how many where the first that shows something ends it.
 PIECE, FEW = 400, 20
 # Why a sync can be left out, and no stop shows it. The first is the one with which a store is opened: a command before may have
-# been killed between its switch and the sync after it, so that a stop leads back to the store before that.
+# been killed between its switch and the sync after it, so that a stop leads back to the store before that. A change syncs the store
+# folder once more before it switches and replies, and a refused command doesn't.
 SAFE = "what the switch before may lead back to stays until the next sync"
 REFUSED = "what a refused command wrote is left over"
 EMPTY = "the file has no bytes"
@@ -132,7 +133,7 @@ class Story:
         is_first, is_refused = at == self.syncs()[0], self.use.reply.startswith(b"refused ")
         if is_refused and not is_first:
             return REFUSED
-        if is_first and len(self.syncs()) > 1 and ("remove", self.generation()) not in self.events:
+        if is_first and not is_refused and len(self.syncs()) > 1 and ("remove", self.generation()) not in self.events:
             return SAFE
         disk = Disk(self.folder)
         for event in self.killed:

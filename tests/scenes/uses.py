@@ -48,19 +48,45 @@ Path=/var/lib/foo
 """
 RESOURCES["transfers"] = {"10-foo.transfer": TRANSFER, "beta.feature": b"[Feature]\nEnabled=yes\n"}
 RESOURCES["foo"] = {"foo_1.raw": b"one"}
-MANIFEST = f"{hashlib.sha256(b'two').hexdigest()}  foo_2.raw\n".encode()
+RESOURCES["foos"] = {"foo_0.raw": b"zero", "foo_1.raw": b"one", "foo_1.1.raw": b"more"}
+# Transfers of an image and of a file, with a link to the file that came, and those of which one file is another than listed.
+TOOL = b"""[Source]
+Type=directory
+Path=/images
+MatchPattern=tool_@v
+[Target]
+Type=directory
+Path=/var/lib/extensions
+"""
+LINKED = TRANSFER.replace(b"Features=beta\n", b"") + b"CurrentSymlink=latest\n"
+RESOURCES["two-transfers"] = {"10-tool.transfer": TOOL, "20-foo.transfer": LINKED}
+RESOURCES["wrong-transfers"] = {"10-tool.transfer": TOOL, "20-foo.transfer": LINKED.replace(b"/images", b"/wrong")}
+RESOURCES["images/tool_2"] = {f"{IMAGE}tool_2": RELEASE, "usr/tool": b"tool 2\n", "usr/more": b"0123456789" * 7_000}
 # The last command of each look: whatever came before, a change is possible.
 NEXT = "import-fs other /next"
 
 
+# What the sources of updates list.
+LISTED = {"foo_2.raw": b"two", "tool_2.tree": tree_of(RESOURCES["images/tool_2"])}
+
+
+def list_updates(folder, content=LISTED["foo_2.raw"]):
+    """Puts a file into a source of updates, and the manifest."""
+    (folder / "foo_2.raw").write_bytes(content)
+    lines = (f"{hashlib.sha256(content).hexdigest()}  {name}\n" for name, content in LISTED.items())
+    (folder / "SHA256SUMS").write_text("".join(lines))
+
+
 def fill(place):
-    """Puts the resources into the depot of a place, with one that lacks its last file, and a text that is none."""
+    """Puts the resources into the depot of a place, with one that lacks its last file, a text that is none, and two sources of
+    updates, of which one has another file than it lists."""
     for name, files in RESOURCES.items():
         place.resource(name, tree_of(files), files)
     place.resource("less", tree_of({"a": b"a", "b": b"b", "c": b"c"}), {"a": b"a", "b": b"b"})
     place.resource("bad", b"hostext-tree 1\nend\nend\n")
-    (place.depot / "images").mkdir()
-    (place.depot / "images/SHA256SUMS").write_bytes(MANIFEST)
+    (place.depot / "wrong").mkdir()
+    list_updates(place.depot / "images")
+    list_updates(place.depot / "wrong", b"owt")
 
 
 def an_old_text(place):
@@ -157,6 +183,15 @@ SAMPLE = b"entries 37\nfiles 23\nbytes 229\nsha256 bb3fd3417f076a5781f53ec623961
 WITH_CONFIGURATION = (*ON_HOST, "import-fs c /var/lib/confexts/c")
 CONFIGURED = (*WITH_CONFIGURATION, "confext merge")
 TRANSFERS = (*ON_HOST, "import-fs transfers /etc/sysupdate.d")
+# With three versions of a file, of which two go where another one comes.
+BOTH_TRANSFERS = (*ON_HOST, "import-fs foos /var/lib/foo", "import-fs two-transfers /etc/sysupdate.d")
+WITH_ROOM = (*BOTH_TRANSFERS, *ROOM_TO_MAKE)
+MISMATCH = f"refused 25 mismatch wrong/foo_2.raw 3 {hashlib.sha256(b'two').hexdigest()} 3 {hashlib.sha256(b'owt').hexdigest()}\n".encode()
+MARKED = (*ON_HOST, "mark")
+CHANGED = (*MARKED, "remove /own")
+LAYERS = b"".join(b"%b f 644 7 %b\n" % (layer, hashlib.sha256(content).hexdigest().encode()) for layer, content in ((b"image x", b"tool x\n"), (b"base", b"tool 1\n")))
+CHANGES = b"+ /usr/lib\n+ /usr/lib/extension-release.d\n+ /usr/lib/extension-release.d/extension-release.x\n* /usr/tool\n"
+NO_MARK = b"refused 37 no-mark 2\n"
 EXISTS, IS_MERGED = b"refused 2 store-exists\n", b"refused 3 merged\n"
 ONE, BOTH, NONE = b"merged 1\nx\n", b"merged 2\nx\ny\n", b"unmerged\n"
 USES = [
@@ -189,6 +224,8 @@ USES = [
     Use("sysext refresh --force", BOTH, MERGED),
     Use("sysext unmerge", NONE, MERGED),
     Use("sysext unmerge", NONE, WITH_IMAGES),
+    Use("sysext changes", CHANGES, WITH_IMAGES),
+    Use("sysext explain /usr/tool", LAYERS, WITH_IMAGES),
     Use("confext list", b"c image /var/lib/confexts/c fits\n", WITH_CONFIGURATION),
     Use("confext status", NONE, WITH_CONFIGURATION),
     Use("confext merge", b"merged 1\nc\n", WITH_CONFIGURATION, again=IS_MERGED),
@@ -197,8 +234,24 @@ USES = [
     Use("sysupdate list", b"2 available\n1 installed protected\n", (*TRANSFERS, "import-fs foo /var/lib/foo")),
     Use("sysupdate check-new", b"2\n", TRANSFERS),
     Use("sysupdate check-new", b"refused 20 no-transfers\n", ON_HOST),
+    Use("sysupdate update", b"updated 2\n", TRANSFERS, again=b"unchanged\n"),
+    Use("sysupdate update 2", b"updated 2\n", BOTH_TRANSFERS, again=b"unchanged\n"),
+    Use("sysupdate update", b"updated 2\n", WITH_ROOM, again=b"unchanged\n", long=True),
+    Use("sysupdate update", b"unchanged\n", (*BOTH_TRANSFERS, "sysupdate update 2")),
+    Use("sysupdate update", MISMATCH, (*ON_HOST, "import-fs foos /var/lib/foo", "import-fs wrong-transfers /etc/sysupdate.d")),
+    Use("sysupdate update 3", b"refused 27 no-such-version 3\n", BOTH_TRANSFERS),
+    Use("sysupdate vacuum", b"removed 1\n/var/lib/foo/foo_0.raw\n", BOTH_TRANSFERS, again=b"removed 0\n"),
+    Use("sysupdate vacuum", b"removed 0\n", TRANSFERS),
     Use("sysupdate features", b"beta on\n", TRANSFERS),
     Use("sysupdate components", b"components 0\n", TRANSFERS),
+    Use("mark", b"marked 2\n", ON_HOST, again=b"marked 3\n"),
+    Use("mark 1", b"marked 4\n", CHANGED, again=b"marked 5\n"),
+    Use("history", b"2 5 3\n", CHANGED),
+    Use("history --changes 2", b"- /own\n", CHANGED),
+    Use("rollback 2", DONE, CHANGED),
+    Use("rollback 2", DONE, (*CHANGED, *ROOM_TO_MAKE), long=True),
+    Use("rollback 2", NO_MARK, ON_HOST),
+    Use("forget 2", DONE, CHANGED, again=NO_MARK),
     Use("tree", tree_of(RESOURCES["host"]), ON_HOST),
     Use("tree /etc", tree_of({"os-release": RELEASE}), ON_HOST),
     Use("tree /etc", tree_of({"os-release": RELEASE}), ON_HOST, waits=True),
@@ -216,6 +269,7 @@ USES = [
         before=ON_HOST,
         again=DONE + b"refused 8 no-entry /gone\nrefused 8 no-entry /own\nnew",
     ),
+    batch(("mark", b"marked 2\n"), ("remove /own", DONE), ("rollback 2", DONE), before=ON_HOST, again=b"marked 5\ndone\ndone\n"),
     Use("compare 1.0 1", b"greater\n", ON_HOST, stored=False),
     Use("sample 1", SAMPLE, ON_HOST, stored=False),
     Use("layer", LAYERED, ON_HOST, source=LAYERED, stored=False),

@@ -13,8 +13,8 @@ ANY = b"ID=_any\n"
 EXTENSIONS = "var/lib/extensions"
 
 
-def put(place, name, entries, where="/"):
-    """A resource of these entries, imported at a path: files by their bytes, links by their targets, and all directories."""
+def resource(place, name, entries):
+    """A resource of these entries: files by their bytes, links by their targets, and all directories."""
     paths = {"/".join(path.split("/")[:depth]) for path in entries for depth in range(1, path.count("/") + 1)}
     files = {path: content for path, content in entries.items() if isinstance(content, bytes)}
 
@@ -28,6 +28,11 @@ def put(place, name, entries, where="/"):
 
     every = sorted(paths | set(entries), key=lambda path: path.encode().split(b"/"))
     place.resource(name, tree_text(*map(line, every), version=2 if any(str(each)[:2] in ("w ", "o ") for each in entries.values()) else 1), files)
+
+
+def put(place, name, entries, where="/"):
+    """Such a resource, imported at a path."""
+    resource(place, name, entries)
     place.expect((f"import-fs {name} {where}", DONE))
 
 
