@@ -56,7 +56,7 @@ def files_wanted():
     """What has to be installed of what stands in the repository, by its path below PREFIX."""
     tools = [name for name in TOOLS if (TOP / "tools" / name).exists()]
     pages = [path for path in (TOP / "man").iterdir()]
-    documents = [path for path in (TOP / "README.md", TOP / "CHANGELOG.md", TOP / "LICENSE", *(TOP / "docs").glob("*.md")) if path.exists()]
+    documents = [path for path in (TOP / "README.md", TOP / "CHANGELOG.md", TOP / "LICENSE", *(TOP / "docs").glob("*.md"), *(TOP / "docs/figures").glob("*.svg")) if path.exists()]
     completions = {"hostext.bash": "share/bash-completion/completions/hostext", "_hostext": "share/zsh/site-functions/_hostext"}
     return {
         *("bin/hostext", RECORD),
