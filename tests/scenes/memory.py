@@ -3,8 +3,8 @@ import resource
 import subprocess
 import sys
 
-from scenes.running import LAYER, SECONDS, Failed, directories, expect, named, run, shortened
-from scenes.stores import in_a_place
+from scenes.running import LAYER, SECONDS, Failed, directories, expect, named, run, shortened, tree_text
+from scenes.stores import DONE, in_a_place
 from scenes.views import ANY, host, put
 
 
@@ -61,4 +61,27 @@ def merged_peak(place, names):
     return peak(place, "sysext", "refresh")
 
 
-scenes = named(out_of_memory_writes_nothing, in_a_place(a_hundred_links_to_one_image_take_the_memory_of_one))
+def a_large_import_without_memory_loses_nothing(place):
+    """Under each of twenty limits it is done, or out of memory and nothing has changed; where a limit is too narrow even to start the
+    program, nothing is asked of it. The next command works on the store, and an import with memory enough goes through."""
+    large = directories(100_000)
+    place.resource("small", tree_text("d 755 srv"))
+    place.resource("large", large)
+    place.expect(("init x86-64 system", DONE), ("import-fs small /", DONE))
+    before, found = place.run("tree"), set()
+    for limit in (2**at * part for at in range(20, 30) for part in (2, 3)):
+        ended = place.run("import-fs", "large", "/opt", before=lambda limit=limit: resource.setrlimit(resource.RLIMIT_AS, (limit, limit)))
+        found.add(ended[2])
+        if ended[2] == 0:
+            expect(ended, (DONE, b"", 0))
+            place.expect(("check", b"ok 0 0\n"), ("remove /opt", DONE))
+        elif ended[2] == 7:
+            expect(ended, (b"", b"hostext: out of memory\n", 7))
+        elif 7 in found or ended[0]:
+            raise Failed(f"under {limit:,} bytes it ended with {shortened(ended)}")
+        expect(place.run("tree"), before)
+    if not {0, 7} <= found:
+        raise Failed(f"no limit shows each of the two: {sorted(found)}")
+
+
+scenes = named(out_of_memory_writes_nothing, in_a_place(a_large_import_without_memory_loses_nothing), in_a_place(a_hundred_links_to_one_image_take_the_memory_of_one))
