@@ -208,7 +208,7 @@ def a_launch_costs_little_beside_the_program(repository):
     shutil.rmtree(repository.home)
     repository.home.touch()
     looking = cost(repository, repository.place / "hostext") - alone
-    if known > 20 * slow or looking > 150 * slow:
+    if known > 30 * slow or looking > 200 * slow:
         raise Failed(f"it takes {known:.0f} ms of a processor, and {looking:.0f} ms where nothing can be kept, on a machine {slow:.1f} times as slow")
 
 
