@@ -3,6 +3,7 @@ pub mod PathsLemmas
 pub mod AboveLemmas
 pub mod PiecesLemmas
 pub mod UpdatedLemmas
+pub mod CopyingLemmas
 pub mod LoopLemmas
 pub mod ManifestLemmas
 pub mod LawsLemmas

@@ -2,7 +2,8 @@
 -- directories that are missing above them, and the entries of the pieces.
 use Rattle.std.specs.Prelude.{◌≡◌, ℕ, zero, suc, ◌-◌, Bool, not, if◌then◌else◌, List, [], ◌∷◌, ◌++◌, length, map, take, None, is_some, Contains}
 use Rattle.std.specs.List.{AllByRecursion, filter}
-use Rattle.ext_text.specs.Path.{IsPath}
+use Rattle.std.specs.Ordering.{is_lt}
+use Rattle.ext_text.specs.Path.{IsPath, path_cmp}
 use Rattle.ext_text.specs.SortedPaths.{covers}
 use Rattle.ext_tree.specs.Graft.{made}
 use Rattle.ext_tree.specs.Grafting.{hung}
@@ -19,6 +20,10 @@ prefixes_from p names (suc count) = take names p ∷ prefixes_from p (suc names)
 -- the proper prefixes of the path but the root
 abbrev pub prefixes : List (List ℕ) → List (List (List ℕ))
 prefixes p = prefixes_from p 1 (length p - 1)
+
+-- the second path comes before the first one
+abbrev pub is_earlier : List (List ℕ) → List (List ℕ) → Bool
+is_earlier path other = is_lt (path_cmp other path)
 
 -- nothing stands at the path
 abbrev pub lacks : {C : Type 0} → Entries C → List (List ℕ) → Bool

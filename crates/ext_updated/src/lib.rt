@@ -8,6 +8,7 @@
 #![tactic(auto)]
 
 mod clashing;
+mod copying;
 mod gathering;
 mod items;
 pub mod laws;

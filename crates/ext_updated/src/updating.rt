@@ -7,6 +7,8 @@ ghost use Rattle.ext_updated.specs.Pieces.{MayBePut, paths_of};
 ghost use Rattle.ext_updated.specs.Putting.{IsCutFor};
 ghost use Rattle.ext_updated.specs.Updated.{AnswersUpdated};
 
+use crate::copying::copy_without;
+use crate::gathering::both;
 use crate::paths_above::missing_above;
 use crate::piece::Piece;
 use crate::putting::{entries_of, in_order};
@@ -18,8 +20,8 @@ use std::alloc::Global;
 /// What stood at and below the path of a piece goes, and missing directories above it are made with mode 755. All else is copied.
 ///
 /// The pieces may be put: each has a part only below a directory, the paths of no two are related, none is the root, and nothing
-/// but directories stands above them in what is left. The work is that of sorting the pieces and the paths above them, of a
-/// search for each prefix of an entry's path, and of one pass over all entries. That is this project's own choice.
+/// but directories stands above them in what is left. The work is that of sorting the pieces and the paths above them, of two
+/// searches among the entries for each path that is cut, and of one pass over all entries. That is this project's own choice.
 ///
 /// # Errors
 /// The first of these:
@@ -68,11 +70,9 @@ fn cut_for<C: Held1 + Drop>(
 ) -> Result<Tree<C>, OutOfMemory>
     ensures { IfOk result (IsCutFor root.now removed.now pieces.now) }
 {
-    let paths = SortedPaths::of(paths_of(alloc, pieces)?);
-    let mut left = root.copy()?;
-    left.cut_all(removed);
-    left.cut_all(&paths);
-    Ok(left)
+    let paths = paths_of(alloc, pieces)?;
+    let cut = SortedPaths::of(both(alloc, removed.as_slice(), paths.as_slice())?);
+    copy_without(alloc, root, &cut)
 }
 
 // The paths of pieces.
