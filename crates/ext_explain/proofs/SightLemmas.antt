@@ -1,6 +1,7 @@
 -- What is seen of a layer along a path: each name of the path leads to one more entry, or the path goes no further.
 use Rattle.std.proofs.Common.{◌≡◌, ℕ, ◌<◌, Bool, true, false, cond, List, [], ◌∷◌, ◌++◌, length, Option, Some, None, is_some, refl, sym, ap, ◌∙◌, arith, append_assoc, append-nil, length-append}
 use Rattle.std.specs.Option.{option_map}
+use Rattle.std.specs.Prelude.{IfSome}
 use Rattle.std.proofs.lemmas.Bool.{false≢true}
 use Rattle.ext_tree.specs.Part.{part}
 use Rattle.ext_tree.specs.Tree.{Entries, IsTree, lookup}
@@ -22,6 +23,12 @@ nothing_below es p (m ∷ q) tree some none =
           let directory = prefixes es tree p (p ++ m ∷ q) (ap is_some there) (prefix_append p (m ∷ q)) (omega (arith, length-append p (m ∷ q))) in
           absurd (false≢true (sym (ap is_some none) ∙ directory_some es p some directory))
     ] refl
+
+-- what stands below the names of a layer is an entry of the layer
+pub entry_of_layer : {C : Type 0} (es : Entries C) (dir path : List (List ℕ)) (o : Option (Entry C)) → (path ≡ [] → ⊥) → o ≡ lookup es (dir ++ path) → IfSome o (λ e. lookup (part dir es) path ≡ Some e)
+entry_of_layer es dir path None some is = tt
+entry_of_layer es dir [] (Some e) some is = absurd (some refl)
+entry_of_layer es dir (n ∷ path) (Some e) some is = lookup_part dir n path es ∙ sym is
 
 module _ {C : Type 0} (es : Entries C) (dir : List (List ℕ)) (n : List ℕ) where
   -- at a name at which nothing stands

@@ -21,7 +21,8 @@ use std::alloc::Global;
 /// its layers that has an entry at the path, or hides there what lower layers have, the topmost first. The layers are the
 /// images that would be merged, in the order of the view, and then the base. For a path outside the hierarchies of the class
 /// it is the base alone. A layer hides what is there by a file, a link, a whiteout or an opaque directory above the path, and
-/// its line tells the topmost of these. No view is made: it is a search in the base for each name of the path and each layer.
+/// its line tells the topmost of these. No view is made: for each layer it is one search in the base where the layer has an entry at
+/// the path, and else one more for each name of the path.
 ///
 /// # Errors
 /// The first of these:
@@ -47,7 +48,7 @@ pub fn explain<H: Shelf>(
     let base = base_of(host)?;
     let items = chosen(survey_of(alloc, host, &base, class, force, shelf)?);
     let inside = is_in(hierarchies_of(host, class).as_slice(), &path.names());
-    let origins = origins_in(alloc, &base, inside, items.as_slice(), &path.names())?;
+    let origins = origins_in(alloc, &base, inside, items.as_slice(), path)?;
     some_of(origins)
 }
 
@@ -68,13 +69,13 @@ fn origins_in(
     base: &Tree<Held>,
     inside: bool,
     items: &[SurveyItem],
-    path: &PathRef,
+    path: &Path,
 ) -> Result<Vec<Origin>, OutOfMemory>
     requires { AllByRecursion (LeadsItem base.now) items.now }
     ensures { IfOk result (λ origins. HaveLines base.now inside items.now path.now origins.items) }
 {
     let mut origins = image_origins(alloc, base, inside, items, path)?;
-    push_base(&mut origins, base, path)?;
+    push_base(alloc, &mut origins, base, path)?;
     Ok(origins)
 }
 
@@ -84,7 +85,7 @@ fn image_origins(
     base: &Tree<Held>,
     inside: bool,
     items: &[SurveyItem],
-    path: &PathRef,
+    path: &Path,
 ) -> Result<Vec<Origin>, OutOfMemory>
     requires { AllByRecursion (LeadsItem base.now) items.now }
     ensures { IfOk result (λ origins. HaveImageLines base.now inside items.now path.now origins.items) }
@@ -101,7 +102,7 @@ fn origins_from_top(
     alloc: Global,
     base: &Tree<Held>,
     items: &[SurveyItem],
-    path: &PathRef,
+    path: &Path,
 ) -> Result<Vec<Origin>, OutOfMemory>
     requires { AllByRecursion (LeadsItem base.now) items.now }
     ensures { IfOk result (λ origins. HaveLinesFromTop base.now items.now path.now origins.items) }
@@ -120,13 +121,15 @@ fn push_image(
     origins: &mut Vec<Origin>,
     base: &Tree<Held>,
     item: &SurveyItem,
-    path: &PathRef,
+    path: &Path,
 ) -> Result<(), OutOfMemory>
     requires { LeadsItem base.now item.now }
     ensures { OnOk result (AddsLineOf base.now item.now path.now origins.old.items origins.new.items) }
 {
+    // `pairs` says of the tree that it is one.
+    let _entries = base.pairs();
     let image = image_at(alloc, base, &item.place)?;
-    match finding_in(base, &image, path)? {
+    match finding_in(alloc, base, &image, path)? {
         None => Ok(()),
         Some(finding) => push_origin(origins, Layer::Image(item.name.copy()?), finding),
     }
@@ -134,15 +137,16 @@ fn push_image(
 
 // Adds the line of the base, where it has one.
 fn push_base(
+    alloc: Global,
     origins: &mut Vec<Origin>,
     base: &Tree<Held>,
-    path: &PathRef,
+    path: &Path,
 ) -> Result<(), OutOfMemory>
     ensures { OnOk result (origins.new.items ≡ origins.old.items ++ origin_of path.now (base_layer base.now)) }
 {
     // `pairs` says of the tree that it is one.
     let _entries = base.pairs();
-    match finding_in(base, &PathRef::root(), path)? {
+    match finding_in(alloc, base, &PathRef::root(), path)? {
         None => Ok(()),
         Some(finding) => push_origin(origins, Layer::Base, finding),
     }

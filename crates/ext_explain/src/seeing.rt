@@ -1,6 +1,8 @@
-// What a layer has at a path and above it, found by one search in the base for each name of the path.
-ghost use Rattle.std.specs.Prelude.{◌≡◌, ◌++◌, if◌then◌else◌, Some, None, IfOk};
+// What a layer has at a path and above it: one search in the base finds an entry there, and where none is, one for each name of
+// the path finds what hides it.
+ghost use Rattle.std.specs.Prelude.{◌≡◌, ◌++◌, if◌then◌else◌, Some, None, IfOk, IfSome};
 ghost use Rattle.std.specs.Option.{option_copied, option_map};
+ghost use Rattle.ext_text.specs.Path.{IsPath};
 ghost use Rattle.ext_tree.specs.Part.{part};
 ghost use Rattle.ext_tree.specs.Tree.{lookup};
 ghost use Rattle.ext_layer.specs.Layered.{cuts_below};
@@ -9,8 +11,9 @@ ghost use Rattle.ext_explain.specs.Finding.{cover_of, finding_of};
 
 use ext_host::Held;
 use ext_origin::Finding;
-use ext_text::{OutOfMemory, Path, PathRef};
+use ext_text::{OutOfMemory, Path, PathErr, PathRef};
 use ext_tree::{Entry, Stamp, Tree};
+use std::alloc::Global;
 
 type Pair = (Path, Entry<Held>);
 
@@ -24,6 +27,44 @@ struct Sight<'a> {
 
 // What the layer that the base has below these names has at the path, or hides there.
 pub(crate) fn finding_in(
+    alloc: Global,
+    base: &Tree<Held>,
+    layer: &PathRef,
+    path: &Path,
+) -> Result<Option<Finding>, OutOfMemory>
+    requires { IsPath layer.now }
+    ensures { IfOk result (λ finding. finding ≡ finding_of (part layer.now base.now) path.now) }
+{
+    let names = path.names();
+    match entry_in(alloc, base, layer, &names)? {
+        Some(entry) => Ok(Some(Finding::Has(stamped(entry)?))),
+        None => finding_above(base, layer, &names),
+    }
+}
+
+// The entry that the layer has at the path, by one search. Where there is none, none is found; and none at the root of the layer.
+fn entry_in<'a>(
+    alloc: Global,
+    base: &'a Tree<Held>,
+    layer: &PathRef,
+    path: &PathRef,
+) -> Result<Option<&'a Entry<Held>>, OutOfMemory>
+    requires layer { IsPath layer.now }
+    requires path { IsPath path.now }
+    ensures { IfOk result (λ found. IfSome (option_copied found) (λ e. lookup (part layer.now base.now) path.now ≡ Some e)) }
+{
+    if path.is_root() {
+        return Ok(None);
+    }
+    match layer.join(alloc, path) {
+        Ok(at) => Ok(base.get(&at)),
+        Err(PathErr::OutOfMemory) => Err(OutOfMemory),
+        Err(PathErr::TooLong | PathErr::TooDeep | PathErr::BadName) => Ok(None),
+    }
+}
+
+// What the layer has at the path, or hides there, by what is seen on the way.
+fn finding_above(
     base: &Tree<Held>,
     layer: &PathRef,
     path: &PathRef,

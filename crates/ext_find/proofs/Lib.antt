@@ -10,3 +10,4 @@ pub mod FoundLemmas
 pub mod ReleaseLemmas
 pub mod LawsLemmas
 pub mod TextLemmas
+pub mod ForCallers

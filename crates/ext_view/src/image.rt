@@ -1,5 +1,5 @@
 // An image: where its place leads, and its release file.
-ghost use Rattle.std.specs.Prelude.{Some, IfOk};
+ghost use Rattle.std.specs.Prelude.{⊤, Some, IfOk, MatchOption};
 ghost use Rattle.ext_tree.specs.Tree.{lookup};
 ghost use Rattle.ext_walk.specs.Walk.{Ends};
 ghost use Rattle.ext_find.specs.HostRelease.{IsContent};
@@ -51,6 +51,35 @@ fn held_of(entry: &Entry<Held>) -> Option<&Held>
 /// # Errors
 /// `OutOfMemory` alone.
 pub fn image_at<'a>(
+    alloc: Global,
+    base: &'a Tree<Held>,
+    place: &Path,
+) -> Result<PathRef<'a>, OutOfMemory>
+    requires { Leads base.now place.now }
+    ensures { IfOk result (λ image. Ends base.now place.now image) }
+{
+    match directory_itself(base, &place.names()) {
+        Some(image) => Ok(image),
+        None => end_of_links(alloc, base, place),
+    }
+}
+
+// The names of the directory that stands at the place itself: nothing has to be followed, and one search finds it. `None` where
+// none stands there.
+fn directory_itself<'a>(base: &'a Tree<Held>, place: &PathRef) -> Option<PathRef<'a>>
+    ensures { MatchOption result ⊤ (Ends base.now place.now) }
+{
+    let (directory, name) = place.split_last()?;
+    let (path, entry) = base.child(&directory, name)?;
+    if entry.is_directory() {
+        Some(path.names())
+    } else {
+        None
+    }
+}
+
+// The names of the directory to which the place leads, name by name.
+fn end_of_links<'a>(
     alloc: Global,
     base: &'a Tree<Held>,
     place: &Path,

@@ -8,6 +8,8 @@ pub use Rattle.ext_walk.proofs.WalkLemmas.{same_self, same_step, stuck}
 pub use Rattle.ext_walk.proofs.WalkLemmas.{step_into}
 -- a walk that is there is one walk, and is not none
 pub use Rattle.ext_walk.proofs.WalkLemmas.{from_some, no_some}
+-- a walk ends at a path within its limits
+pub use Rattle.ext_walk.proofs.EndLemmas.{end_path}
 -- a walk in the part below the root is one in the tree
 pub use Rattle.ext_walk.proofs.EndLemmas.{resolves_whole}
 -- two ends of one walk are one; a walk without end leads to no directory, nor does one that ends elsewhere

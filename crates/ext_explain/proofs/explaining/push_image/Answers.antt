@@ -1,10 +1,14 @@
 use Rattle.std.proofs.Common.{◌++◌, ap, sym, ◌∙◌}
 use Rattle.std.proofs.lemmas.Result.{on_ok_weaker}
 use Rattle.ext_tree.specs.Part.{part}
+use Rattle.ext_walk.proofs.ForCallers.{end_path}
 use Rattle.ext_origin.specs.declared.origin.Layer.TheVariants.{Image}
 use Rattle.ext_explain.specs.Layers.{NamedLayer}
 use Rattle.ext_explain.proofs.LineLemmas.{layer_at, line_found, no_line}
 use Rattle.ext_explain.proofs.explaining.push_image.Goals as goal
+
+pub finding_in-requires : goal.finding_in-requires
+finding_in-requires c = end_path c.args.base.now c.args.item.now.place c.in_ok-image.image c.pairs-entries.ensures.tree.tree c.in_ok-image.ensures
 
 pub returns-in-None : goal.returns-in-None
 returns-in-None c =

@@ -1,7 +1,7 @@
 use Rattle.std.proofs.Common.{[], subst}
 use Rattle.ext_walk.specs.Walk.{ResolvesIn}
 use Rattle.ext_view.proofs.ImageLemmas.{ends_whole, not_nowhere}
-use Rattle.ext_view.proofs.image.image_at.Goals as goal
+use Rattle.ext_view.proofs.image.end_of_links.Goals as goal
 
 pub unreachable-requires : goal.unreachable-requires
 unreachable-requires c =

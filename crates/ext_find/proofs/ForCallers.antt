@@ -1,0 +1,4 @@
+-- The lemmas on this crate's definitions that other crates cite.
+
+-- the names of a path at which a directory stands lead to it: no link is on the way
+pub use Rattle.ext_find.proofs.StandsLemmas.{own_directory}
