@@ -36,7 +36,7 @@ FORMS = {
     b"sysupdate list": (OFFERED, (1, 6, 7, 20, 21, 22, 24, 32, 33), False),
     b"sysupdate check-new": (rb"[A-Za-z0-9._+~^-]+\n", (1, 6, 7, 20, 21, 22, 24, 26, 32, 33), False),
     b"sysupdate update": (rb"(?:updated [A-Za-z0-9._+~^-]+|unchanged)\n", (1, 4, 6, 7, 9, 20, 21, 22, 23, 24, 25, 27, 28, 29, 32, 33), True),
-    b"sysupdate vacuum": (rb"removed [0-9]+\n", (1, 4, 6, 7, 20, 21, 22, 24, 28, 29, 32, 33), True),
+    b"sysupdate vacuum": (rb"removed [0-9]+\n", (1, 4, 6, 7, 20, 21, 28, 29, 32, 33), True),
     b"sysupdate features": (rb"(?:[^\n]+ (?:on|off)\n)*", (1, 32), False),
     b"sysupdate components": (rb"components [0-9]+\n", (1,), False),
     b"cat": (rb"", (1, 8, 10), False),

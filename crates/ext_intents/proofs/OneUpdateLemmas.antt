@@ -18,7 +18,9 @@ use Rattle.ext_feature.specs.declared.feature.Feature.{Feature}
 use Rattle.ext_available.specs.Laws.{OneAvailable, OneTold}
 use Rattle.ext_available.specs.Reading.{AreTold}
 use Rattle.ext_available.specs.declared.offer.Offer.{Offer}
+use Rattle.ext_installed.specs.Installed.{AreInstalled}
 use Rattle.ext_installed.specs.Laws.{OneInstalled}
+use Rattle.ext_installed.specs.declared.instance.Instance.{Instance}
 use Rattle.ext_installed.specs.declared.instance.Instances.{Instances}
 use Rattle.ext_choice.specs.Laws.{OneChoice}
 use Rattle.ext_choice.specs.declared.choosing.Choice.TheVariants.{Install, NoneNewer}
@@ -30,8 +32,8 @@ use Rattle.ext_cmd.specs.declared.answer.VersionItem.{VersionItem}
 use Rattle.ext_cmd.specs.declared.command.UpdateVerb.{UpdateVerb}
 use Rattle.ext_cmd.specs.declared.command.UpdateVerb.TheVariants as verbs
 use Rattle.ext_cmd.specs.declared.refusal.Refusal.{Refusal}
-use Rattle.ext_intents.specs.Sysupdate.{ChecksNew, ComponentsWants, FeaturesWants, Lists, VerbWants, VerbWantsOf, WantsByUpdates, feature_item, not_featured}
-use Rattle.ext_intents.specs.Updates.{AreNoUpdates, AreOn, AreUpdates, not_active, not_offered, version_item}
+use Rattle.ext_intents.specs.Sysupdate.{ChecksNew, ComponentsWants, FeaturesWants, Lists, RoomWants, VerbWants, VerbWantsOf, WantsByUpdates, feature_item, not_featured}
+use Rattle.ext_intents.specs.Updates.{AreNoTransfers, AreNoUpdates, AreOn, AreUpdates, not_active, not_offered, version_item}
 use Rattle.ext_intents.specs.Updating.{ByUpdate, ByVacuum, update_intent, vacuum_intent}
 use Rattle.ext_intents.specs.declared.intent.Intent.{Intent}
 use Rattle.ext_intents.specs.declared.intent.Intent.TheVariants.{Answers, Refuses}
@@ -63,7 +65,7 @@ ok_same : {X E : Type 0} (a b : X) → ok_of X E a ≡ ok_of X E b → a ≡ b
 ok_same a b same = cc
 
 -- what is told of an error as a refusal comes from a text
-active_from_text : (error : ActiveErr) (refusal : Refusal) → not_active error ≡ Ok (Refused refusal) → IsFromText (Err error)
+active_from_text : (error : ActiveErr) (refusal : Refusal) → not_active error ≡ Ok refusal → IsFromText (Err error)
 active_from_text inactive.OutOfMemory refusal is = cc
 active_from_text (inactive.BadFeature file line why) refusal is = tt
 active_from_text (inactive.BadHostRelease line) refusal is = tt
@@ -128,7 +130,7 @@ module _ (laws : UpdateLaws) (told : HeldFile → Told) (tells : TellsAll told) 
   none_once : (a b : Refusal) → AreNoUpdates told (Some files) host base component a → AreNoUpdates told (Some files) host base component b → a ≡ b
   none_once a b (inl (e, gives, is)) (inl (f, also, same)) =
       let one : e ≡ f = err_same e f (laws.one_active told 0 0 0 0 base host.arch component (Err e) (Err f) one_text (active_from_text e a is) (active_from_text f b same) gives also) in
-      refused_same a b (ok_same (Refused a) (Refused b) (sym is ∙ ap not_active one ∙ same))
+      ok_same a b (sym is ∙ ap not_active one ∙ same)
   none_once a b (inl (e, gives, is)) (inr (transfers, f, on, offered, same)) =
       absurd (ok_err transfers e (laws.one_active told 0 0 0 0 base host.arch component (Ok transfers) (Err e) one_text tt (active_from_text e a is) on gives))
   none_once a b (inr (transfers, e, on, offered, is)) (inl (f, gives, same)) =
@@ -187,15 +189,32 @@ module _ (laws : UpdateLaws) (told : HeldFile → Told) (tells : TellsAll told) 
   updated_once wanted updates a b are (x, wants, planned, is) (y, also, other, same) =
       is ∙ ap (update_intent wanted) (laws.one_update files host updates wanted x y are.available.order wants also) ∙ sym same
 
-  vacuumed_once : (updates : Updates) (a b : Intent) → AreUpdates told (Some files) host base component updates → ByVacuum host updates a → ByVacuum host updates b → a ≡ b
-  vacuumed_once updates a b are (x, wants, planned, is) (y, also, other, same) =
-      is ∙ ap vacuum_intent (laws.one_vacuum host updates x y wants also) ∙ sym same
+  vacuumed_once : (transfers : List Transfer) (items : List Instance) (a b : Intent) → ByVacuum host transfers items a → ByVacuum host transfers items b → a ≡ b
+  vacuumed_once transfers items a b (x, wants, planned, is) (y, also, other, same) =
+      is ∙ ap vacuum_intent (laws.one_vacuum host transfers items x y wants also) ∙ sym same
+
+  no_transfers_once : (a b : Refusal) → AreNoTransfers told (Some files) host base component a → AreNoTransfers told (Some files) host base component b → a ≡ b
+  no_transfers_once a b (e, gives, is) (f, also, same) = none_once a b (inl (e, gives, is)) (inl (f, also, same))
+
+  no_transfers_on : (transfers : List Transfer) (a : Refusal) → AreOn told (Some files) host base component transfers → AreNoTransfers told (Some files) host base component a → ⊥
+  no_transfers_on transfers a on (e, gives, is) =
+      ok_err transfers e (laws.one_active told 0 0 0 0 base host.arch component (Ok transfers) (Err e) one_text tt (active_from_text e a is) on gives)
+
+  room_once : (a b : Intent) → RoomWants told (Some files) host base component a → RoomWants told (Some files) host base component b → a ≡ b
+  room_once a b (inl (x, i, on, are, by)) (inl (y, j, also, too, same)) =
+      let transfers : x ≡ y = on_once x y on also in
+      let installed : i ≡ j = laws.one_installed base y i j (subst (λ t. AreInstalled base t i) transfers are) too in
+      vacuumed_once y j.items a b
+      (subst (λ (k : Instances). ByVacuum host y k.items a) installed (subst (λ t. ByVacuum host t i.items a) transfers by)) same
+  room_once a b (inl (x, i, on, are, by)) (inr (refusal, none, is)) = absurd (no_transfers_on x refusal on none)
+  room_once a b (inr (refusal, none, is)) (inl (y, j, on, are, by)) = absurd (no_transfers_on y refusal on none)
+  room_once a b (inr (refusal, none, is)) (inr (other, same, also)) = is ∙ ap Refuses (no_transfers_once refusal other none same) ∙ sym also
 
   verb_once : (verb : UpdateVerb) (a b : Intent) → VerbWantsOf told (Some files) host base component verb a → VerbWantsOf told (Some files) host base component verb b → a ≡ b
   verb_once verbs.List a b x y = by_once Lists a b lists_once x y
   verb_once verbs.CheckNew a b x y = by_once ChecksNew a b checks_once x y
   verb_once (verbs.Update wanted) a b x y = by_once (ByUpdate (Some files) host wanted) a b (updated_once wanted) x y
-  verb_once verbs.Vacuum a b x y = by_once (ByVacuum host) a b vacuumed_once x y
+  verb_once verbs.Vacuum a b x y = room_once a b x y
   verb_once verbs.Features a b x y = features_once a b x y
 
 pub update_once : (laws : UpdateLaws) (host : Host) (told : HeldFile → Told) (tells : TellsAll told) (files : Files) (component : Option (List ℕ)) (verb : UpdateVerb) (a b : Intent) → VerbWants host told (Some files) component verb a → VerbWants host told (Some files) component verb b → a ≡ b

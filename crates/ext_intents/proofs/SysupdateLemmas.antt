@@ -9,7 +9,7 @@ use Rattle.ext_cmd.specs.declared.command.UpdateVerb.{UpdateVerb}
 use Rattle.ext_cmd.specs.declared.command.UpdateVerb.TheVariants as verbs
 use Rattle.ext_intents.specs.Intents.{IsFit, IsAnswerOrRefusal}
 use Rattle.ext_intents.specs.Sysupdate.{ChecksNew, ComponentsWants, Lists, VerbWants, VerbWantsOf, WantsByUpdates}
-use Rattle.ext_intents.specs.Updating.{ByUpdate, ByVacuum}
+use Rattle.ext_intents.specs.Updating.{ByUpdate}
 use Rattle.ext_intents.specs.declared.intent.Intent.{Intent}
 use Rattle.ext_intents.specs.declared.intent.Intent.TheVariants.{Changes, Answers, Checks, Shows, Refuses}
 use Rattle.ext_update.specs.declared.updates.Updates.{Updates}
@@ -64,7 +64,8 @@ module _ (told : HeldFile → Told) (files : Option Files) (host : Host) (base :
   verb_fits coming verbs.List intent wants = reply_fits coming (Some host) intent (verb_reply verbs.List intent tt wants)
   verb_fits coming verbs.CheckNew intent wants = reply_fits coming (Some host) intent (verb_reply verbs.CheckNew intent tt wants)
   verb_fits coming (verbs.Update wanted) intent wants = planned_fits coming (ByUpdate files host wanted) intent (by_update_fits coming files host wanted) wants
-  verb_fits coming verbs.Vacuum intent wants = planned_fits coming (ByVacuum host) intent (by_vacuum_fits coming host) wants
+  verb_fits coming verbs.Vacuum intent (inl (transfers, installed, on, are, by)) = by_vacuum_fits coming host transfers installed.items intent by
+  verb_fits coming verbs.Vacuum intent (inr (refusal, none, is)) = subst (IsFit coming (Some host)) (sym is) tt
   verb_fits coming verbs.Features intent wants = reply_fits coming (Some host) intent (verb_reply verbs.Features intent tt wants)
 
 pub update_replies : (host : Host) (told : HeldFile → Told) (files : Option Files) (component : Option (List ℕ)) (verb : UpdateVerb) (intent : Intent) → IsReplying verb → VerbWants host told files component verb intent → IsAnswerOrRefusal intent

@@ -12,7 +12,7 @@ use Rattle.ext_cmd.specs.declared.refusal.Refusal.{Refusal}
 use Rattle.ext_intents.specs.Step.{TellAlike}
 use Rattle.ext_intents.specs.Sysupdate.{ChecksNew, Lists, VerbWants, VerbWantsOf, WantsByUpdates}
 use Rattle.ext_intents.specs.Updates.{AreNoUpdates, AreUpdates}
-use Rattle.ext_intents.specs.Updating.{ByUpdate, ByVacuum}
+use Rattle.ext_intents.specs.Updating.{ByUpdate}
 use Rattle.ext_intents.specs.declared.intent.Intent.{Intent}
 use Rattle.ext_update.specs.declared.updates.Updates.{Updates}
 use Rattle.ext_intents.proofs.UpdateFilesLemmas.{active_alike, features_alike}
@@ -40,7 +40,10 @@ module _ (host : Host) (told other : HeldFile → Told) (alike : TellAlike host 
     verb_alike verbs.List intent wants = by_alike Lists intent wants
     verb_alike verbs.CheckNew intent wants = by_alike ChecksNew intent wants
     verb_alike (verbs.Update wanted) intent wants = by_alike (ByUpdate files host wanted) intent wants
-    verb_alike verbs.Vacuum intent wants = by_alike (ByVacuum host) intent wants
+    verb_alike verbs.Vacuum intent (inl (transfers, installed, on, are, by)) =
+        inl (transfers, installed, active_alike host base is component told other alike host.arch (Ok transfers) on, are, by)
+    verb_alike verbs.Vacuum intent (inr (refusal, (error, gives, refused), wants)) =
+        inr (refusal, (error, active_alike host base is component told other alike host.arch (Err error) gives, refused), wants)
     verb_alike verbs.Features intent (inl (features, give, wants)) = inl (features, features_alike host base is component told other alike (Ok features) give, wants)
     verb_alike verbs.Features intent (inr (error, refusal, give, refused, wants)) =
         inr (error, refusal, features_alike host base is component told other alike (Err error) give, refused, wants)

@@ -23,7 +23,7 @@ use Rattle.ext_cmd.specs.declared.command.UpdateVerb.TheVariants as verbs
 use Rattle.ext_cmd.specs.declared.refusal.Refusal.TheVariants as refusals
 use Rattle.ext_intents.specs.Causes.{StepCause, ViewCause}
 use Rattle.ext_intents.specs.Sysupdate.{FeaturesWants, IsSysupdateFile, IsVerbFile, not_featured}
-use Rattle.ext_intents.specs.Updates.{LooksAs, not_active}
+use Rattle.ext_intents.specs.Updates.{AreNoTransfers, not_active}
 use Rattle.ext_intents.specs.declared.plan_err.PlanErr.{PlanErr}
 use Rattle.ext_intents.specs.declared.plan_err.PlanErr.TheVariants.{DepotFault, Shelf, OutOfMemory}
 use Rattle.ext_intents.proofs.UpdateFilesLemmas.{feature_is_file, update_is_file}
@@ -65,14 +65,14 @@ module _ (host : Host) (base : Entries HeldFile) (is : IsBaseTree host base) (co
   active_cause before after inactive.NoneOn gives = tt
   active_cause before after (inactive.Shelf e) (held, file, fault) = record { held = held; is_read = file; file = update_is_file host base is component held file; cause = fault }
 
-  pub active_looks : (files : Option Files) (e : ActiveErr) → ActiveGives told old new base host.arch component (Err e) → IfOk (not_active e) (LooksAs told files host base component)
-  active_looks files inactive.OutOfMemory gives = tt
-  active_looks files (inactive.BadFeature file line why) gives = inl (inactive.BadFeature file line why, gives, refl)
-  active_looks files (inactive.BadHostRelease line) gives = inl (inactive.BadHostRelease line, gives, refl)
-  active_looks files inactive.NoTransfers gives = inl (inactive.NoTransfers, gives, refl)
-  active_looks files (inactive.BadTransfer file line why) gives = inl (inactive.BadTransfer file line why, gives, refl)
-  active_looks files inactive.NoneOn gives = inl (inactive.NoneOn, gives, refl)
-  active_looks files (inactive.Shelf e) gives = tt
+  pub active_none : (files : Option Files) (e : ActiveErr) → ActiveGives told old new base host.arch component (Err e) → IfOk (not_active e) (AreNoTransfers told files host base component)
+  active_none files inactive.OutOfMemory gives = tt
+  active_none files (inactive.BadFeature file line why) gives = (inactive.BadFeature file line why, gives, refl)
+  active_none files (inactive.BadHostRelease line) gives = (inactive.BadHostRelease line, gives, refl)
+  active_none files inactive.NoTransfers gives = (inactive.NoTransfers, gives, refl)
+  active_none files (inactive.BadTransfer file line why) gives = (inactive.BadTransfer file line why, gives, refl)
+  active_none files inactive.NoneOn gives = (inactive.NoneOn, gives, refl)
+  active_none files (inactive.Shelf e) gives = tt
 
   pub featured_cause : (e : FeaturesErr) → FeaturesGive told old new base component (Err e) → IfErr (not_featured e) (ViewCause (IsFeatureFile base component) host told old new)
   featured_cause unfeatured.OutOfMemory gives = tt

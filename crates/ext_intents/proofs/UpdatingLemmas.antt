@@ -13,6 +13,8 @@ use Rattle.ext_host.specs.Shelf.{Told}
 use Rattle.ext_host.specs.declared.host.Host.{Host}
 use Rattle.ext_host.specs.declared.manifest.Manifest.{Manifest}
 use Rattle.ext_host.specs.declared.past.Past.{Past}
+use Rattle.ext_transfer.specs.declared.transfer.Transfer.{Transfer}
+use Rattle.ext_installed.specs.declared.instance.Instance.{Instance}
 use Rattle.ext_feature.proofs.ForCallers.{active_bounds}
 use Rattle.ext_resources.proofs.ForCallers.{told_listed}
 use Rattle.ext_update.specs.Given.{AreUpdatesFor}
@@ -73,9 +75,9 @@ updated_past files host next updates wanted version wants =
     (λ sized. by_limit (SizedWants host writes sized.0) P (passed_limit sized.0 host.lower) sized.2
     (λ n. past_of host next sized.0 n.0 (let is = n.2 in cc is)) (λ which is. cc is)))))
 
-vacuumed_past : (host next : Host) (updates : Updates) (removed : List (List (List ℕ))) → VacuumWants host updates (vacuumed.Changes removed next) → next.past ≡ host.past
-vacuumed_past host next updates removed wants =
-    let all = vacuum_removes host next updates removed wants in
+vacuumed_past : (host next : Host) (transfers : List Transfer) (items : List Instance) (removed : List (List (List ℕ))) → VacuumWants host transfers items (vacuumed.Changes removed next) → next.past ≡ host.past
+vacuumed_past host next transfers items removed wants =
+    let all = vacuum_removes host next transfers items removed wants in
     let writes = no_writes all.0 in
     let P : Type 0 = next.past ≡ host.past in
     otherwise P all.3 (λ b. let is = b.2 in cc is)
@@ -105,13 +107,13 @@ pub by_update_fits : (coming : ℕ) (files : Option Files) (host : Host) (wanted
 by_update_fits coming files host wanted updates intent (update, wants, planned, is) =
     subst (IsFit coming (Some host)) (sym is) (updated_fits coming files host wanted updates update wants planned)
 
-vacuumed_fits : (coming : ℕ) (host : Host) (updates : Updates) (vacuum : Vacuum) → VacuumWants host updates vacuum → IfVacuumed (IsPlannedHost host) vacuum
+vacuumed_fits : (coming : ℕ) (host : Host) (transfers : List Transfer) (items : List Instance) (vacuum : Vacuum) → VacuumWants host transfers items vacuum → IfVacuumed (IsPlannedHost host) vacuum
     → IsFit coming (Some host) (vacuum_intent vacuum)
-vacuumed_fits coming host updates vacuumed.Unchanged wants planned = tt
-vacuumed_fits coming host updates (vacuumed.Changes removed next) wants planned =
-    past_fits coming host next planned (vacuumed_past host next updates removed wants)
-vacuumed_fits coming host updates (vacuumed.Refused reason) wants planned = tt
+vacuumed_fits coming host transfers items vacuumed.Unchanged wants planned = tt
+vacuumed_fits coming host transfers items (vacuumed.Changes removed next) wants planned =
+    past_fits coming host next planned (vacuumed_past host next transfers items removed wants)
+vacuumed_fits coming host transfers items (vacuumed.Refused reason) wants planned = tt
 
-pub by_vacuum_fits : (coming : ℕ) (host : Host) (updates : Updates) (intent : Intent) → ByVacuum host updates intent → IsFit coming (Some host) intent
-by_vacuum_fits coming host updates intent (vacuum, wants, planned, is) =
-    subst (IsFit coming (Some host)) (sym is) (vacuumed_fits coming host updates vacuum wants planned)
+pub by_vacuum_fits : (coming : ℕ) (host : Host) (transfers : List Transfer) (items : List Instance) (intent : Intent) → ByVacuum host transfers items intent → IsFit coming (Some host) intent
+by_vacuum_fits coming host transfers items intent (vacuum, wants, planned, is) =
+    subst (IsFit coming (Some host)) (sym is) (vacuumed_fits coming host transfers items vacuum wants planned)

@@ -3,7 +3,8 @@
 -- base of the host has; an update and making room alone may want another host. The refusals, the first that holds, in this order,
 -- which is this project's own: a feature file is faulty; the host's release file is; there is no transfer file; one is faulty; none
 -- is on; then of one transfer after the other its source has no manifest, or one that is too long or faulty; of `check-new` alone:
--- no version is newer; and of an update and of making room what their plans are refused by.
+-- no version is newer; and of an update and of making room what their plans are refused by. Making room looks at no source, so that
+-- no manifest refuses it.
 use Rattle.std.specs.Prelude.{◌≡◌, ◌⊎◌, ℕ, List, map, Option, Some, None, Result, Ok, Err, slice_get}
 use Rattle.ext_depot.specs.Depot.{Files}
 use Rattle.ext_tree.specs.Tree.{Entries}
@@ -17,6 +18,9 @@ use Rattle.ext_feature.specs.Features.{FeaturesGive, IsFeatureFile}
 use Rattle.ext_feature.specs.declared.errors.FeaturesErr.{FeaturesErr}
 use Rattle.ext_feature.specs.declared.errors.FeaturesErr.TheVariants as unfeatured
 use Rattle.ext_feature.specs.declared.feature.Feature.{Feature}
+use Rattle.ext_transfer.specs.declared.transfer.Transfer.{Transfer}
+use Rattle.ext_installed.specs.Installed.{AreInstalled}
+use Rattle.ext_installed.specs.declared.instance.Instances.{Instances}
 use Rattle.ext_choice.specs.Choice.{Chooses}
 use Rattle.ext_choice.specs.declared.choosing.Choice.TheVariants.{Install, NoneNewer}
 use Rattle.ext_cmd.specs.declared.answer.Answer.TheVariants as answers
@@ -26,7 +30,7 @@ use Rattle.ext_cmd.specs.declared.command.UpdateVerb.TheVariants as verbs
 use Rattle.ext_cmd.specs.declared.answer.VersionItem.{VersionItem}
 use Rattle.ext_cmd.specs.declared.refusal.Refusal.{Refusal}
 use Rattle.ext_cmd.specs.declared.refusal.Refusal.TheVariants as refusals
-use Rattle.ext_intents.specs.Updates.{AreVersionItems, AreNoUpdates, AreUpdates}
+use Rattle.ext_intents.specs.Updates.{AreVersionItems, AreNoTransfers, AreNoUpdates, AreOn, AreUpdates}
 use Rattle.ext_intents.specs.Updating.{ByUpdate, ByVacuum}
 use Rattle.ext_intents.specs.declared.intent.Intent.{Intent}
 use Rattle.ext_intents.specs.declared.intent.Intent.TheVariants.{Answers, Refuses}
@@ -62,6 +66,13 @@ module _ (told : HeldFile → Told) (files : Option Files) (host : Host) (base :
       ((updates : Updates) × AreUpdates told files host base component updates × By updates intent)
       ⊎ ((refusal : Refusal) × AreNoUpdates told files host base component refusal × (intent ≡ Refuses refusal))
 
+  -- room in the targets, by the transfers that are on and what the base has of them, or the refusal where these aren't known
+  abbrev pub RoomWants : Intent → Type 0
+  RoomWants intent =
+      ((transfers : List Transfer) × (installed : Instances) × AreOn told files host base component transfers
+      × AreInstalled base transfers installed × ByVacuum host transfers installed.items intent)
+      ⊎ ((refusal : Refusal) × AreNoTransfers told files host base component refusal × (intent ≡ Refuses refusal))
+
   -- the features, and which of them are on, or the refusal where they aren't known
   abbrev pub FeaturesWants : Intent → Type 0
   FeaturesWants intent =
@@ -74,7 +85,7 @@ module _ (told : HeldFile → Told) (files : Option Files) (host : Host) (base :
   VerbWantsOf verbs.List intent = WantsByUpdates Lists intent
   VerbWantsOf verbs.CheckNew intent = WantsByUpdates ChecksNew intent
   VerbWantsOf (verbs.Update wanted) intent = WantsByUpdates (ByUpdate files host wanted) intent
-  VerbWantsOf verbs.Vacuum intent = WantsByUpdates (ByVacuum host) intent
+  VerbWantsOf verbs.Vacuum intent = RoomWants intent
   VerbWantsOf verbs.Features intent = FeaturesWants intent
 
 -- what a verb wants of a host

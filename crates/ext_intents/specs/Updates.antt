@@ -35,13 +35,13 @@ use Rattle.ext_intents.specs.declared.updates.Looked.TheVariants.{Found, Refused
 use Rattle.ext_update.specs.declared.updates.Updates.{Updates}
 
 -- how it is told why transfers are not known: by a refusal, or by that nothing was planned
-abbrev pub not_active : ActiveErr → Result Looked PlanErr
+abbrev pub not_active : ActiveErr → Result Refusal PlanErr
 not_active inactive.OutOfMemory = Err OutOfMemory
-not_active (inactive.BadFeature file line why) = Ok (Refused (refusals.BadFeature line why file))
-not_active (inactive.BadHostRelease line) = Ok (Refused (refusals.BadHostRelease line))
-not_active inactive.NoTransfers = Ok (Refused refusals.NoTransfers)
-not_active (inactive.BadTransfer file line why) = Ok (Refused (refusals.BadTransfer line why file))
-not_active inactive.NoneOn = Ok (Refused refusals.NoneOn)
+not_active (inactive.BadFeature file line why) = Ok (refusals.BadFeature line why file)
+not_active (inactive.BadHostRelease line) = Ok (refusals.BadHostRelease line)
+not_active inactive.NoTransfers = Ok refusals.NoTransfers
+not_active (inactive.BadTransfer file line why) = Ok (refusals.BadTransfer line why file)
+not_active inactive.NoneOn = Ok refusals.NoneOn
 not_active (inactive.Shelf e) = Err (Shelf e)
 
 -- and why it is not known what sources offer
@@ -64,10 +64,15 @@ module _ (told : HeldFile → Told) (files : Option Files) (host : Host) (base :
     pub available : AreAvailable updates.transfers updates.offers updates.available
     pub installed : AreInstalled base updates.transfers updates.installed
 
-  -- there are none, for this reason: no transfers are known, or not what their sources offer
+  -- no transfers are known, for this reason
+  abbrev pub AreNoTransfers : Refusal → Type 0
+  AreNoTransfers refusal =
+      (error : ActiveErr) × ActiveGives told 0 0 base host.arch component (Err error) × (not_active error ≡ Ok refusal)
+
+  -- there are no updates, for this reason: no transfers are known, or not what their sources offer
   abbrev pub AreNoUpdates : Refusal → Type 0
   AreNoUpdates refusal =
-      ((error : ActiveErr) × ActiveGives told 0 0 base host.arch component (Err error) × (not_active error ≡ Ok (Refused refusal)))
+      AreNoTransfers refusal
       ⊎ ((transfers : List Transfer) × (error : OffersErr) × AreOn transfers × AreTold files transfers (Err error)
       × (not_offered error ≡ Ok (Refused refusal)))
 

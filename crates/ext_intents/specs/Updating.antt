@@ -5,6 +5,8 @@ use Rattle.std.specs.Prelude.{◌≡◌, ℕ, List, [], Option, Some, None}
 use Rattle.ext_depot.specs.Depot.{Files}
 use Rattle.ext_host.specs.Planning.{IsPlannedHost}
 use Rattle.ext_host.specs.declared.host.Host.{Host}
+use Rattle.ext_transfer.specs.declared.transfer.Transfer.{Transfer}
+use Rattle.ext_installed.specs.declared.instance.Instance.{Instance}
 use Rattle.ext_update.specs.Steps.{IfUpdated, IfVacuumed}
 use Rattle.ext_update.specs.Update.{UpdateWants}
 use Rattle.ext_update.specs.Vacuum.{VacuumWants}
@@ -57,6 +59,6 @@ ByUpdate files host wanted updates intent =
     × (intent ≡ update_intent wanted update)
 
 -- room in the targets
-abbrev pub ByVacuum : Host → Updates → Intent → Type 0
-ByVacuum host updates intent =
-    (vacuum : Vacuum) × VacuumWants host updates vacuum × IfVacuumed (IsPlannedHost host) vacuum × (intent ≡ vacuum_intent vacuum)
+abbrev pub ByVacuum : Host → List Transfer → List Instance → Intent → Type 0
+ByVacuum host transfers items intent =
+    (vacuum : Vacuum) × VacuumWants host transfers items vacuum × IfVacuumed (IsPlannedHost host) vacuum × (intent ≡ vacuum_intent vacuum)

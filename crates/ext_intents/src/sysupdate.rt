@@ -66,7 +66,7 @@ pub(crate) fn update_step<P: Depot, H: Shelf>(
                 shelf,
             )
         }
-        UpdateVerb::Vacuum => vacuum_step(alloc, host, &base, component, depot, shelf),
+        UpdateVerb::Vacuum => vacuum_step(alloc, host, &base, component, shelf),
         UpdateVerb::Features => features_step(alloc, host, &base, component, shelf),
     }
 }

@@ -53,27 +53,21 @@ pub(crate) fn updates_of<P: Depot, H: Shelf>(
 {
     match active(alloc, base, host.arch, component, shelf) {
         Ok(transfers) => updates_of_transfers(alloc, base, transfers, depot),
-        Err(failed) => not_active(failed),
+        Err(failed) => Ok(Looked::Refused(not_active(failed)?)),
     }
 }
 
 // How it is told that the transfers that are on are not known.
-fn not_active(failed: ActiveErr) -> Result<Looked, PlanErr>
+pub(crate) fn not_active(failed: ActiveErr) -> Result<Refusal, PlanErr>
     ensures { result ≡ not_active failed }
 {
     match failed {
         ActiveErr::OutOfMemory => Err(PlanErr::OutOfMemory),
-        ActiveErr::BadFeature { file, line, why } => {
-            Ok(Looked::Refused(Refusal::BadFeature { line, why, file }))
-        }
-        ActiveErr::BadHostRelease { line } => {
-            Ok(Looked::Refused(Refusal::BadHostRelease { line }))
-        }
-        ActiveErr::NoTransfers => Ok(Looked::Refused(Refusal::NoTransfers)),
-        ActiveErr::BadTransfer { file, line, why } => {
-            Ok(Looked::Refused(Refusal::BadTransfer { line, why, file }))
-        }
-        ActiveErr::NoneOn => Ok(Looked::Refused(Refusal::NoneOn)),
+        ActiveErr::BadFeature { file, line, why } => Ok(Refusal::BadFeature { line, why, file }),
+        ActiveErr::BadHostRelease { line } => Ok(Refusal::BadHostRelease { line }),
+        ActiveErr::NoTransfers => Ok(Refusal::NoTransfers),
+        ActiveErr::BadTransfer { file, line, why } => Ok(Refusal::BadTransfer { line, why, file }),
+        ActiveErr::NoneOn => Ok(Refusal::NoneOn),
         ActiveErr::Shelf(failed) => Err(PlanErr::Shelf(failed)),
     }
 }

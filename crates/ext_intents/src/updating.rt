@@ -1,10 +1,12 @@
 // The verbs `update` and `vacuum` of `sysupdate`.
-ghost use Rattle.std.specs.Prelude.{◌≡◌, ◌≤◌, ℕ, List, [], Option, IfErr, IfOk};
+ghost use Rattle.std.specs.Prelude.{◌≡◌, ◌<◌, ◌≤◌, ℕ, List, [], length, Option, IfErr, IfOk};
 ghost use Rattle.std.specs.Option.{option_copied};
-ghost use Rattle.ext_depot.specs.Depot.{IsKept};
+ghost use Rattle.ext_depot.specs.Depot.{Files, IsKept};
 ghost use Rattle.ext_host.specs.Planning.{IsBaseTree, ServesAll};
 ghost use Rattle.ext_host.specs.Valid.{IsValidHost};
 ghost use Rattle.ext_feature.specs.Active.{IsUpdateFile};
+ghost use Rattle.ext_installed.specs.Installed.{AreInstalled};
+ghost use Rattle.ext_installed.specs.declared.instance.Instances.{Instances};
 ghost use Rattle.ext_update.specs.Given.{AreUpdatesFor};
 ghost use Rattle.ext_cmd.specs.declared.command.UpdateVerb.TheVariants as verbs;
 ghost use Rattle.ext_intents.specs.Causes.{StepCause};
@@ -14,12 +16,14 @@ ghost use Rattle.ext_intents.specs.Updating.{ByUpdate, ByVacuum, refusal_for, up
 
 use crate::intent::Intent;
 use crate::plan_err::PlanErr;
-use crate::updates::{Looked, updates_of};
+use crate::updates::{Looked, not_active, updates_of};
 use ext_cmd::{Answer, Refusal};
 use ext_depot::Depot;
+use ext_feature::active;
 use ext_host::{Held, Host, Shelf};
+use ext_installed::installed;
 use ext_text::{OutOfMemory, SortedPaths, Text};
-use ext_transfer::Component;
+use ext_transfer::{Component, Transfer};
 use ext_tree::Tree;
 use ext_update::{Update, UpdateErr, UpdateRefusal, Updates, Vacuum, plan_update, plan_vacuum};
 use ext_vers::Version;
@@ -145,40 +149,44 @@ fn refusal_of(wanted: Text, reason: UpdateRefusal) -> Refusal
     }
 }
 
-// What `vacuum` wants.
-pub(crate) fn vacuum_step<P: Depot, H: Shelf>(
+// What `vacuum` wants. The depot is not looked at.
+pub(crate) fn vacuum_step<H: Shelf>(
     alloc: Global,
     host: &Host,
     base: &Tree<Held>,
     component: Option<&Component>,
-    depot: &mut P,
     shelf: &mut H,
 ) -> Result<Intent, PlanErr>
     requires valid { IsValidHost host.now }
     requires base { IsBaseTree host.now base.now }
     requires serves { ServesAll (H.serves shelf.old) base.now }
-    ensures wants { IfOk result (VerbWantsOf (H.told shelf.old) (P.state depot.old).contents host.now base.now
+    ensures wants { (files : Option Files) → IfOk result (VerbWantsOf (H.told shelf.old) files host.now base.now
         (option_copied component.entry) verbs.Vacuum) }
-    ensures kept { IsKept (P.state depot.old) (P.state depot.new) }
     ensures stays { H.stays shelf.old shelf.new }
     ensures count { H.faults shelf.old ≤ H.faults shelf.new }
-    ensures cause { IfErr result (StepCause (IsUpdateFile base.now (option_copied component.entry)) host.now (H.told shelf.old)
-        (H.faults shelf.old) (H.faults shelf.new) (P.state depot.old).faults (P.state depot.new).faults) }
+    ensures cause { (before after : ℕ) → IfErr result (StepCause (IsUpdateFile base.now (option_copied component.entry)) host.now
+        (H.told shelf.old) (H.faults shelf.old) (H.faults shelf.new) before after) }
 {
-    match updates_of(alloc, host, base, component, depot, shelf) {
-        Ok(Looked::Found(updates)) => Ok(vacuumed(alloc, host, &updates)?),
-        Ok(Looked::Refused(refusal)) => Ok(Intent::Refuses(refusal)),
-        Err(failed) => Err(failed),
+    match active(alloc, base, host.arch, component, shelf) {
+        Ok(transfers) => Ok(vacuumed(alloc, host, base, transfers.as_slice())?),
+        Err(failed) => Ok(Intent::Refuses(not_active(failed)?)),
     }
 }
 
-// Room in the targets.
-fn vacuumed(alloc: Global, host: &Host, updates: &Updates) -> Result<Intent, OutOfMemory>
+// Room in the targets of transfers.
+fn vacuumed(
+    alloc: Global,
+    host: &Host,
+    base: &Tree<Held>,
+    transfers: &[Transfer],
+) -> Result<Intent, OutOfMemory>
+    requires some { 0 < length transfers.now }
     requires valid { IsValidHost host.now }
-    requires updates { AreUpdatesFor host.now updates.now }
-    ensures { IfOk result (ByVacuum host.now updates.now) }
+    ensures { IfOk result (λ intent. (installed : Instances) × AreInstalled base.now transfers.now installed
+        × ByVacuum host.now transfers.now installed.items intent) }
 {
-    let vacuum = plan_vacuum(alloc, host, updates)?;
+    let installed = installed(alloc, base, transfers)?;
+    let vacuum = plan_vacuum(alloc, host, transfers, &installed)?;
     Ok(vacuum_intent(alloc, vacuum))
 }
 

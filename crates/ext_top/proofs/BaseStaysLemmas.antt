@@ -38,6 +38,9 @@ use Rattle.ext_host.specs.declared.host.Host.{Host}
 use Rattle.ext_host.specs.declared.host.Plan.{Plan}
 use Rattle.ext_host.specs.declared.manifest.Manifest.{Manifest}
 use Rattle.ext_host.specs.declared.past.Past.{Past}
+use Rattle.ext_transfer.specs.declared.transfer.Transfer.{Transfer}
+use Rattle.ext_installed.specs.Installed.{AreInstalled}
+use Rattle.ext_installed.specs.declared.instance.Instances.{Instances}
 use Rattle.ext_updated.specs.Pieces.{piece_at}
 use Rattle.ext_updated.specs.declared.piece.Piece.{Piece}
 use Rattle.ext_updated.proofs.ForCallers.{any_among}
@@ -85,12 +88,12 @@ use Rattle.ext_intents.specs.Views.{MergeWants, RefreshWants, ViewWants, planned
 use Rattle.ext_intents.specs.declared.intent.Intent.{Intent}
 use Rattle.ext_intents.specs.declared.intent.Intent.TheVariants.{Answers, Changes, Checks, Refuses, Shows}
 use Rattle.ext_intents.specs.Sysupdate.{VerbWants}
-use Rattle.ext_intents.specs.Updates.{AreUpdates}
+use Rattle.ext_intents.specs.Updates.{AreOn, AreUpdates}
 use Rattle.ext_intents.specs.Updating.{ByUpdate, ByVacuum, update_intent, vacuum_intent}
 use Rattle.ext_intents.proofs.ForCallers.{components_reply, history_changes_reply, history_reply, update_replies, view_replies}
 use Rattle.ext_top.specs.Machine.{bytes_at}
 use Rattle.ext_top.specs.Untouched.{CommandTouches, TouchesByVerb, base_in, installed_in}
-use Rattle.ext_top.specs.Updating.{MakesRoomIn, UpdatesHost, writes_in}
+use Rattle.ext_top.specs.Updating.{FindsInstances, MakesRoomIn, UpdatesHost, writes_in}
 
 -- where another host is wanted, this holds of that one
 abbrev pub IfChanges : (Host → Type 0) → Intent → Type 0
@@ -214,14 +217,28 @@ module _ (g : Generation) (contents : Home → List ℕ) where
           refl,
         )
 
+  module _ (files : Option Files) (component : Option (List ℕ)) (base : Entries HeldFile) (transfers : List Transfer) (instances : Instances) (is : IsBaseTree g.host base)
+      (on : AreOn (λ held. stored (bytes_at (at g contents) held.body)) files g.host base component transfers) (are : AreInstalled base transfers instances) where
+    -- the transfers that are on and their instances, as they are found
+    abbrev pub found_instances : FindsInstances (at g contents) files component transfers instances
+    found_instances = record {
+      seen = record { host = g.host; number = g.number; newest = g.text == 2; told = λ held. stored (bytes_at (at g contents) held.body) };
+      is_seen = refl;
+      base = base;
+      is_base = is;
+      are_on = on;
+      are = are;
+    }
+
     -- room that is made, and what goes for it
-    pub vacuum_changes : (removed : List (List (List ℕ))) (next : Host) → VacuumWants g.host updates (vacuumed.Changes removed next)
-        → (room : MakesRoomIn (at g contents) files component) × IsWrittenOver g.host next (no_writes room.division) × (room.updates ≡ updates)
+    pub vacuum_changes : (removed : List (List (List ℕ))) (next : Host) → VacuumWants g.host transfers instances.items (vacuumed.Changes removed next)
+        → (room : MakesRoomIn (at g contents) files component) × IsWrittenOver g.host next (no_writes room.division)
     vacuum_changes removed next wants =
-        let all = vacuum_removes g.host next updates removed wants in (
+        let all = vacuum_removes g.host next transfers instances.items removed wants in (
           record {
-            updates = updates;
-            finds = record { seen = record { host = g.host; number = g.number; newest = g.text == 2; told = λ held. stored (bytes_at (at g contents) held.body) }; is_seen = refl; base = base; is_base = is; are = are };
+            transfers = transfers;
+            instances = instances;
+            finds = found_instances;
             removed = removed;
             next = next;
             wants = wants;
@@ -235,7 +252,6 @@ module _ (g : Generation) (contents : Home → List ℕ) where
             manifests = λ valid manifest has apart. (manifests_are_kept g.host next (no_writes all.0) [] all.3 valid tt).kept manifest has apart;
             resources = λ piece has. resources_stand g.host next (no_writes all.0) piece all.3 has;
           },
-          refl,
         )
 
 module _ (path : List (List ℕ)) (g : Generation) (contents : Home → List ℕ) where
@@ -331,16 +347,18 @@ module _ (path : List (List ℕ)) (g : Generation) (contents : Home → List ℕ
         → ByUpdate files g.host wanted updates intent → Stays intent
     by_update_keeps wanted intent apart (update, wants, plans_it, same) = of_same (NextKeeps path (at g contents)) _ intent same (updated_keeps wanted update apart wants plans_it)
 
+  module _ (files : Option Files) (component : Option (List ℕ)) (base : Entries HeldFile) (transfers : List Transfer) (instances : Instances) (is : IsBaseTree g.host base)
+      (on : AreOn told_here files g.host base component transfers) (are : AreInstalled base transfers instances) where
     vacuumed_keeps : (vacuum : Vacuum) → ((other : List (List ℕ)) → TouchesByVerb (at g contents) files component verbs.Vacuum other → are_related other path ≡ false)
-        → VacuumWants g.host updates vacuum → IfVacuumed (IsPlannedHost g.host) vacuum → Stays (vacuum_intent vacuum)
+        → VacuumWants g.host transfers instances.items vacuum → IfVacuumed (IsPlannedHost g.host) vacuum → Stays (vacuum_intent vacuum)
     vacuumed_keeps vacuumed.Unchanged apart wants plans_it = tt
     vacuumed_keeps (vacuumed.Changes removed next) apart wants plans_it =
-        let all = vacuum_changes g contents files component base updates is are removed next wants in
+        let all = vacuum_changes g contents files component base transfers instances is on are removed next wants in
         writes_keep next (no_writes all.0.division) all.1 plans_it.valid
         (subst (λ ps. meets ps path ≡ false) all.0.all (none_meets all.0.removed (λ other among. apart other (all.0, among))))
     vacuumed_keeps (vacuumed.Refused reason) apart wants plans_it = tt
 
-    by_vacuum_keeps : (intent : Intent) → ((other : List (List ℕ)) → TouchesByVerb (at g contents) files component verbs.Vacuum other → are_related other path ≡ false) → ByVacuum g.host updates intent → Stays intent
+    by_vacuum_keeps : (intent : Intent) → ((other : List (List ℕ)) → TouchesByVerb (at g contents) files component verbs.Vacuum other → are_related other path ≡ false) → ByVacuum g.host transfers instances.items intent → Stays intent
     by_vacuum_keeps intent apart (vacuum, wants, plans_it, same) = of_same (NextKeeps path (at g contents)) _ intent same (vacuumed_keeps vacuum apart wants plans_it)
 
   reply_keeps : (intent : Intent) → IsAnswerOrRefusal intent → Stays intent
@@ -356,7 +374,7 @@ module _ (path : List (List ℕ)) (g : Generation) (contents : Home → List ℕ
   verb_keeps files component verbs.CheckNew intent apart wants = reply_keeps intent (update_replies g.host told_here files component verbs.CheckNew intent tt wants)
   verb_keeps files component (verbs.Update wanted) intent apart (base, is, inl (updates, are, by)) = by_update_keeps files component base updates is are wanted intent apart by
   verb_keeps files component (verbs.Update wanted) intent apart (base, is, inr (refusal, lacking, same)) = of_same (NextKeeps path (at g contents)) _ intent same tt
-  verb_keeps files component verbs.Vacuum intent apart (base, is, inl (updates, are, by)) = by_vacuum_keeps files component base updates is are intent apart by
+  verb_keeps files component verbs.Vacuum intent apart (base, is, inl (transfers, instances, on, are, by)) = by_vacuum_keeps files component base transfers instances is on are intent apart by
   verb_keeps files component verbs.Vacuum intent apart (base, is, inr (refusal, lacking, same)) = of_same (NextKeeps path (at g contents)) _ intent same tt
   verb_keeps files component verbs.Features intent apart wants = reply_keeps intent (update_replies g.host told_here files component verbs.Features intent tt wants)
 

@@ -9,9 +9,11 @@ use Rattle.ext_host.specs.Planning.{IsBaseTree}
 use Rattle.ext_host.specs.Shelf.{stored}
 use Rattle.ext_host.specs.declared.home.Home.{Home}
 use Rattle.ext_host.specs.declared.host.Host.{Host}
+use Rattle.ext_transfer.specs.declared.transfer.Transfer.{Transfer}
+use Rattle.ext_installed.specs.Installed.{AreInstalled}
+use Rattle.ext_installed.specs.declared.instance.Instances.{Instances}
 use Rattle.ext_updated.specs.Pieces.{piece_at, seen_at}
 use Rattle.ext_updated.proofs.ForCallers.{files_decide}
-use Rattle.ext_update.specs.Laws.{IsProtected}
 use Rattle.ext_update.specs.Update.{UpdateWants}
 use Rattle.ext_update.specs.Vacuum.{VacuumWants}
 use Rattle.ext_update.specs.declared.planned.Update.{Update}
@@ -32,7 +34,7 @@ use Rattle.ext_cmd.specs.declared.refusal.Refusal.{Refusal}
 use Rattle.ext_cmd.specs.declared.refusal.Refusal.TheVariants.{NoStore}
 use Rattle.ext_intents.specs.Intents.{IsAnswerOrRefusal, IsPlanned}
 use Rattle.ext_intents.specs.Sysupdate as asked
-use Rattle.ext_intents.specs.Updates.{AreUpdates}
+use Rattle.ext_intents.specs.Updates.{AreOn, AreUpdates}
 use Rattle.ext_intents.specs.Updating.{update_intent, vacuum_intent}
 use Rattle.ext_intents.specs.declared.intent.Intent.{Intent}
 use Rattle.ext_intents.specs.declared.intent.Intent.TheVariants.{Answers, Changes, Checks, Refuses, Shows}
@@ -42,7 +44,7 @@ use Rattle.ext_top.specs.Laws.{AddedVersionsStay, AddsVersion, KeepsProtected, P
 use Rattle.ext_top.specs.Machine.{Comes, IsNextState, Step, bytes_at, gives, refuses}
 use Rattle.ext_top.specs.Untouched.{After, IsUntouched}
 use Rattle.ext_top.specs.Updating.{writes_in}
-use Rattle.ext_top.proofs.BaseStaysLemmas.{IfChanges, update_changes, vacuum_changes, writes_base}
+use Rattle.ext_top.proofs.BaseStaysLemmas.{IfChanges, found_instances, update_changes, vacuum_changes, writes_base}
 use Rattle.ext_top.proofs.UntouchedLemmas.{IsGood, first_untouched, lines_good, manifest_stays, next_good, next_installed, next_same, stands_good, step_planned}
 use Rattle.ext_top.proofs.WayLemmas.{on_the_way_is_after_some}
 
@@ -68,6 +70,10 @@ module _ (g : Generation) (contents : Home → List ℕ) (files : Option Files) 
   abbrev AreHere : Entries HeldFile → Updates → Type 0
   AreHere base updates = AreUpdates (λ held. stored (bytes_at (at g contents) held.body)) files g.host base component updates
 
+  -- these transfers are on, by the host with this base
+  abbrev AreOnHere : Entries HeldFile → List Transfer → Type 0
+  AreOnHere base transfers = AreOn (λ held. stored (bytes_at (at g contents) held.body)) files g.host base component transfers
+
   -- it is planned in the coming generation
   abbrev IsComing : Intent → Type 0
   IsComing = IfChanges (IsPlanned (g.number + 1) (Some g.host))
@@ -89,11 +95,13 @@ module _ (g : Generation) (contents : Home → List ℕ) (files : Option Files) 
   record DoneVacuum : Type 0 where
     base : Entries HeldFile
     is : IsBaseTree g.host base
-    updates : Updates
-    are : AreHere base updates
+    transfers : List Transfer
+    instances : Instances
+    on : AreOnHere base transfers
+    are : AreInstalled base transfers instances
     removed : List (List (List ℕ))
     next : Host
-    wants : VacuumWants g.host updates (vacuumed.Changes removed next)
+    wants : VacuumWants g.host transfers instances.items (vacuumed.Changes removed next)
     planned : IsPlanned (g.number + 1) (Some g.host) next
     state : IsNextState (at g contents) files next v
 
@@ -116,13 +124,16 @@ module _ (g : Generation) (contents : Home → List ℕ) (files : Option Files) 
     planned_update wanted (updated.Changes version next) wants planned (inr (refusal, refused, same)) = absurd (not_refused v reply refusal same)
     planned_update wanted (updated.Refused reason) wants planned same = absurd (not_refused v reply _ same)
 
-    planned_vacuum : (vacuum : Vacuum) → VacuumWants g.host updates vacuum → IsComing (vacuum_intent vacuum)
+  module _ (base : Entries HeldFile) (is : IsBaseTree g.host base) (transfers : List Transfer) (instances : Instances) (on : AreOnHere base transfers) (are : AreInstalled base transfers instances) where
+    planned_vacuum : (vacuum : Vacuum) → VacuumWants g.host transfers instances.items vacuum → IsComing (vacuum_intent vacuum)
         → Comes (at g contents) files (vacuum_intent vacuum) (gives v reply) → (v ≡ at g contents) ⊎ DoneVacuum
     planned_vacuum vacuumed.Unchanged wants planned same = inl (state_same v (at g contents) reply _ same)
     planned_vacuum (vacuumed.Changes removed next) wants planned (inl (w, free, state, same)) = inr (record {
       base = base;
       is = is;
-      updates = updates;
+      transfers = transfers;
+      instances = instances;
+      on = on;
       are = are;
       removed = removed;
       next = next;
@@ -144,8 +155,8 @@ module _ (g : Generation) (contents : Home → List ℕ) (files : Option Files) 
       absurd (not_refused v reply refusal (subst (λ i. Comes (at g contents) files i (gives v reply)) same comes))
 
   done_vacuum : (intent : Intent) → WantsHere verbs.Vacuum intent → IsComing intent → Comes (at g contents) files intent (gives v reply) → (v ≡ at g contents) ⊎ DoneVacuum
-  done_vacuum intent (base, is, inl (updates, are, (vacuum, wants, plans, same))) planned comes =
-      planned_vacuum base is updates are vacuum wants (subst IsComing same planned) (subst (λ i. Comes (at g contents) files i (gives v reply)) same comes)
+  done_vacuum intent (base, is, inl (transfers, instances, on, are, (vacuum, wants, plans, same))) planned comes =
+      planned_vacuum base is transfers instances on are vacuum wants (subst IsComing same planned) (subst (λ i. Comes (at g contents) files i (gives v reply)) same comes)
   done_vacuum intent (base, is, inr (refusal, lacking, same)) planned comes =
       absurd (not_refused v reply refusal (subst (λ i. Comes (at g contents) files i (gives v reply)) same comes))
 
@@ -175,24 +186,26 @@ module _ (g : Generation) (contents : Home → List ℕ) (files : Option Files) 
     keeps_updated wanted done =
         let changes = update_changes g contents files component done.base done.updates done.is done.are wanted done.version done.next done.wants in
         record {
-          updates = changes.0.updates;
-          finds = changes.0.finds;
+          transfers = done.updates.transfers;
+          instances = done.updates.installed;
+          finds = found_instances g contents files component done.base done.updates.transfers done.updates.installed done.is done.are.active done.are.installed;
           stands = λ item rest is.
               next_same (at g contents) good files done.next v (item.path ++ rest) done.state
               (writes_base g contents done.next (writes_in changes.0) changes.1 (item.path ++ rest)
-              (updates_keep_protected files g.host done.next done.updates wanted done.version item done.wants (subst (λ u. IsProtected u item) changes.2 is) rest));
+              (updates_keep_protected files g.host done.next done.updates wanted done.version item done.wants is rest));
         }
 
     keeps_vacuumed : DoneVacuum → KeepsProtected (at g contents) v files component
     keeps_vacuumed done =
-        let changes = vacuum_changes g contents files component done.base done.updates done.is done.are done.removed done.next done.wants in
+        let changes = vacuum_changes g contents files component done.base done.transfers done.instances done.is done.on done.are done.removed done.next done.wants in
         record {
-          updates = changes.0.updates;
-          finds = changes.0.finds;
+          transfers = done.transfers;
+          instances = done.instances;
+          finds = found_instances g contents files component done.base done.transfers done.instances done.is done.on done.are;
           stands = λ item rest is.
               next_same (at g contents) good files done.next v (item.path ++ rest) done.state
               (writes_base g contents done.next _ changes.1 (item.path ++ rest)
-              (vacuums_keep_protected g.host done.next done.updates done.removed item done.wants (subst (λ u. IsProtected u item) changes.2 is) rest));
+              (vacuums_keep_protected g.host done.next done.transfers done.instances.items done.removed item done.wants is rest));
         }
 
 or_more : {A B C : Type 0} → (B → C) → A ⊎ B → A ⊎ C

@@ -11,10 +11,11 @@ use Rattle.ext_host.specs.Held.{HeldFile}
 use Rattle.ext_host.specs.declared.home.Home.{Home}
 use Rattle.ext_host.specs.declared.host.Host.{Host}
 use Rattle.ext_host.specs.declared.manifest.Manifest.{Manifest}
+use Rattle.ext_transfer.specs.declared.transfer.Transfer.{Transfer}
 use Rattle.ext_installed.specs.declared.instance.Instance.{Instance}
+use Rattle.ext_installed.specs.declared.instance.Instances.{Instances}
 use Rattle.ext_updated.specs.declared.piece.Piece.{Piece}
 use Rattle.ext_update.specs.Laws.{IsProtected}
-use Rattle.ext_update.specs.declared.updates.Updates.{Updates}
 use Rattle.ext_gen.specs.Preparing.{host_before}
 use Rattle.ext_gen.specs.PreparingIndex.{coming_index}
 use Rattle.ext_store_files.specs.Appended.{Raises}
@@ -37,7 +38,7 @@ use Rattle.ext_top.specs.Exits.{EndsLines, IsOnTheWay, Line, LineComes, Standing
 use Rattle.ext_top.specs.Machine.{Outcome, Step, gives}
 use Rattle.ext_top.specs.Returning.{IsBackAt}
 use Rattle.ext_top.specs.Untouched.{After, HasInstalled, IsInstalledAs, IsSameAt, IsUntouched, IsWellFormedLine, installed_in}
-use Rattle.ext_top.specs.Updating.{FindsUpdates, UpdatesHost, pieces_in}
+use Rattle.ext_top.specs.Updating.{FindsInstances, UpdatesHost, pieces_in}
 use Rattle.ext_top.specs.Working.{Replaced, WantsOn}
 
 -- the reply to a source is one: a command without a store, but for a sample, has one outcome for the same bytes
@@ -138,12 +139,13 @@ AddedVersionsStay LeadTo =
     → LineComes u files (does (Sysupdate component (asks.Update wanted))) (gives v reply)
     → (v ≡ u) ⊎ AddsVersion LeadTo u v files component wanted reply
 
--- the updates that a command finds, of which each instance of a version that its transfer protects stands in the later state as in
--- the earlier one, at and below its path
+-- the transfers that are on and their instances, of which each one of a version that its transfer protects stands in the later state
+-- as in the earlier one, at and below its path
 pub record KeepsProtected (u v : State) (files : Option Files) (component : Option (List ℕ)) : Type 0 where
-  pub updates : Updates
-  pub finds : FindsUpdates u files component updates
-  pub stands : (item : Instance) (rest : List (List ℕ)) → IsProtected updates item → IsSameAt u v (item.path ++ rest)
+  pub transfers : List Transfer
+  pub instances : Instances
+  pub finds : FindsInstances u files component transfers instances
+  pub stands : (item : Instance) (rest : List (List ℕ)) → IsProtected transfers instances.items item → IsSameAt u v (item.path ++ rest)
 
 -- No update and no making of room removes a protected version: from a state for which a store stands, after any lines, a done one
 -- leaves the state as it is, or keeps what is protected.

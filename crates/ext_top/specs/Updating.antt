@@ -6,6 +6,9 @@ use Rattle.ext_tree.specs.Tree.{Entries}
 use Rattle.ext_host.specs.Held.{HeldFile}
 use Rattle.ext_host.specs.Planning.{IsBaseTree}
 use Rattle.ext_host.specs.declared.host.Host.{Host}
+use Rattle.ext_transfer.specs.declared.transfer.Transfer.{Transfer}
+use Rattle.ext_installed.specs.Installed.{AreInstalled}
+use Rattle.ext_installed.specs.declared.instance.Instances.{Instances}
 use Rattle.ext_choice.specs.Vacuum.{IsDivision}
 use Rattle.ext_choice.specs.declared.division.Division.{Division}
 use Rattle.ext_resources.specs.Told.{TellsResources}
@@ -19,7 +22,7 @@ use Rattle.ext_update.specs.declared.planned.Vacuum.TheVariants as vacuumed
 use Rattle.ext_update.specs.declared.updates.Updates.{Updates}
 use Rattle.ext_gen.specs.Store.{State}
 use Rattle.ext_intents.specs.Intents.{Seen}
-use Rattle.ext_intents.specs.Updates.{AreUpdates}
+use Rattle.ext_intents.specs.Updates.{AreOn, AreUpdates}
 use Rattle.ext_top.specs.Machine.{seen_in}
 
 -- these are the updates of a component, by what is seen of a state's host and what the depot has
@@ -29,6 +32,15 @@ pub record FindsUpdates (s : State) (files : Option Files) (component : Option (
   pub base : Entries HeldFile
   pub is_base : IsBaseTree seen.host base
   pub are : AreUpdates seen.told files seen.host base component updates
+
+-- these transfers of a component are on, and the base of a state's host has these instances of them, by what is seen of it
+pub record FindsInstances (s : State) (files : Option Files) (component : Option (List ℕ)) (transfers : List Transfer) (instances : Instances) : Type 0 where
+  pub seen : Seen
+  pub is_seen : seen_in s ≡ Some seen
+  pub base : Entries HeldFile
+  pub is_base : IsBaseTree seen.host base
+  pub are_on : AreOn seen.told files seen.host base component transfers
+  pub are : AreInstalled base transfers instances
 
 -- An update, to the version that is wanted or else to the newest, that wants another host: its version, what the depot lists of that
 -- for the transfers that lack it, and which instances go so that there is room.
@@ -53,11 +65,12 @@ pieces_in update = (writes_in update).resources
 
 -- room that is made in the targets of a component's transfers, where that wants another host: which instances go
 pub record MakesRoomIn (s : State) (files : Option Files) (component : Option (List ℕ)) : Type 0 where
-  pub updates : Updates
-  pub finds : FindsUpdates s files component updates
+  pub transfers : List Transfer
+  pub instances : Instances
+  pub finds : FindsInstances s files component transfers instances
   pub removed : List (List (List ℕ))
   pub next : Host
-  pub wants : VacuumWants finds.seen.host updates (vacuumed.Changes removed next)
+  pub wants : VacuumWants finds.seen.host transfers instances.items (vacuumed.Changes removed next)
   pub division : Division
-  pub divides : IsDivision updates.transfers None updates.installed.items division
+  pub divides : IsDivision transfers None instances.items division
   pub all : removed ≡ division.removed

@@ -142,14 +142,14 @@ stays_stands host next writes path wants each at rest =
     staying_stays host.root (items_of writes) (written_pieces writes) next.root path rest (record { paths = pieces_written writes is.fits; each = each }) is.apart is.updated
     (contained_among writes.staying path at)
 
-protected_stays_at : (updates : Updates) (coming : Option (List ℕ)) (division : Division) (item : Instance) → IsDivision updates.transfers coming updates.installed.items division
-    → IsProtected updates item → Contains division.staying item.path
-protected_stays_at updates coming division item divides is =
+protected_stays_at : (transfers : List Transfer) (items : List Instance) (coming : Option (List ℕ)) (division : Division) (item : Instance) → IsDivision transfers coming items division
+    → IsProtected transfers items item → Contains division.staying item.path
+protected_stays_at transfers items coming division item divides is =
     (divides.others item.path).1 (record {
       item = item;
       among = is.among;
       at = refl;
-      stays = protected_instance_stays updates.transfers coming updates.installed.items item is.transfer is.there is.protected;
+      stays = protected_instance_stays transfers coming items item is.transfer is.there is.protected;
     })
 
 -- what is written are pieces
@@ -259,7 +259,7 @@ pub updates_keep_protected : UpdatesKeepProtected
 updates_keep_protected files host next updates wanted version item wants is =
     let all = update_writes files host next updates wanted version wants in
     stays_stands host next (writes_of updates version all.0 all.1) item.path all.4 (writes_pieces updates version all.0 all.1)
-    (protected_stays_at updates (Some version) all.1 item all.3 is)
+    (protected_stays_at updates.transfers updates.installed.items (Some version) all.1 item all.3 is)
 
 removal_same : (p q : List (List (List ℕ))) (a b : Host) → vacuumed.Changes p a ≡ vacuumed.Changes q b → (p ≡ q) × (a ≡ b)
 removal_same p q a b same = (cc, cc)
@@ -277,29 +277,29 @@ room_not_refused removed next refusal same = cc same
 room_not_unchanged : (removed : List (List (List ℕ))) (next : Host) → vacuumed.Changes removed next ≡ vacuumed.Unchanged → ⊥
 room_not_unchanged removed next same = cc same
 
-module _ (host next : Host) (updates : Updates) (removed : List (List (List ℕ))) where
+module _ (host next : Host) (transfers : List Transfer) (items : List Instance) (removed : List (List (List ℕ))) where
   -- what goes where room is made
   abbrev RemovesNext : Type 0
   RemovesNext =
-      (division : Division) × IsDivision updates.transfers None updates.installed.items division × (removed ≡ division.removed)
+      (division : Division) × IsDivision transfers None items division × (removed ≡ division.removed)
       × WritesWant host (no_writes division) (plans.Next next)
 
-  planned_removes : (gone : List (List (List ℕ))) (division : Division) (planned : Planned) → IsDivision updates.transfers None updates.installed.items division
+  planned_removes : (gone : List (List (List ℕ))) (division : Division) (planned : Planned) → IsDivision transfers None items division
       → gone ≡ division.removed → WritesWant host (no_writes division) planned → vacuumed.Changes removed next ≡ vacuum_of gone planned → RemovesNext
   planned_removes gone division planned divides all wants same =
       let both = removal_is removed gone next planned same in
       (division, divides, both.0 ∙ all, subst (WritesWant host (no_writes division)) both.1 wants)
 
-  gone_removes : (gone : List (List (List ℕ))) (division : Division) → IsDivision updates.transfers None updates.installed.items division
+  gone_removes : (gone : List (List (List ℕ))) (division : Division) → IsDivision transfers None items division
       → gone ≡ division.removed → GoneWants host division gone (vacuumed.Changes removed next) → RemovesNext
   gone_removes [] division divides all same = absurd (room_not_unchanged removed next same)
   gone_removes (p ∷ ps) division divides all (planned, wants, same) = planned_removes (p ∷ ps) division planned divides all wants same
 
 pub vacuum_removes : VacuumsRemove
-vacuum_removes host next updates removed (inl (division, divides, wants)) = gone_removes host next updates removed division.removed division divides refl wants
-vacuum_removes host next updates removed (inr (file, count, lacks, same)) = absurd (room_not_refused removed next _ same)
+vacuum_removes host next transfers items removed (inl (division, divides, wants)) = gone_removes host next transfers items removed division.removed division divides refl wants
+vacuum_removes host next transfers items removed (inr (file, count, lacks, same)) = absurd (room_not_refused removed next _ same)
 
 pub vacuums_keep_protected : VacuumsKeepProtected
-vacuums_keep_protected host next updates removed item wants is =
-    let all = vacuum_removes host next updates removed wants in
-    stays_stands host next (no_writes all.0) item.path all.3 tt (protected_stays_at updates None all.0 item all.1 is)
+vacuums_keep_protected host next transfers items removed item wants is =
+    let all = vacuum_removes host next transfers items removed wants in
+    stays_stands host next (no_writes all.0) item.path all.3 tt (protected_stays_at transfers items None all.0 item all.1 is)

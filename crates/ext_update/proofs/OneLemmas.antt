@@ -262,25 +262,25 @@ update_once told files host updates wanted a b ascending (choice, chooses, wants
     let one = one_choice updates.available updates.installed.versions wanted choice other ascending chooses also in
     choice_once told files host updates other a b (subst (λ c. ChoiceWants (Some files) host updates c a) one wants) too
 
-module _ (host : Host) (updates : Updates) where
+module _ (host : Host) (transfers : List Transfer) (items : List Instance) where
   gone_once : (d : Division) (removed : List (List (List ℕ))) (a b : Vacuum) → GoneWants host d removed a → GoneWants host d removed b → a ≡ b
   gone_once d [] a b is same = is ∙ sym same
   gone_once d (p ∷ ps) a b (planned, wants, is) (other, also, same) =
       is ∙ ap (vacuum_of (p ∷ ps)) (writes_once host (no_writes d) planned other wants also) ∙ sym same
 
-  gone_to : (d e : Division) (removed : List (List (List ℕ))) (a : Vacuum) → IsDivision updates.transfers None updates.installed.items d → IsDivision updates.transfers None updates.installed.items e
+  gone_to : (d e : Division) (removed : List (List (List ℕ))) (a : Vacuum) → IsDivision transfers None items d → IsDivision transfers None items e
       → GoneWants host d removed a → GoneWants host e removed a
   gone_to d e [] a x y is = is
   gone_to d e (p ∷ ps) a x y (planned, wants, is) =
-      let removed = removed_once updates.transfers None updates.installed.items d e x y in
-      let moved : WritesWant host (record (no_writes d) { staying = e.staying }) planned = writes_to host (no_writes d) e.staying (staying_once updates.transfers None updates.installed.items d e x y) planned wants in
+      let removed = removed_once transfers None items d e x y in
+      let moved : WritesWant host (record (no_writes d) { staying = e.staying }) planned = writes_to host (no_writes d) e.staying (staying_once transfers None items d e x y) planned wants in
       (planned, subst (λ (qs : List (List (List ℕ))). WritesWant host (record (no_writes d) { removed = qs; staying = e.staying }) planned) removed moved, is)
 
 pub vacuum_once : OneVacuumPlan
-vacuum_once host updates a b (inl (d, x, wants)) (inl (e, y, also)) =
-    let removed = removed_once updates.transfers None updates.installed.items d e x y in
-    gone_once host updates e e.removed a b (subst (λ (ps : List (List (List ℕ))). GoneWants host e ps a) removed (gone_to host updates d e d.removed a x y wants)) also
-vacuum_once host updates a b (inl (d, x, wants)) (inr (f, n, lacks, is)) = absurd (room_lack updates.transfers None updates.installed.items d f n x lacks)
-vacuum_once host updates a b (inr (f, n, lacks, is)) (inl (e, y, also)) = absurd (room_lack updates.transfers None updates.installed.items e f n y lacks)
-vacuum_once host updates a b (inr (f, n, lacks, is)) (inr (g, m, also, same)) =
-    is ∙ ap vacuumed.Refused (lack_once updates.transfers None updates.installed.items f g n m lacks also) ∙ sym same
+vacuum_once host transfers items a b (inl (d, x, wants)) (inl (e, y, also)) =
+    let removed = removed_once transfers None items d e x y in
+    gone_once host transfers items e e.removed a b (subst (λ (ps : List (List (List ℕ))). GoneWants host e ps a) removed (gone_to host transfers items d e d.removed a x y wants)) also
+vacuum_once host transfers items a b (inl (d, x, wants)) (inr (f, n, lacks, is)) = absurd (room_lack transfers None items d f n x lacks)
+vacuum_once host transfers items a b (inr (f, n, lacks, is)) (inl (e, y, also)) = absurd (room_lack transfers None items e f n y lacks)
+vacuum_once host transfers items a b (inr (f, n, lacks, is)) (inr (g, m, also, same)) =
+    is ∙ ap vacuumed.Refused (lack_once transfers None items f g n m lacks also) ∙ sym same

@@ -39,7 +39,9 @@ OneUpdate =
 
 -- making room wants one thing
 abbrev pub OneVacuumPlan : Type 0
-OneVacuumPlan = (host : Host) (updates : Updates) (a b : Vacuum) → VacuumWants host updates a → VacuumWants host updates b → a ≡ b
+OneVacuumPlan =
+    (host : Host) (transfers : List Transfer) (items : List Instance) (a b : Vacuum)
+    → VacuumWants host transfers items a → VacuumWants host transfers items b → a ≡ b
 
 -- an update that changes the host writes the resources that the depot tells of its version, and removes what has to go
 abbrev pub UpdatesWrite : Type 0
@@ -53,8 +55,9 @@ UpdatesWrite =
 -- making room, where it changes the host, removes what has to go, and writes nothing
 abbrev pub VacuumsRemove : Type 0
 VacuumsRemove =
-    (host next : Host) (updates : Updates) (removed : List (List (List ℕ))) → VacuumWants host updates (vacuumed.Changes removed next)
-    → (division : Division) × IsDivision updates.transfers None updates.installed.items division × (removed ≡ division.removed)
+    (host next : Host) (transfers : List Transfer) (items : List Instance) (removed : List (List (List ℕ)))
+    → VacuumWants host transfers items (vacuumed.Changes removed next)
+    → (division : Division) × IsDivision transfers None items division × (removed ≡ division.removed)
     × WritesWant host (no_writes division) (Next next)
 
 -- the tree has at and below the path what it had
@@ -71,25 +74,26 @@ UntouchedStand =
 abbrev pub OtherPartsStay : Type 0
 OtherPartsStay = (host next : Host) (writes : Writes) → WritesWant host writes (Next next) → next ≡ record host { root = next.root; kept = next.kept }
 
--- an instance of a version that its transfer protects
-pub record IsProtected (updates : Updates) (item : Instance) : Type 0 where
+-- one of the instances of these transfers, of a version that its transfer protects
+pub record IsProtected (transfers : List Transfer) (items : List Instance) (item : Instance) : Type 0 where
   pub transfer : Transfer
-  pub among : Contains updates.installed.items item
-  pub there : slice_get updates.transfers item.transfer ≡ Some transfer
+  pub among : Contains items item
+  pub there : slice_get transfers item.transfer ≡ Some transfer
   pub protected : has_version transfer.protect item.version ≡ true
 
 -- over an update an instance of a protected version stands as before
 abbrev pub UpdatesKeepProtected : Type 0
 UpdatesKeepProtected =
     (files : Option Files) (host next : Host) (updates : Updates) (wanted : Option (List ℕ)) (version : List ℕ) (item : Instance)
-    → UpdateWants files host updates wanted (updated.Changes version next) → IsProtected updates item
+    → UpdateWants files host updates wanted (updated.Changes version next)
+    → IsProtected updates.transfers updates.installed.items item
     → StandsAsBefore host.root next.root item.path
 
 -- and where room is made
 abbrev pub VacuumsKeepProtected : Type 0
 VacuumsKeepProtected =
-    (host next : Host) (updates : Updates) (removed : List (List (List ℕ))) (item : Instance)
-    → VacuumWants host updates (vacuumed.Changes removed next) → IsProtected updates item
+    (host next : Host) (transfers : List Transfer) (items : List Instance) (removed : List (List (List ℕ))) (item : Instance)
+    → VacuumWants host transfers items (vacuumed.Changes removed next) → IsProtected transfers items item
     → StandsAsBefore host.root next.root item.path
 
 -- each resource that is written stands as it was put, and leaves a manifest that says what stands there

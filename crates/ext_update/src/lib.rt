@@ -2,9 +2,10 @@
 //!
 //! [`plan_update`] takes a host, what is known of its [`Updates`] and the depot, and gives the host that an update wants: the
 //! resources of a version in the targets of their transfers, the links to it, the oldest instances gone, and manifests that say
-//! what was written. [`plan_vacuum`] gives the host with room alone. Both are exact: that host, that nothing changes, or the first
-//! reason against it as an [`UpdateRefusal`]. The host is valid and drawn from the one before. Laws say that one thing is wanted,
-//! that protected instances stand, and which manifests are kept. They know of no commands: whoever reads these stands on this.
+//! what was written. [`plan_vacuum`] takes a host and the instances of transfers, and gives the host with room alone. Both are
+//! exact: that host, that nothing changes, or the first reason against it as an [`UpdateRefusal`]. The host is valid and drawn from
+//! the one before. Laws say that one thing is wanted, that protected instances stand, and which manifests are kept. They know of no
+//! commands: whoever reads these stands on this.
 #![tactic(auto)]
 
 mod arriving;

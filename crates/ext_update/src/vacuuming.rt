@@ -1,7 +1,9 @@
 ghost use Rattle.std.specs.Prelude.{◌≡◌, IfOk};
+ghost use Rattle.ext_tree.specs.Tree.{Entries};
+ghost use Rattle.ext_installed.specs.Installed.{AreInstalled};
+ghost use Rattle.ext_host.specs.Held.{HeldFile};
 ghost use Rattle.ext_host.specs.Planning.{IsPlannedHost};
 ghost use Rattle.ext_host.specs.Valid.{IsValidHost};
-ghost use Rattle.ext_update.specs.Given.{AreUpdatesFor};
 ghost use Rattle.ext_update.specs.Steps.{IfVacuumed};
 ghost use Rattle.ext_update.specs.Vacuum.{GoneWants, VacuumWants, vacuum_of};
 
@@ -10,19 +12,21 @@ use crate::items_of::items_of;
 use crate::planned::{Planned, Vacuum};
 use crate::refusal::UpdateRefusal;
 use crate::staging::plan;
-use crate::updates::Updates;
 use ext_choice::{Division, RoomErr, divide};
 use ext_host::Host;
+use ext_installed::Instances;
 use ext_text::{OutOfMemory, SortedPaths};
+use ext_transfer::Transfer;
 use std::alloc::Global;
 
-/// What making room wants of a valid host, by its updates. After systemd-sysupdate(8), command `vacuum`.
+/// What making room wants of a valid host, by transfers and what a base has of them. After systemd-sysupdate(8), command
+/// `vacuum`.
 ///
 /// The oldest instances go that no transfer protects, so that each target has no more versions than its transfer allows. Where
 /// none goes nothing changes. The manifests of what goes go too. The coming host is valid, and each file that it keeps is one of
 /// the host's.
 ///
-/// The updates are those of the host, as they are found by what its base has. It refuses by the first of these:
+/// What sources offer counts for nothing. It refuses by the first of these:
 ///
 /// - `NoRoom` for the first transfer that protects more versions than may stay.
 /// - `ReadOnly` with the least path that is removed and that a merge locks.
@@ -30,18 +34,18 @@ use std::alloc::Global;
 ///
 /// # Errors
 /// `OutOfMemory` alone.
-pub fn plan_vacuum(alloc: Global, host: &Host, updates: &Updates) -> Result<Vacuum, OutOfMemory>
+pub fn plan_vacuum(
+    alloc: Global,
+    host: &Host,
+    transfers: &[Transfer],
+    installed: &Instances,
+) -> Result<Vacuum, OutOfMemory>
     requires valid { IsValidHost host.now }
-    requires updates { AreUpdatesFor host.now updates.now }
-    ensures wants { IfOk result (VacuumWants host.now updates.now) }
+    requires installed { (base : Entries HeldFile) × AreInstalled base transfers.now installed.now }
+    ensures wants { IfOk result (VacuumWants host.now transfers.now installed.now.items) }
     ensures planned { IfOk result (IfVacuumed (IsPlannedHost host.now)) }
 {
-    match divide(
-        alloc,
-        updates.transfers.as_slice(),
-        &updates.installed,
-        None,
-    ) {
+    match divide(alloc, transfers, installed, None) {
         Ok(division) => vacuum(alloc, host, division),
         Err(RoomErr::OutOfMemory) => Err(OutOfMemory),
         Err(RoomErr::NoRoom { file, protected }) => {

@@ -57,18 +57,27 @@ returns-in-Update-clause-cause g c =
     (if_err_more _ (StepCause (IsSysupdateFile host component verb) host told old new before after) c.update_to_step.result
     (verb_cause host c.in_ok-base.base c.in_ok-base.ensures component told old new verb before after) c.update_to_step.ensures.cause)
 
+pub returns-in-Vacuum-clause-wants : goal.returns-in-Vacuum-clause-wants
+returns-in-Vacuum-clause-wants g c =
+    let host = c.args.host.now in
+    let told = g.H.Shelf.told c.args.shelf.now in
+    let files = (g.P.Depot.state c.args.depot.now).contents in
+    let component = option_copied c.args.component in
+    subst (λ v. IfOk c.vacuum_step.result (VerbWants host told files component v)) (sym c.in-Vacuum.is)
+    (if_ok_more _ (VerbWants host told files component verbs.Vacuum) c.vacuum_step.result
+    (λ intent wants. (c.in_ok-base.base, c.in_ok-base.ensures, wants)) (c.vacuum_step.ensures.wants files))
+
 pub returns-in-Vacuum-clause-cause : goal.returns-in-Vacuum-clause-cause
 returns-in-Vacuum-clause-cause g c =
     let host = c.args.host.now in
     let told = g.H.Shelf.told c.args.shelf.now in
     let old = g.H.Shelf.faults c.args.shelf.now in
     let new = g.H.Shelf.faults c.vacuum_step.new.shelf in
-    let before = (g.P.Depot.state c.args.depot.now).faults in
-    let after = (g.P.Depot.state c.vacuum_step.new.depot).faults in
+    let faults = (g.P.Depot.state c.args.depot.now).faults in
     let component = option_copied c.args.component in
-    subst (λ v. IfErr c.vacuum_step.result (StepCause (IsSysupdateFile host component v) host told old new before after)) (sym c.in-Vacuum.is)
-    (if_err_more _ (StepCause (IsSysupdateFile host component verbs.Vacuum) host told old new before after) c.vacuum_step.result
-    (verb_cause host c.in_ok-base.base c.in_ok-base.ensures component told old new verbs.Vacuum before after) c.vacuum_step.ensures.cause)
+    subst (λ v. IfErr c.vacuum_step.result (StepCause (IsSysupdateFile host component v) host told old new faults faults)) (sym c.in-Vacuum.is)
+    (if_err_more _ (StepCause (IsSysupdateFile host component verbs.Vacuum) host told old new faults faults) c.vacuum_step.result
+    (verb_cause host c.in_ok-base.base c.in_ok-base.ensures component told old new verbs.Vacuum faults faults) (c.vacuum_step.ensures.cause faults faults))
 
 pub returns-clause-wants : goal.returns-clause-wants
 returns-clause-wants g c =

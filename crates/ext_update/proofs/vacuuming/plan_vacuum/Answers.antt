@@ -2,4 +2,4 @@ use Rattle.ext_choice.proofs.ForCallers.{by_transfer}
 use Rattle.ext_update.proofs.vacuuming.plan_vacuum.Goals as goal
 
 pub divide-requires : goal.divide-requires
-divide-requires c = by_transfer c.args.updates.now.installed.items c.requires.updates.installed.order
+divide-requires c = by_transfer c.args.installed.now.items c.requires.installed.1.order
