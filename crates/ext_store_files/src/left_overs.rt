@@ -5,14 +5,14 @@ ghost use Rattle.std.specs.BTreeSet.{contains};
 ghost use Rattle.ext_disk.specs.Disk.{BothTold};
 ghost use Rattle.ext_disk.specs.Fixed.{Spares};
 ghost use Rattle.ext_store_files.specs.LeftOvers.{is_left_over, is_left_path, has_generation, is_left_generation, most_left_overs};
-ghost use Rattle.ext_store_files.specs.Removal.{AppendsNothing, CleanCause, Removes, Clears};
+ghost use Rattle.ext_store_files.specs.Removal.{is_below_any, AppendsNothing, CleanCause, Removes, Clears};
 
 use crate::errors::CleanErr;
 use crate::names::generation_of;
 use crate::paths::store_folder;
 use crate::removal::clear_all;
 use ext_disk::Disk;
-use ext_text::{Name, Names};
+use ext_text::{Name, Names, Path};
 use std::alloc::Global;
 use std::collections::BTreeSet;
 
@@ -42,6 +42,29 @@ pub fn remove_left_overs<D: Disk>(
 {
     let mut most = MOST_LEFT_OVERS;
     clear_left(alloc, disk, needed, &mut most)
+}
+
+/// Removes what stands at and below these names in a folder: at most 1,048,576 entries, what lies deeper first.
+///
+/// Each path elsewhere stays as it was, and each of them that no stop could have changed stays so. Nothing is appended.
+///
+/// # Errors
+/// - `Unfinished` exactly where more than 1,048,576 entries stood there. So many of them were removed.
+/// - A fault of the disk, only where it counted one, and out of memory. Some of them may have been removed.
+pub fn remove_below<D: Disk>(
+    alloc: Global,
+    disk: &mut D,
+    dir: &Path,
+    names: &[Name],
+) -> Result<(), CleanErr>
+    ensures spares { Spares (is_below_any dir.now names.now) (D.state disk.old) (D.state disk.new) }
+    ensures removes { BothTold (Removes most_left_overs (is_below_any dir.now names.now) result) (D.state disk.old).told
+        (D.state disk.new).told }
+    ensures appended { BothTold AppendsNothing (D.state disk.old).told (D.state disk.new).told }
+    ensures cause { IfErr result (CleanCause (D.state disk.old).faults (D.state disk.new).faults) }
+{
+    let mut most = MOST_LEFT_OVERS;
+    clear_all(alloc, disk, dir, names, &mut most)
 }
 
 // Removes the left-overs, of which so many may be.

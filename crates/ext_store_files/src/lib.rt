@@ -30,7 +30,7 @@ pub use errors::{CleanErr, CompareErr, CopyErr, ReadErr};
 pub use fault::StoreFault;
 pub use gen_shelf::GenShelf;
 pub use held_files::{file, verify};
-pub use left_overs::{MOST_LEFT_OVERS, is_left_over, remove_left_overs};
+pub use left_overs::{MOST_LEFT_OVERS, is_left_over, remove_below, remove_left_overs};
 pub use names::{generation_of, read_current};
 pub use paths::{
     FILES_OF_A_FOLDER, current_path, generation_path, home_folder, home_path, index_path,
