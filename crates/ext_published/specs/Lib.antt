@@ -1,0 +1,9 @@
+pub mod Names
+pub mod Asked
+pub mod Reading
+pub mod Payload
+pub mod Manifest
+pub mod Places
+pub mod Published
+pub mod Replies
+pub mod Laws
