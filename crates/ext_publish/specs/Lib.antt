@@ -1,0 +1,12 @@
+pub mod Status
+pub mod Store
+pub mod Stops
+pub mod Stopping
+pub mod Folders
+pub mod Copying
+pub mod Filling
+pub mod Switching
+pub mod Carrying
+pub mod Attempting
+pub mod Publishing
+pub mod Laws
