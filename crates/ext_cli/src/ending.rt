@@ -1,41 +1,13 @@
 use crate::access::has;
+use ext_reasons::Ending;
 use ext_top::Status;
 use std::io::IsTerminal;
 
-/// How a run ended, and why, for a person to read.
-#[derive(Drop)]
-pub(crate) struct Ending {
-    status: Status,
-    reason: Option<String>,
-}
-
-impl Ending {
-    /// A status that speaks for itself.
-    pub(crate) fn of(status: Status) -> Ending {
-        Ending {
-            status,
-            reason: None,
-        }
-    }
-
-    /// A status, and why it came.
-    pub(crate) fn because(status: Status, reason: String) -> Ending {
-        Ending {
-            status,
-            reason: Some(reason),
-        }
-    }
-
-    pub(crate) fn status(&self) -> &Status {
-        &self.status
-    }
-}
-
 /// Prints the line of a status from 2 on, and the reason after it, where standard error is a terminal or the environment asks
 /// for it. A fault in printing is ignored: the number tells as much.
-pub(crate) fn report(rt: &HostRuntime, ending: &Ending) {
-    print_status(rt, &ending.status);
-    if let Some(reason) = &ending.reason
+pub(crate) fn report(rt: &HostRuntime, ending: &Ending<Status>) {
+    print_status(rt, ending.status());
+    if let Some(reason) = ending.reason()
         && (rt.stderr().is_terminal() || has(rt, "HOSTEXT_EXPLAIN", "yes"))
     {
         let _ = eprintln!(rt; "hostext: {reason}");

@@ -14,7 +14,6 @@ mod access;
 mod commands;
 mod counted;
 mod ending;
-mod escaping;
 mod help;
 mod pace;
 mod progress;
@@ -27,10 +26,11 @@ mod wiping_sink;
 use access::{Access, WaitingLine};
 use commands::nesting_for;
 use counted::Counted;
-use ending::{Ending, report};
+use ending::report;
 use ext_cmd::{CmdErr, Command, read_words};
 use ext_folder::{FolderDepot, FolderDisk, LockedDisk, Nesting, ReleasingSink};
 use ext_io::{StdSink, StdSource};
+use ext_reasons::Ending;
 use ext_text::{OutOfMemory, Text, Words};
 use ext_top::{Devices, Status, run};
 use help::{HELP, VERSION};
@@ -46,7 +46,7 @@ fn main(rt: HostRuntime) -> ExitCode {
 }
 
 // How the run ends. An argument that is not UTF-8 is a fault of the command line.
-fn outcome(rt: &HostRuntime) -> Ending {
+fn outcome(rt: &HostRuntime) -> Ending<Status> {
     match env::args(rt) {
         Ok(arguments) => match ending_of(rt, arguments) {
             Ok(ending) => ending,
@@ -58,7 +58,7 @@ fn outcome(rt: &HostRuntime) -> Ending {
 }
 
 // How the run of these arguments ends. The first of them is the program's name.
-fn ending_of(rt: &HostRuntime, arguments: env::Args) -> Result<Ending, OutOfMemory> {
+fn ending_of(rt: &HostRuntime, arguments: env::Args) -> Result<Ending<Status>, OutOfMemory> {
     let arguments = arguments.collect::<Vec<String>>(rt.alloc())?;
     match arguments.as_slice() {
         [_program, only] => lone_option(rt, only.as_str()),
@@ -68,7 +68,7 @@ fn ending_of(rt: &HostRuntime, arguments: env::Args) -> Result<Ending, OutOfMemo
 }
 
 // What a lone argument asks for.
-fn lone_option(rt: &HostRuntime, argument: &str) -> Result<Ending, OutOfMemory> {
+fn lone_option(rt: &HostRuntime, argument: &str) -> Result<Ending<Status>, OutOfMemory> {
     let printed = match argument {
         "--help" => rt.println(HELP),
         "--version" => rt.println(VERSION),
@@ -86,7 +86,7 @@ fn run_words(
     store: &String,
     depot: &String,
     words: &[String],
-) -> Result<Ending, OutOfMemory> {
+) -> Result<Ending<Status>, OutOfMemory> {
     let mut texts = Words::new(rt.alloc());
     for word in words {
         texts.push(Text::from_bytes(rt.alloc(), word.as_bytes())?)?;
@@ -105,7 +105,7 @@ fn run_command(
     depot: &String,
     command: &Command,
     words: &Words,
-) -> Result<Ending, OutOfMemory> {
+) -> Result<Ending<Status>, OutOfMemory> {
     match nesting_for(rt, command, store.as_str(), depot.as_str())? {
         Nesting::Within => usage::clashing_folders(rt.alloc()),
         Nesting::Unseen(trouble) => reasons::faulty(rt.alloc(), Status::DepotFault, &trouble),
@@ -121,7 +121,7 @@ fn run_apart(
     depot: &String,
     command: &Command,
     words: &Words,
-) -> Result<Ending, OutOfMemory> {
+) -> Result<Ending<Status>, OutOfMemory> {
     let access = Access::of(command);
     let lock = access.lock(rt, store.as_str());
     let sink = ReleasingSink::new(StdSink::new(rt.stdout()), access.handle(&lock));

@@ -1,8 +1,7 @@
 // Why words are no command, for a person to read.
 use crate::commands::{SYNOPSES, Synopsis};
-use crate::ending::Ending;
-use crate::escaping::escaped;
 use ext_lines::allocated;
+use ext_reasons::{Ending, escaped, word_at};
 use ext_text::OutOfMemory;
 use ext_top::Status;
 use std::alloc::Global;
@@ -12,7 +11,7 @@ use strsim::osa_distance;
 const NEAR: usize = 2;
 
 /// Fewer words than STORE, DEPOT and a command, and no option.
-pub(crate) fn without_command(alloc: Global) -> Result<Ending, OutOfMemory> {
+pub(crate) fn without_command(alloc: Global) -> Result<Ending<Status>, OutOfMemory> {
     let reason = allocated(String::from_str(
         alloc,
         "it is called as hostext STORE DEPOT COMMAND .., or with --help or --version alone",
@@ -21,7 +20,7 @@ pub(crate) fn without_command(alloc: Global) -> Result<Ending, OutOfMemory> {
 }
 
 /// DEPOT is STORE or stands below it.
-pub(crate) fn clashing_folders(alloc: Global) -> Result<Ending, OutOfMemory> {
+pub(crate) fn clashing_folders(alloc: Global) -> Result<Ending<Status>, OutOfMemory> {
     let reason = allocated(String::from_str(
         alloc,
         "DEPOT is STORE or stands below it, where cleaning would take away what is to be read",
@@ -34,7 +33,7 @@ pub(crate) fn faulty_words(
     alloc: Global,
     words: &[String],
     place: u64,
-) -> Result<Ending, OutOfMemory> {
+) -> Result<Ending<Status>, OutOfMemory> {
     let reason = match words {
         [] => with_commands(alloc, "no command is given")?,
         [first, ..] => match synopsis_of(first.as_str()) {
@@ -68,15 +67,6 @@ fn faulty_after(
             allocated(format!(in alloc; "the words are {expected}: not `{word}`"))
         }
         None => allocated(format!(in alloc; "the words are {expected}: one is missing")),
-    }
-}
-
-// The word at a place, counted from 1.
-fn word_at(words: &[String], place: u64) -> Option<&str> {
-    let index = usize::try_from(place.checked_sub(1)?).ok()?;
-    match words.get(index) {
-        Some(word) => Some(word.as_str()),
-        None => None,
     }
 }
 

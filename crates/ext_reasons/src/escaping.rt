@@ -6,7 +6,7 @@ use std::alloc::Global;
 ///
 /// # Errors
 /// `OutOfMemory` alone.
-pub(crate) fn escaped(alloc: Global, text: &str) -> Result<String, OutOfMemory> {
+pub fn escaped(alloc: Global, text: &str) -> Result<String, OutOfMemory> {
     let mut escaped = String::new(alloc);
     for character in text.chars() {
         push_escaped(&mut escaped, character)?;
