@@ -1,5 +1,5 @@
-# Completes the words of hostext(1) in bash. It needs nothing but bash 4 and awk; bash-completion reads it by itself where it is
-# installed as share/bash-completion/completions/hostext, and otherwise a line `source` does.
+# Completes the words of hostext(1) and hostext_publish(1) in bash. It needs nothing but bash 4 and awk; bash-completion reads it by itself where it is
+# installed as share/bash-completion/completions/hostext, to which hostext_publish leads there, and otherwise a line `source` does.
 #
 # Names of a store and of a depot may have any byte that stands in a path, and bash breaks words at some of them. So the line is
 # read here once more, and each reply is quoted as the word was begun.
@@ -71,12 +71,13 @@ _hostext_option() {
     compopt "$@" 2>/dev/null
 }
 
-# Runs a command over the store of the line, which takes no lock. It ends by itself where STORE is no store.
+# Runs a command over the store of the line, which takes no lock, by the program hostext beside the one that publishes. It ends by
+# itself where STORE is no store.
 _hostext_run() {
     [[ -d ${words[1]} ]] || return
     local limit=()
     ! command -v timeout >/dev/null || limit=(timeout 5)
-    HOSTEXT_LOCK=no "${limit[@]}" "${words[0]}" "${words[1]}" "${words[2]}" "$@" </dev/null 2>/dev/null
+    HOSTEXT_LOCK=no "${limit[@]}" "${words[0]%_publish}" "${words[1]}" "${words[2]}" "$@" </dev/null 2>/dev/null
 }
 
 # Writes the entries of the store's directory at a path: of each its kind and its name.
@@ -200,4 +201,30 @@ _hostext() {
     esac
 }
 
+# Replies the folders in the folder OUT, as words without a slash before them. Files of resources stand in some too.
+_hostext_publish_folders() {
+    local out=${words[2]} folder='' path
+    [[ ${words[-1]} != */* ]] || folder=${words[-1]%/*}/
+    for path in "$out/$folder"*/; do
+        [[ -d $path && ! -f ${path%/}.tree ]] || continue
+        path=${path%/}
+        _hostext_reply "$folder${path##*/}"
+    done
+}
+
+_hostext_publish() {
+    local words shared quote
+    COMPREPLY=()
+    _hostext_split
+    case ${#words[@]} in
+        2 | 3)
+            _hostext_option -o filenames -o dirnames
+            ((${#words[@]} == 3)) || [[ ${words[1]} != -* ]] || _hostext_reply --help
+            ;;
+        4) _hostext_paths df ;;
+        5) _hostext_publish_folders ;;
+    esac
+}
+
 complete -F _hostext hostext
+complete -F _hostext_publish hostext_publish

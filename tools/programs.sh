@@ -1,4 +1,4 @@
-# Which file is run for the name of a program, and what it is made of: what the launcher, tools/program and tools/carry share.
+# Which file is run for the name of a program, and what it is made of: what the launchers, tools/program and tools/carry share.
 # A shell reads this with `top` set to the folder of the repository, and `name` to what its messages begin with. All other
 # paths are those below `top`.
 #
@@ -174,6 +174,7 @@ follow() {
 run_by_kit() {
     case $crate in
         ext_cli) rt run -- --version ;;
+        ext_pubcli) rt run -- --help ;;
         ext_folder_probe) rt run -- disk . ;;
         *) rt run ;;
     esac

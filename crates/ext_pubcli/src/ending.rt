@@ -1,0 +1,28 @@
+use crate::folders::has;
+use ext_publish::PubStatus;
+use ext_reasons::Ending;
+use std::io::IsTerminal;
+
+/// Prints the line of a status from 2 on, and the reason after it, where standard error is a terminal or the environment asks
+/// for it. A fault in printing is ignored: the number tells as much.
+pub(crate) fn report(rt: &HostRuntime, ending: &Ending<PubStatus>) {
+    print_status(rt, ending.status());
+    if let Some(reason) = ending.reason()
+        && (rt.stderr().is_terminal() || has(rt, "HOSTEXT_EXPLAIN", "yes"))
+    {
+        let _ = eprintln!(rt; "hostext: {reason}");
+    }
+}
+
+fn print_status(rt: &HostRuntime, status: &PubStatus) {
+    let _ = match status {
+        PubStatus::Done | PubStatus::Refused(_) => Ok(()),
+        PubStatus::Usage { place } => eprintln!(rt; "hostext: usage {place}"),
+        PubStatus::WriteFault => rt.eprintln("hostext: write fault"),
+        PubStatus::DiskFault => rt.eprintln("hostext: disk fault"),
+        PubStatus::OutFault => rt.eprintln("hostext: out fault"),
+        PubStatus::OutOfMemory => rt.eprintln("hostext: out of memory"),
+        PubStatus::BadStore(_) => rt.eprintln("hostext: bad store"),
+        PubStatus::Unfinished => rt.eprintln("hostext: unfinished"),
+    };
+}

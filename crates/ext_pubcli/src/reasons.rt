@@ -1,0 +1,84 @@
+// Why a run ended as it did, for a person to read.
+use ext_folder::Trouble;
+use ext_lines::allocated;
+use ext_publish::{BadStore, PubStatus};
+use ext_reasons::{
+    Ending, escaped, reason_of_broken, reason_of_damage, reason_of_trouble, word_at,
+};
+use ext_text::OutOfMemory;
+use std::alloc::Global;
+
+// What the words after OUT are.
+const WORDS: &str =
+    "ABS RES NAME, where ABS begins with a slash, RES is a path without one, and NAME is a name that doesn't end in .tree";
+
+/// Fewer words than STORE and OUT, and no option.
+pub(crate) fn without_folders(alloc: Global) -> Result<Ending<PubStatus>, OutOfMemory> {
+    let reason = allocated(String::from_str(
+        alloc,
+        "it is called as hostext_publish STORE OUT ABS RES NAME, or with --help alone",
+    ))?;
+    Ok(Ending::because(PubStatus::Usage { place: 1 }, reason))
+}
+
+/// One of the folders is the other one or stands below it.
+pub(crate) fn clashing_folders(alloc: Global) -> Result<Ending<PubStatus>, OutOfMemory> {
+    let reason = allocated(String::from_str(
+        alloc,
+        "one of STORE and OUT is the other or stands below it: publishing would write into the store, or a web server serve it",
+    ))?;
+    Ok(Ending::because(PubStatus::Usage { place: 1 }, reason))
+}
+
+/// The words after OUT ask nothing, and this is the place of their first fault.
+pub(crate) fn faulty_words(
+    alloc: Global,
+    words: &[String],
+    place: u64,
+) -> Result<Ending<PubStatus>, OutOfMemory> {
+    let reason = match word_at(words, place) {
+        Some(word) => {
+            let word = escaped(alloc, word)?;
+            allocated(format!(in alloc; "the words are {WORDS}: not `{word}`"))?
+        }
+        None => allocated(format!(in alloc; "the words are {WORDS}: one is missing"))?,
+    };
+    Ok(Ending::because(PubStatus::Usage { place }, reason))
+}
+
+/// The ending of a run with this status over the store folder at this path of the system, where this went wrong first on its two
+/// folders.
+pub(crate) fn ending_with(
+    alloc: Global,
+    status: PubStatus,
+    store: &str,
+    of_store: Option<&Trouble>,
+    of_out: Option<&Trouble>,
+) -> Result<Ending<PubStatus>, OutOfMemory> {
+    let reason = match &status {
+        PubStatus::DiskFault => reason_of_trouble(alloc, of_store)?,
+        PubStatus::OutFault => reason_of_trouble(alloc, of_out)?,
+        PubStatus::BadStore(BadStore::Broken { line }) => {
+            Some(reason_of_broken(alloc, store, *line)?)
+        }
+        PubStatus::BadStore(BadStore::Damaged(damage)) => {
+            Some(reason_of_damage(alloc, store, damage)?)
+        }
+        PubStatus::Unfinished => Some(allocated(String::from_str(
+            alloc,
+            "more was left over in OUT than one run removes: give the same words again",
+        ))?),
+        _ => None,
+    };
+    Ok(Ending::with(status, reason))
+}
+
+/// The ending of a run with this status, where this went wrong before it began.
+pub(crate) fn faulty(
+    alloc: Global,
+    status: PubStatus,
+    trouble: &Trouble,
+) -> Result<Ending<PubStatus>, OutOfMemory> {
+    let reason = reason_of_trouble(alloc, Some(trouble))?;
+    Ok(Ending::with(status, reason))
+}
