@@ -29,7 +29,10 @@ ASK = """
 COMP_WORDBREAKS=$' \\t\\n"\\'@><=;|&(:'
 while IFS= read -r COMP_LINE; do
     COMP_POINT=${#COMP_LINE}
-    _hostext
+    case $COMP_LINE in
+        hostext_publish*) _hostext_publish ;;
+        *) _hostext ;;
+    esac
     printf '%s\\n' "${COMPREPLY[@]}"
     echo end
 done
@@ -183,6 +186,22 @@ def versions_that_an_update_may_install_are_offered(place, folder):
         ("hostext s d sysupdate update ", []),
         ("hostext s d sysupdate list ", []),
         ("hostext s gone sysupdate '--component=w $e' update ", []),
+    )
+
+
+def paths_and_folders_for_publishing_are_offered(place, folder):
+    """Paths of the store by the program hostext, and folders of OUT that are no files of a resource."""
+    (place.depot / "images/a b").mkdir()
+    offered(
+        folder,
+        ("hostext_publish -", ["--help"]),
+        ("hostext_publish s d /us", ["/usr"]),
+        ("hostext_publish s d /usr/s", ["/usr/sub"]),
+        ("hostext_publish s d '/usr/a", ["/usr/a b"]),
+        ("hostext_publish s d /usr/sub/", ["/usr/sub/dir", "/usr/sub/dirt"]),
+        ("hostext_publish s d /usr ", ["images"]),
+        ("hostext_publish s d /usr images/", ["images/a\\ b"]),
+        *((f"hostext_publish {words}", []) for words in ("s d /usr images ", "s d /usr gone/", "s gone /usr ", "gone d /", "s d usr")),
     )
 
 
@@ -352,7 +371,7 @@ def zsh_waits_for_no_store(place, folder):
 
 CALLS = [
     *(each_word_of_a_command_is_offered, paths_of_the_store_are_offered_by_their_kinds, names_are_quoted_as_the_word_was_begun),
-    *(resources_of_the_depot_and_components_are_offered, versions_that_an_update_may_install_are_offered, the_store_may_stand_in_quotes_a_variable_or_the_home),
+    *(resources_of_the_depot_and_components_are_offered, versions_that_an_update_may_install_are_offered, paths_and_folders_for_publishing_are_offered, the_store_may_stand_in_quotes_a_variable_or_the_home),
     *(a_store_that_is_none_or_is_locked_is_not_waited_for, a_program_that_does_not_end_is_not_waited_for),
     *(bash_completes_on_a_terminal, zsh_completes_on_a_terminal, zsh_waits_for_no_store),
 ]

@@ -243,11 +243,38 @@ def check_refusals(sources):
     nothing_is_missing("no refusal is", {" ".join(one) for one in rows - wanted})
 
 
+def check_publishing(sources):
+    """The refusals and the statuses of the program that publishes, as their definitions have them."""
+    text = section(sources.text("docs/FORMATS.md"), "Publishing")
+    refusals, statuses = (first_table(text[text.index(head) :]) for head in ("| number |", "| status of the process |"))
+    specs = sources.text("crates/ext_published/specs/Replies.antt")
+    numbers = dict(re.findall(r"^pub_refusal_number \(?(\w+)[^=]*= (\d+)$", specs, re.M))
+    words = dict(re.findall(r'^pub_refusal_details \(?(\w+)[^=]*= codes "([a-z -]+?) ?"', specs, re.M))
+    same_rows("refusals of publishing", {(row[0], re.sub(r" [A-Z]+$", "", quoted(row[1])[0])) for row in refusals}, numbers, words)
+    numbers = dict(re.findall(r"^pub_status_number \(?(\w+)[^=]*= (\d+)$", sources.text("crates/ext_publish/specs/Status.antt"), re.M))
+    words = {"Done": "", "Refused": "", **lines_of_statuses(sources.text("crates/ext_pubcli/src/ending.rt"))}
+    told = {(row[0], "".join(quoted(row[1])).removeprefix("hostext: ").removesuffix(" PLACE")) for row in statuses}
+    same_rows("statuses of publishing", told, numbers, words)
+
+
+def same_rows(what, rows, numbers, words):
+    """That rows have these numbers with these words, and no other."""
+    if not numbers or numbers.keys() != words.keys():
+        raise Failed(f"the {what} are {numbers}, and their words {words}")
+    wanted = {(numbers[one], words[one]) for one in numbers}
+    nothing_is_missing(f"docs/FORMATS.md lacks of the {what}", {" ".join(one) for one in wanted - rows})
+    nothing_is_missing(f"docs/FORMATS.md has besides of the {what}", {" ".join(one) for one in rows - wanted})
+
+
+def lines_of_statuses(text):
+    """The words of each status on standard error."""
+    return dict(re.findall(r'Status::(\w+)[^=\n]*=> \S*print\S*"hostext: ([a-z ]+?)(?: \{\w+\})?"', text.replace("rt; ", "")))
+
+
 def statuses_of(sources):
     """The number and the words of each status: those of its line on standard error, or of the two that have none."""
     numbers = dict(re.findall(r"^status_number \(?(\w+)[^=]*= (\d+)$", sources.text("crates/ext_top/specs/Status.antt"), re.M))
-    lines = dict(re.findall(r'Status::(\w+)[^=\n]*=> \S*print\S*"hostext: ([a-z ]+?)(?: \{\w+\})?"', sources.text("crates/ext_cli/src/ending.rt").replace("rt; ", "")))
-    words = {"Done": "done", "Refused": "refused", **lines}
+    words = {"Done": "done", "Refused": "refused", **lines_of_statuses(sources.text("crates/ext_cli/src/ending.rt"))}
     if not numbers or numbers.keys() != words.keys():
         raise Failed(f"the statuses are {numbers}, and their words {words}")
     return {(numbers[one], words[one]) for one in numbers}
@@ -258,8 +285,8 @@ def has_status(row, number, words):
 
 
 def check_statuses(sources, shown):
-    for path in "docs/FORMATS.md", "README.md":
-        rows = rows_of(sources.text(path))
+    for path, heading in ("docs/FORMATS.md", "Statuses"), ("README.md", "The commands"):
+        rows = rows_of(section(sources.text(path), heading))
         missing = {f"{number} {words}" for number, words in statuses_of(sources) if not any(has_status(row, number, words) for row in rows)}
         nothing_is_missing(f"{path} has no row for", missing)
     said = " ".join(shown.split())
@@ -334,6 +361,7 @@ def each_refusal_status_and_command_is_told(program):
     check_refusals(Sources())
     check_statuses(Sources(), help_of(program))
     check_commands(Sources(), help_of(program))
+    check_publishing(Sources())
 
 
 def the_version_names_the_kit_of_the_documents(program):
@@ -372,6 +400,8 @@ def a_row_that_is_taken_away_is_missed(program):
     is_missed(check_floors, "docs/ARCHITECTURE.md", " 7  index")
     for begin in "| 1 | `no-store`", "| 7 | `limit", "| 25 |":
         is_missed(check_refusals, "docs/FORMATS.md", begin)
+    for begin in "| 34 | ", "| 36 | ", "| 6 | `hostext: out fault":
+        is_missed(check_publishing, "docs/FORMATS.md", begin)
     for path, begin in (("docs/FORMATS.md", "| 9 | `hostext"), ("README.md", "| 9 |"), ("README.md", "| 1 |")):
         is_missed(check_statuses, path, begin, shown)
     for path, begin in (("docs/FORMATS.md", "migrate"), ("docs/FORMATS.md", "| `cat`"), ("README.md", "| `remove"), ("README.md", "| `sysext")):

@@ -127,6 +127,26 @@ def on_another_machine_it_builds(repository):
     expect(repository.run("hostext"), (b"\n", b"hostext: the carried program doesn't run here\n" + BUILT_IT, 23))
 
 
+def the_program_that_publishes_is_launched_by_the_same_rules(repository):
+    """The kit runs it once it is built, and asks for its help."""
+    crate = b"ext_pubcli"
+    repository.write("crates/ext_pubcli/src/main.rt", crate)
+    repository.write("crates.txt", b"low:\next_cli: low\next_pubcli: low\n")
+    (repository.place / "crates/ext_pubcli/out").mkdir()
+    repository.tool("rt", f'echo "$@" >../../words\n{BUILDS.replace("ext_cli", crate.decode())}')
+    expect(repository.run("hostext_publish", "a", "b c"), (b"a b c\n", BUILT_IT.replace(b"ext_cli", crate), 23))
+    if (repository.place / "words").read_text() != "run -- --help\n":
+        raise Failed("the kit ran it by other words")
+    shutil.rmtree(repository.place / "crates/ext_pubcli/out")
+    (repository.bin / "rt").unlink()
+    expect(repository.run("hostext_publish"), needs_the_kit(b"no program is carried here"))
+    repository.write(f"{CARRIED}/hostext", ECHO)
+    repository.carry("hostext_publish", ECHO)
+    expect(repository.run("hostext_publish", "a"), (b"carried a\n", b"", 0))
+    repository.write("crates/ext_pubcli/src/main.rt", b"edited")
+    expect(repository.run("hostext_publish", "a"), needs_the_kit(OTHER_SOURCES))
+
+
 NAMES_ITSELF = VERSION, b"", 0
 
 
@@ -217,7 +237,7 @@ IN_A_SMALL_ONE = [
     *(an_edit_while_it_builds_is_newer_than_the_program, two_launches_at_once_build_once),
     *(the_built_program_goes_before_the_carried_one_where_it_is_newer, without_the_kit_two_lines_say_what_is_needed),
     *(the_program_has_the_input_and_the_folder_of_the_launch, on_another_machine_it_builds),
-    without_a_tool_that_tells_times_it_looks_each_time,
+    *(without_a_tool_that_tells_times_it_looks_each_time, the_program_that_publishes_is_launched_by_the_same_rules),
 ]
 IN_A_CLONE = [
     *(a_clone_runs_the_carried_program_without_the_kit, a_clone_that_cannot_be_written_runs_it),

@@ -9,10 +9,10 @@ import tempfile
 from pathlib import Path
 
 from scenes.documents import Sources, cells_of, first_table, help_of, is_missed, quoted, rows_of, section
-from scenes.running import SECONDS, TOP, Failed, Skipped, named
+from scenes.running import SECONDS, TOP, Failed, Skipped, named, publisher
 from scenes.sessions import commands_of, follow
 
-COMMANDS, FORMATS = "man/hostext.1", "man/hostext-formats.5"
+COMMANDS, FORMATS, PUBLISHING = "man/hostext.1", "man/hostext-formats.5", "man/hostext_publish.1"
 RULES = "docs/FORMATS.md"
 MACRO = re.compile(r"[A-Z][a-z]")
 DELIMITERS = ",", ".", ";", ":"
@@ -138,6 +138,17 @@ def check_refusals(sources):
     alike("refusals", page(sources, COMMANDS).items("REFUSALS"), refusals_of(sources))
 
 
+def check_publishing(sources):
+    """The refusals in their order, the statuses, the option and the variables of the program that publishes."""
+    rules, manual = section(sources.text(RULES), "Publishing"), page(sources, PUBLISHING)
+    refusals = first_table(rules[rules.index("| number |") :])
+    same("the refusals", manual.items("REFUSALS"), [f"refused {row[0]} {quoted(row[1])[0]}" for row in refusals])
+    statuses = first_table(rules[rules.index("| status of the process |") :])
+    same("the statuses", manual.items("EXIT STATUS"), [" ".join([row[0], *quoted(row[1])]) for row in statuses])
+    alike("options", options_of(manual.said()), options_of(rules))
+    alike("variables", manual.items("ENVIRONMENT"), re.findall(r"HOSTEXT_\w+", rules))
+
+
 def numbers_of(text):
     """The numbers of a text in their order, each once."""
     return list(dict.fromkeys(re.findall(r"\b\d+\b", text)))
@@ -256,7 +267,7 @@ def each_command_option_status_and_refusal_is_in_the_manual_and_no_other(program
     sources, shown = Sources(), help_of(program)
     check_commands(sources, shown)
     check_options(sources, shown)
-    for check in check_statuses, check_refusals, check_orders, check_words:
+    for check in check_statuses, check_refusals, check_orders, check_words, check_publishing:
         check(sources)
 
 
@@ -282,6 +293,8 @@ def what_the_manual_has_besides_is_told(program):
     is_told(check_statuses, COMMANDS, ".It 10 ", ".It 11 Li more\nText.\n.It 10 ")
     is_told(check_refusals, COMMANDS, "none\\-on", "none\\-off")
     is_told(check_orders, COMMANDS, "Refused by 8, 4 and 7", "Refused by 4, 8 and 7")
+    is_told(check_publishing, PUBLISHING, "out\\-kind", "out\\-kinds")
+    is_told(check_publishing, PUBLISHING, "-help", "-version")
     is_told(check_transfers, FORMATS, "&%a", "&%b")
     is_told(check_images, FORMATS, "/var/lib/confexts", "/var/lib/confext")
 
@@ -296,6 +309,7 @@ def a_line_of_the_manual_that_is_taken_away_is_missed(program):
         (check_refusals, COMMANDS, (".It Li refused 1 ", ".It Li refused 25", ".It Li refused 33")),
         (check_orders, COMMANDS, ("Refused by 5", "Refused by 8, 4", "Refused by 32")),
         (check_words, COMMANDS, (".Li architecture", ".Li no\\-release", ".Cm generations")),
+        (check_publishing, PUBLISHING, (".It Li refused 1 ", ".It Li refused 34", ".It 6", ".It Ev HOSTEXT_LOCK")),
         (check_forms, FORMATS, ("l LENGTH", "m HEX", "hierarchies K", ".It Pa next")),
         (check_patterns, FORMATS, (".It Cm adjacent", ".It Cm too")),
         (check_transfers, FORMATS, (".It Li Mode=", ".Li \\&%w", ".Li true", ".Pa /run/sysupdate.d", ".It Li [Source]")),
@@ -309,7 +323,7 @@ def mandoc_has_nothing_to_say(_program):
     """Which other pages stand on this machine is nothing of these."""
     if not shutil.which("mandoc"):
         raise Skipped("there is no mandoc")
-    for path in COMMANDS, FORMATS:
+    for path in COMMANDS, FORMATS, PUBLISHING:
         ended = subprocess.run(["mandoc", "-T", "lint", TOP / path], stdout=subprocess.PIPE, stderr=subprocess.STDOUT, timeout=SECONDS)
         said = [line for line in ended.stdout.decode().splitlines() if not any(words in line for words in OF_THE_MACHINE)]
         if said:
@@ -317,7 +331,7 @@ def mandoc_has_nothing_to_say(_program):
 
 
 def each_page_that_is_named_and_ours_is_there(_program):
-    for path in COMMANDS, FORMATS:
+    for path in COMMANDS, FORMATS, PUBLISHING:
         for name, number in re.findall(r"^\.Xr (hostext\S*) (\d)", (TOP / path).read_text(), re.M):
             if not (TOP / f"man/{name}.{number}").is_file():
                 raise Failed(f"{path} names {name}({number}), which isn't there")
@@ -336,15 +350,23 @@ def make_images(folder):
 
 
 def the_examples_write_what_they_show(program):
-    """With the program and the tools on the PATH under the names that they are installed by. The file that is shown is put in its
+    follow_examples(COMMANDS, {"hostext": program})
+
+
+def the_examples_of_publishing_write_what_they_show(program):
+    follow_examples(PUBLISHING, {"hostext": program, "hostext_publish": publisher()})
+
+
+def follow_examples(path, programs):
+    """With the programs and the tools on the PATH under the names that they are installed by. The file that is shown is put in its
     place where the examples come to it."""
     with tempfile.TemporaryDirectory() as place:
         folder = Path(place)
         make_images(folder)
         (folder / "bin").mkdir()
-        for name, leads in ("hostext", program), ("hostext-pack", TOP / "tools/pack"):
+        for name, leads in {**programs, "hostext-pack": TOP / "tools/pack"}.items():
             (folder / "bin" / name).symlink_to(leads)
-        for block in page(Sources(), COMMANDS).blocks("EXAMPLES"):
+        for block in page(Sources(), path).blocks("EXAMPLES"):
             if block.startswith("$ "):
                 follow(commands_of(block), folder, {"PATH": f"{folder / 'bin'}:{os.environ['PATH']}"})
             else:
@@ -355,5 +377,5 @@ def the_examples_write_what_they_show(program):
 scenes = named(
     *(each_command_option_status_and_refusal_is_in_the_manual_and_no_other, the_manual_of_formats_has_what_the_formats_are),
     *(a_line_of_the_manual_that_is_taken_away_is_missed, what_the_manual_has_besides_is_told, mandoc_has_nothing_to_say, each_page_that_is_named_and_ours_is_there),
-    the_examples_write_what_they_show,
+    *(the_examples_write_what_they_show, the_examples_of_publishing_write_what_they_show),
 )

@@ -7,7 +7,7 @@ import tempfile
 from pathlib import Path
 
 from scenes.devices import become_nobody
-from scenes.running import SECONDS, TOP, Failed, Skipped, expect, named, shortened
+from scenes.running import SECONDS, TOP, Failed, Skipped, expect, named, publisher, shortened
 from scenes.stores import digest
 from scenes.tools import limited_to
 
@@ -15,9 +15,9 @@ TOOLS = "fetch", "pack", "tree-text", "unpack"
 RECORD = "share/hostext/installed"
 
 
-def install(program, *words, before=None, umask=0o022, tools=TOP):
+def install(program, *words, before=None, umask=0o022, tools=TOP, publishes=None):
     """What the installation writes on both outputs, and its status."""
-    around = {**os.environ, "HOSTEXT": str(program)}
+    around = {**os.environ, "HOSTEXT": str(program), "HOSTEXT_PUBLISH": str(publishes or publisher())}
     calls = lambda: (os.umask(umask), before and before())
     ended = subprocess.run([tools / "tools/install", *words], env=around, capture_output=True, timeout=SECONDS, preexec_fn=calls)
     return ended.stdout, ended.stderr, ended.returncode
@@ -28,7 +28,7 @@ DONE = b"", b"", 0
 
 def run(*words, **options):
     """What something that was installed writes. Nothing of its environment names the program, and it starts elsewhere."""
-    around = {name: value for name, value in os.environ.items() if name != "HOSTEXT"}
+    around = {name: value for name, value in os.environ.items() if name not in ("HOSTEXT", "HOSTEXT_PUBLISH")}
     ended = subprocess.run(words, **{"env": around, "cwd": "/", "capture_output": True, "timeout": SECONDS, **options})
     return ended.stdout, ended.stderr, ended.returncode
 
@@ -57,14 +57,15 @@ def files_wanted():
     tools = [name for name in TOOLS if (TOP / "tools" / name).exists()]
     pages = [path for path in (TOP / "man").iterdir()]
     documents = [path for path in (TOP / "README.md", TOP / "CHANGELOG.md", TOP / "LICENSE", *(TOP / "docs").glob("*.md"), *(TOP / "docs/figures").glob("*.svg")) if path.exists()]
-    completions = {"hostext.bash": "share/bash-completion/completions/hostext", "_hostext": "share/zsh/site-functions/_hostext"}
+    bash = "share/bash-completion/completions/hostext"
+    completions = [("hostext.bash", bash), ("hostext.bash", f"{bash}_publish"), ("_hostext", "share/zsh/site-functions/_hostext")]
     return {
-        *("bin/hostext", RECORD),
+        *("bin/hostext", "bin/hostext_publish", RECORD),
         *(f"bin/hostext-{name}" for name in tools),
         *(f"lib/hostext/{name}" for name in tools),
         *(f"lib/hostext/{path.name}" for path in (TOP / "tools").glob("*.py")),
         *(f"share/man/man{path.suffix[1:]}/{path.name}" for path in pages),
-        *(place for name, place in completions.items() if (TOP / "completion" / name).exists()),
+        *(place for name, place in completions if (TOP / "completion" / name).exists()),
         *(f"lib/systemd/system/{path.name}" for path in (TOP / "systemd").glob("*")),
         *(f"share/doc/hostext/{path.relative_to(TOP)}" for path in documents),
     }
@@ -75,8 +76,9 @@ def what_stands_in_the_repository_is_installed(program, folder):
     found = {path for path, (_, content) in stands(folder / "to").items() if content is not None}
     if found != files_wanted():
         raise Failed(f"besides there are {sorted(found - files_wanted())}, and there lack {sorted(files_wanted() - found)}")
-    if (folder / "to/bin/hostext").read_bytes() != program.read_bytes():
-        raise Failed("the program has other bytes")
+    for name, wanted in ("hostext", program), ("hostext_publish", publisher()):
+        if (folder / "to/bin" / name).read_bytes() != wanted.read_bytes():
+            raise Failed(f"{name} has other bytes")
 
 
 def programs_and_tools_run_from_where_they_are_installed(program, folder):
@@ -94,6 +96,7 @@ def programs_and_tools_run_from_where_they_are_installed(program, folder):
     for words in ("init", "x86-64", "system"), ("import-fs", "own", "/"):
         expect(run(place / "hostext", store, depot, *words), (b"done\n", b"", 0))
     expect(run(place / "hostext-unpack", store, "/", folder / "out"), DONE)
+    expect(run(place / "hostext_publish", store, depot, "/usr", "sites", "own"), (b"published 1 3\n", b"", 0))
     text = run(place / "hostext-tree-text", own)
     expect(run(place / "hostext-tree-text", folder / "out"), text)
     if text[2] or b" usr/a\n" not in text[0]:
@@ -191,12 +194,13 @@ def a_place_that_cannot_be_written_is_told(program, folder):
     prefix, copy = folder / "to", folder / "copy"
     copy_of_the_repository(copy)
     shutil.copy(program, copy / "program")
+    shutil.copy(publisher(), copy / "publishes")
     (prefix / "share").mkdir(parents=True)
     for path, mode in (folder, 0o755), (prefix, 0o755), (prefix / "share", 0o777):
         path.chmod(mode)
     before = stands(prefix)
     try:
-        _, told, status = install(copy / "program", prefix, before=become_nobody, tools=copy)
+        _, told, status = install(copy / "program", prefix, before=become_nobody, tools=copy, publishes=copy / "publishes")
     except PermissionError:
         raise Skipped("nobody can run python3 here") from None
     if b"python" in told and b"install:" not in told:

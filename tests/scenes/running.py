@@ -42,6 +42,12 @@ def program_of(name):
     return Path(os.fsdecode(found(name).stdout).rstrip("\n"))
 
 
+def publisher():
+    """The program that publishes: the one that HOSTEXT_PUBLISH names, or else as above."""
+    given = os.environ.get("HOSTEXT_PUBLISH")
+    return Path(given).resolve() if given else program_of("hostext_publish")
+
+
 def named(*calls):
     """Scenes that are functions of the program, each named by what it shows."""
     return lambda program: ((call.__name__.replace("_", " "), lambda call=call: call(program)) for call in calls)
