@@ -1,0 +1,7 @@
+pub mod LeastLemmas
+pub mod ChangedLemmas
+pub mod GoingLemmas
+pub mod LawsLemmas
+pub mod OneDetachLemmas
+pub mod ForCallers
+pub mod DetachedLemmas

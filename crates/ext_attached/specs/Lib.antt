@@ -1,0 +1,5 @@
+pub mod Going
+pub mod State
+pub mod Least
+pub mod Detaching
+pub mod Laws
