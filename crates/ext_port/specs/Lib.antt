@@ -1,0 +1,10 @@
+pub mod Errors
+pub mod Starting
+pub mod Reading
+pub mod Limits
+pub mod NextHost
+pub mod Given
+pub mod Wants
+pub mod Files
+pub mod Steps
+pub mod Laws

@@ -1,0 +1,100 @@
+// The host from which an image is attached.
+ghost use Rattle.std.specs.Prelude.{◌≡◌, IfOk};
+ghost use Rattle.ext_host.specs.Planning.{IsPlannedHost};
+ghost use Rattle.ext_host.specs.Valid.{IsValidHost};
+ghost use Rattle.ext_port.specs.Given.{IsStart};
+ghost use Rattle.ext_port.specs.Starting.{cut_of, start_host, unfit};
+
+use crate::errors::PortErr;
+use ext_attached::{has_earlier, is_attached, paths_without, without};
+use ext_host::{Held, Host};
+use ext_text::{OutOfMemory, Paths};
+use ext_tree::Tree;
+use ext_units::Image;
+use std::alloc::Global;
+
+// A host from which an image is attached.
+#[derive(Debug, Drop)]
+pub struct Start {
+    // The host.
+    pub host: Host,
+    // Its base.
+    pub base: Tree<Held>,
+    // The paths that were cut to make it.
+    pub cut: Paths,
+}
+
+// The host from which the image is attached: as it is, or without the attachments that go.
+pub(crate) fn start_of(
+    alloc: Global,
+    host: &Host,
+    image: &Image,
+    again: bool,
+) -> Result<Start, OutOfMemory>
+    requires { IsValidHost host.now }
+    ensures host { IfOk result (λ start. start.host ≡ start_host again image.now host.now) }
+    ensures cut { IfOk result (λ start. start.cut ≡ cut_of again image.now host.now) }
+    ensures start { IfOk result IsStart }
+    ensures planned { IfOk result (λ start. IsPlannedHost host.now start.host) }
+{
+    let next = start_host(alloc, host, image, again)?;
+    let base = next.base()?;
+    // `pairs` says of the base that it is a tree.
+    let _entries = base.pairs();
+    let cut = cut_of(alloc, host, image, again)?;
+    Ok(Start {
+        host: next,
+        base,
+        cut,
+    })
+}
+
+// That host.
+fn start_host(alloc: Global, host: &Host, image: &Image, again: bool) -> Result<Host, OutOfMemory>
+    requires { IsValidHost host.now }
+    ensures same { IfOk result (λ start. start ≡ start_host again image.now host.now) }
+    ensures planned { IfOk result (IsPlannedHost host.now) }
+{
+    if again {
+        without(alloc, host, image)
+    } else {
+        copy_of(host)
+    }
+}
+
+// The host, copied.
+fn copy_of(host: &Host) -> Result<Host, OutOfMemory>
+    requires { IsValidHost host.now }
+    ensures same { IfOk result (λ copy. copy ≡ host.now) }
+    ensures planned { IfOk result (IsPlannedHost host.now) }
+{
+    host.copy()
+}
+
+// The paths that are cut.
+fn cut_of(alloc: Global, host: &Host, image: &Image, again: bool) -> Result<Paths, OutOfMemory>
+    ensures { IfOk result (λ cut. cut ≡ cut_of again image.now host.now) }
+{
+    if again {
+        paths_without(alloc, host, image)
+    } else {
+        Ok(Paths::new(alloc))
+    }
+}
+
+// Why the image may not be attached, or attached anew.
+pub(crate) fn unfit(host: &Host, image: &Image, again: bool) -> Option<PortErr>
+    ensures { result ≡ unfit again host.now image.now }
+{
+    if again {
+        if has_earlier(host, image) {
+            None
+        } else {
+            Some(PortErr::NotAttached)
+        }
+    } else if is_attached(host, image.name()) {
+        Some(PortErr::AlreadyAttached)
+    } else {
+        None
+    }
+}
