@@ -1,0 +1,12 @@
+mod InsideLemmas
+mod LayerLemmas
+mod UnitTreeLemmas
+mod ContentLemmas
+mod ExtensionLemmas
+mod FailLemmas
+mod WantsLemmas
+mod RowLemmas
+pub mod OneExtensionLemmas
+pub mod OneExtendedLemmas
+pub mod MovedExtendedLemmas
+pub mod ForCallers

@@ -1,0 +1,10 @@
+pub mod Errors
+pub mod Extension
+pub mod Judged
+pub mod Extensions
+pub mod UnitTree
+pub mod Lines
+pub mod Wants
+pub mod Files
+pub mod Steps
+pub mod Laws
