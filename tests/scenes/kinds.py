@@ -664,15 +664,27 @@ class Batches(Worded):
 
     def replies_read(self, text, written):
         """Whether a line was done that changes the store, where each reply is one of its line."""
-        at, is_changed = 0, False
+        ends = {0: False}
         for line in text.split(b"\n"):
             words = transfers.words_of(line)
             if words and not words[0].startswith(b"#"):
-                at, is_done = self.replies.end_of(words, place_of(words, IN_A_LINE), written, at)
-                is_changed = is_changed or is_done
-        if at != len(written):
-            raise Failed(f"after the replies it wrote {written[at:][:200]}")
-        return is_changed
+                ends = self.ends_after(ends, words, written)
+        if len(written) not in ends:
+            raise Failed(f"after the replies it wrote {written[max(ends):][:200]}")
+        return ends[len(written)]
+
+    def ends_after(self, ends, words, written):
+        """Where the reply to these words may end, by where those before it may, and whether a line was done then that changes the store."""
+        found, why = {}, None
+        for at, is_changed in ends.items():
+            try:
+                for end, is_done in self.replies.ends_of(words, place_of(words, IN_A_LINE), written, at).items():
+                    found[end] = found.get(end, False) or is_changed or is_done
+            except Failed as failed:
+                why = failed
+        if not found:
+            raise why
+        return found
 
 
 class Words(Worded):

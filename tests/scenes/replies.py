@@ -10,7 +10,7 @@ LISTED = rb"(?:[^\n]+ (?:image /[^\n]* %b|masked /[^\n]*|raw /[^\n]*|broken /[^\
 COUNTED = re.compile(rb"(merged|components|removed) ([0-9]+)\n")
 OFFERED = rb"(?:[A-Za-z0-9._+~^-]+(?: (?:available|installed|partial|protected|obsolete))+\n)*"
 CHANGED = rb"(?:[-+*] /[^\n]*\n)*"
-EXPLAINED = rb"(?:(?:image [^\n]+|base) (?:[do] [0-7]+|f [0-7]+ [0-9]+ [0-9a-f]{64}|l [^\n]+|w|covers /[^\n]*)\n)+"
+EXPLAINED = rb"(?:image [^\n]+|base) (?:[do] [0-7]+|f [0-7]+ [0-9]+ [0-9a-f]{64}|l [^\n]+|w|covers /[^\n]*)\n"
 # What each command may write that is done, the numbers of its refusals, and whether it then has changed the store. Each command
 # over a store may be refused since there is none.
 FORMS = {
@@ -23,7 +23,7 @@ FORMS = {
     b"refresh": (MERGED, (1, 5, 6, 7), True),
     b"unmerge": (rb"unmerged\n", (1, 7), True),
     b"changes": (CHANGED, (1, 5, 6, 7), False),
-    b"explain": (EXPLAINED, (1, 5, 6, 8), False),
+    b"explain": (rb"(?:%b)+" % EXPLAINED, (1, 5, 6, 8), False),
     b"mark": (rb"marked [0-9]+\n", (1, 7), True),
     b"history": (rb"(?:[0-9]+ [0-9]+ [0-9]+\n)*", (1,), False),
     b"history --changes": (CHANGED, (1, 37), False),
@@ -77,6 +77,13 @@ class Replies:
             return at + self.content_at(words, written, at), False
         end = self.matched(form, words, written, at)
         return self.counted(end, written, at) if name in COUNTING else end, changes and not written.startswith(KEPT, at)
+
+    def ends_of(self, words, place, written, at):
+        """Where the reply may end: that of `explain` after any of its lines, since the next reply may have lines of the same form."""
+        end, is_done = self.end_of(words, place, written, at)
+        if place or form_name(words) != b"explain" or written.startswith(b"refused ", at):
+            return {end: is_done}
+        return {line.end(): is_done for line in re.compile(EXPLAINED).finditer(written, at, end)}
 
     def matched(self, form, words, written, at):
         found = re.compile(form, re.S).match(written, at)
