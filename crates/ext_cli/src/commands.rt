@@ -10,7 +10,7 @@ pub(crate) struct Synopsis {
 }
 
 /// One of each command.
-pub(crate) static SYNOPSES: [Synopsis; 18] = [
+pub(crate) static SYNOPSES: [Synopsis; 19] = [
     Synopsis {
         word: "init",
         words: "init ARCH SCOPE [HIERS [HIERS]], where ARCH is x86, x86-64, arm, arm64, riscv64, s390x, ppc64-le or loongarch64, SCOPE is system or initrd, and HIERS are as /usr:/opt",
@@ -34,6 +34,10 @@ pub(crate) static SYNOPSES: [Synopsis; 18] = [
     Synopsis {
         word: "sysupdate",
         words: "sysupdate [--component=NAME] list, check-new, update [VERSION], vacuum or features, or sysupdate components, where sysupdate.NAME.d is a name, NAME doesn't begin with a dash, and VERSION is as 2.0~rc1",
+    },
+    Synopsis {
+        word: "portable",
+        words: "portable list, inspect IMAGE [PREFIX ..], is-attached NAME, attach IMAGE [PREFIX ..], detach NAME or reattach IMAGE [PREFIX ..], where IMAGE is a name or begins with a slash, and a name doesn't begin with a dash; attach and reattach take --runtime, --profile=NAME, --copy=copy, symlink, auto or mixed, and --extension=IMAGE, not with --copy=symlink",
     },
     Synopsis {
         word: "mark",

@@ -48,6 +48,24 @@ commands:
                       write which features of transfers are on
   sysupdate components
                       write which components have transfers of their own
+  portable list       write what images of portable services there are, each
+                      with its state
+  portable inspect IMAGE [PREFIX ..]
+                      write where an image is, its ID and VERSION_ID, and its
+                      units: those that begin with a prefix, by default that of
+                      its name
+  portable is-attached NAME
+                      write whether an image of that name is attached
+  portable attach IMAGE [PREFIX ..]
+                      attach an image: put its units into the host, services
+                      with drop-ins. Among the words may stand --runtime,
+                      --profile=NAME, --copy=MODE, where MODE is copy, symlink,
+                      auto or mixed, and --extension=EXT up to 16 times
+  portable detach NAME
+                      take away what attaching an image added
+  portable reattach IMAGE [PREFIX ..]
+                      detach each version of an image and attach it, in one
+                      change, with the options of attach
   mark [K]            mark what the host has now, to go back to, and keep the K
                       youngest marks; K is 1 to 16, by default 16
   history [--changes G]

@@ -15,17 +15,31 @@ pub(crate) fn ending_with(
     of_disk: Option<&Trouble>,
     of_depot: Option<&Trouble>,
 ) -> Result<Ending<Status>, OutOfMemory> {
-    let reason = match &status {
-        Status::DiskFault => reason_of_trouble(alloc, of_disk)?,
-        Status::DepotFault => reason_of_trouble(alloc, of_depot)?,
-        Status::BadStore(why) => Some(of_bad_store(alloc, store, why)?),
-        Status::Unfinished => Some(allocated(String::from_str(
-            alloc,
-            "more was left over in STORE than one command removes: give the same command again, and of a batch the lines without a reply",
-        ))?),
-        _ => None,
-    };
+    let reason = reason_of(alloc, &status, store, of_disk, of_depot)?;
     Ok(Ending::with(status, reason))
+}
+
+fn reason_of(
+    alloc: Global,
+    status: &Status,
+    store: &str,
+    of_disk: Option<&Trouble>,
+    of_depot: Option<&Trouble>,
+) -> Result<Option<String>, OutOfMemory> {
+    match status {
+        Status::DiskFault => reason_of_trouble(alloc, of_disk),
+        Status::DepotFault => reason_of_trouble(alloc, of_depot),
+        Status::BadStore(why) => Ok(Some(of_bad_store(alloc, store, why)?)),
+        Status::Unfinished => Ok(Some(of_left_overs(alloc)?)),
+        _ => Ok(None),
+    }
+}
+
+fn of_left_overs(alloc: Global) -> Result<String, OutOfMemory> {
+    allocated(String::from_str(
+        alloc,
+        "more was left over in STORE than one command removes: give the same command again, and of a batch the lines without a reply",
+    ))
 }
 
 fn of_bad_store(alloc: Global, store: &str, why: &BadStore) -> Result<String, OutOfMemory> {

@@ -11,7 +11,7 @@ use Rattle.ext_cmd.specs.Words.{AreChosen, IsCommand, IsOptionalKeep, IsOptional
 use Rattle.ext_cmd.specs.declared.command.Chosen.{Chosen}
 use Rattle.ext_cmd.specs.declared.command.Chosen.TheVariants as chosen
 use Rattle.ext_cmd.specs.declared.command.Command.{Command}
-use Rattle.ext_cmd.specs.declared.command.Command.TheVariants.{Init, ImportFs, Remove, Sysext, Confext, Tree, Cat, Compare, Check, Layer, Migrate, Batch, Sample, Sysupdate, Components, Mark, History, HistoryChanges, Rollback, Forget}
+use Rattle.ext_cmd.specs.declared.command.Command.TheVariants.{Init, ImportFs, Remove, Sysext, Confext, Tree, Cat, Compare, Check, Layer, Migrate, Batch, Sample, Sysupdate, Components, Portable, Mark, History, HistoryChanges, Rollback, Forget}
 use Rattle.ext_cmd.specs.declared.command.ViewCommand.{ViewCommand}
 use Rattle.ext_cmd.specs.declared.command.ViewCommand.TheVariants as views
 use Rattle.ext_cmd.specs.declared.keyword.Keyword.{Keyword}
@@ -21,6 +21,7 @@ use Rattle.ext_cmd.specs.declared.keyword.Verb.TheVariants as verbs
 use Rattle.ext_cmd.specs.declared.words.CmdErr.{CmdErr}
 use Rattle.ext_cmd.specs.declared.words.CmdErr.TheVariants.{OutOfMemory, Usage}
 use Rattle.ext_cmd.proofs.FaultLemmas.{chooses_after, chooses_wrong, refuse_after, refuse_missing, refuse_wider, same_fault}
+use Rattle.ext_cmd.proofs.PortLemmas.{port_heard, port_said}
 use Rattle.ext_cmd.proofs.UpdateLemmas.{asked_heard, update_said}
 use Rattle.ext_cmd.proofs.WordLemmas.{some_below_root}
 
@@ -65,6 +66,7 @@ keyword_of text =
     else if bytes_eq text (keyword_text keywords.Batch) then Some keywords.Batch
     else if bytes_eq text (keyword_text keywords.Sample) then Some keywords.Sample
     else if bytes_eq text (keyword_text keywords.Sysupdate) then Some keywords.Sysupdate
+    else if bytes_eq text (keyword_text keywords.Portable) then Some keywords.Portable
     else if bytes_eq text (keyword_text keywords.Mark) then Some keywords.Mark
     else if bytes_eq text (keyword_text keywords.History) then Some keywords.History
     else if bytes_eq text (keyword_text keywords.Rollback) then Some keywords.Rollback
@@ -86,6 +88,7 @@ keyword_back keywords.Migrate = refl
 keyword_back keywords.Batch = refl
 keyword_back keywords.Sample = refl
 keyword_back keywords.Sysupdate = refl
+keyword_back keywords.Portable = refl
 keyword_back keywords.Mark = refl
 keyword_back keywords.History = refl
 keyword_back keywords.Rollback = refl
@@ -186,6 +189,7 @@ heard (Sample images) well = (keywords.Sample, refl, (record { value = images; i
 heard (Sysupdate None verb) well = (keywords.Sysupdate, refl, inl (asked_heard verb well.1))
 heard (Sysupdate (Some name) verb) well = (keywords.Sysupdate, refl, inr (inr (record { value = name; is = well.0; same = refl }, asked_heard verb well.1)))
 heard Components well = (keywords.Sysupdate, refl, inr (inl (refl, tt)))
+heard (Portable port) well = (keywords.Portable, refl, port_heard port well)
 heard (Mark keep) well = (keywords.Mark, refl, keep_heard keep well)
 heard History well = (keywords.History, refl, tt)
 heard (HistoryChanges mark) well = (keywords.History, refl, (refl, (record { value = mark; is = well; same = refl }, tt)))
@@ -290,6 +294,7 @@ said keywords.Sample [] takes = absurd takes
 said keywords.Sample (word ∷ []) takes = record { command = Sample takes.0.value; well_formed = takes.0.is; same = ap (λ (w : List ℕ). codes "sample" ∷ w ∷ []) takes.0.same }
 said keywords.Sample (word ∷ next ∷ more) takes = absurd takes.1
 said keywords.Sysupdate more takes = update_said more takes
+said keywords.Portable more takes = port_said more takes
 said keywords.Mark [] takes = record { command = Mark None; well_formed = tt; same = refl }
 said keywords.Mark (word ∷ []) takes =
     record { command = Mark (Some takes.0.value); well_formed = takes.0.is; same = ap (λ (w : List ℕ). codes "mark" ∷ w ∷ []) takes.0.same }

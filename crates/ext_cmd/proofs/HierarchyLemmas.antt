@@ -11,23 +11,24 @@ use Rattle.ext_lines.specs.Split.{IsSplit, Lacks}
 use Rattle.ext_lines.proofs.ForCallers.{Differs, differs, first_part, lacks_cons, one_part}
 use Rattle.ext_text.proofs.ForCallers.{all_append, all_back}
 use Rattle.ext_cmd.specs.Grammar.{Spells}
-use Rattle.ext_cmd.specs.Reading.{MayFollow, RefusesWord, are_apart, is_one_of, may_follow}
-use Rattle.ext_cmd.specs.Words.{AreDisjoint, AreDistinct, IsHierarchy, IsHierarchyList, IsNone, IsPlainName, hierarchies_word, slashed}
+use Rattle.ext_cmd.specs.Reading.{MayFollow, RefusesWord, are_apart, is_name_among, may_follow}
+use Rattle.ext_cmd.specs.Plain.{IsPlainName}
+use Rattle.ext_cmd.specs.Words.{AreDisjoint, AreDistinct, IsHierarchy, IsHierarchyList, IsNone, hierarchies_word, slashed}
 use Rattle.ext_cmd.specs.declared.words.CmdErr.{CmdErr}
 use Rattle.ext_cmd.specs.declared.words.CmdErr.TheVariants.{OutOfMemory, Usage}
 use Rattle.ext_cmd.proofs.JoinLemmas.{split_joined}
 
 -- a name that isn't among others is none of them
-among_none : (name : List ℕ) (names : List (List ℕ)) → is_one_of name names ≡ false → IsNone name names
+among_none : (name : List ℕ) (names : List (List ℕ)) → is_name_among name names ≡ false → IsNone name names
 among_none name [] test = tt
 among_none name (other ∷ names) test =
-    let parts = or_parts (pointwise nat_eq other name) (is_one_of name names) test in
+    let parts = or_parts (pointwise nat_eq other name) (is_name_among name names) test in
     (λ same. false≢true (sym parts.0 ∙ (bytes_decides other name).1 (sym same)), among_none name names parts.1)
 
-none_among : (name : List ℕ) (names : List (List ℕ)) → IsNone name names → is_one_of name names ≡ false
+none_among : (name : List ℕ) (names : List (List ℕ)) → IsNone name names → is_name_among name names ≡ false
 none_among name [] none = refl
 none_among name (other ∷ names) none =
-    or_from (pointwise nat_eq other name) (is_one_of name names) (other_test other name none.0) (none_among name names none.1)
+    or_from (pointwise nat_eq other name) (is_name_among name names) (other_test other name none.0) (none_among name names none.1)
   where
     not_both : (b : Bool) → (b ≡ true → ⊥) → b ≡ false
     not_both false never = refl
@@ -44,13 +45,13 @@ not_true true test = absurd (false≢true test)
 pub apart_true : (names others : List (List ℕ)) → are_apart names others ≡ true → AreDisjoint names others
 apart_true [] others test = tt
 apart_true (name ∷ names) others test =
-    let parts = and_parts (not (is_one_of name others)) (are_apart names others) test in
-    (among_none name others (not_true (is_one_of name others) parts.0), apart_true names others parts.1)
+    let parts = and_parts (not (is_name_among name others)) (are_apart names others) test in
+    (among_none name others (not_true (is_name_among name others) parts.0), apart_true names others parts.1)
 
 pub apart_test : (names others : List (List ℕ)) → AreDisjoint names others → are_apart names others ≡ true
 apart_test [] others apart = refl
 apart_test (name ∷ names) others apart =
-    and_from (not (is_one_of name others)) (are_apart names others) (ap not (none_among name others apart.0)) (apart_test names others apart.1)
+    and_from (not (is_name_among name others)) (are_apart names others) (ap not (none_among name others apart.0)) (apart_test names others apart.1)
 
 -- what a test of equal lists has told
 pub told_apart : (x names y others : List (List ℕ)) (b : Bool) → x ≡ names → y ≡ others → b ≡ are_apart x y → are_apart names others ≡ b
@@ -59,11 +60,11 @@ told_apart x names y others b same also test = sym (test ∙ ap (λ (ns : List (
 -- a name of a hierarchy whose test is passed may follow
 pub follows : (names : List (List ℕ)) (name : List ℕ) → IsHierarchy name → may_follow names name ≡ true → MayFollow names name
 follows names name is test =
-    let parts = and_parts (nat_lt (length names) 16) (not (is_one_of name names)) test in
-    record { hierarchy = is; new = among_none name names (not_true (is_one_of name names) parts.1); few = ltb-true (length names) 16 parts.0 }
+    let parts = and_parts (nat_lt (length names) 16) (not (is_name_among name names)) test in
+    record { hierarchy = is; new = among_none name names (not_true (is_name_among name names) parts.1); few = ltb-true (length names) 16 parts.0 }
 
 pub follows_test : (names : List (List ℕ)) (name : List ℕ) → MayFollow names name → may_follow names name ≡ true
-follows_test names name may = and_from (nat_lt (length names) 16) (not (is_one_of name names)) (lt-ltb (length names) 16 may.few) (ap not (none_among name names may.new))
+follows_test names name may = and_from (nat_lt (length names) 16) (not (is_name_among name names)) (lt-ltb (length names) 16 may.few) (ap not (none_among name names may.new))
 
 -- a name that lacks the colon, after a slash
 pub hierarchy_of : (part name : List ℕ) → Lacks 58 part → part ≡ slashed name → IsPlainName name → IsHierarchy name

@@ -14,11 +14,13 @@ use Rattle.ext_text.proofs.ForCallers.{path_injective}
 use Rattle.ext_cmd.specs.Keyword.{keyword_text}
 use Rattle.ext_cmd.specs.Reading.{ReadsWords}
 use Rattle.ext_cmd.specs.Resource.{IsResource}
-use Rattle.ext_cmd.specs.Words.{AreChosen, IsBelowRoot, IsCommand, IsImages, IsMarkNumber, IsOptionalKeep, IsOptionalPath, IsViewCommand, IsWellFormed, chosen_words, command_words, component_word, component_words, keep_words, mark_words, optional_words, path_words, update_words, view_words}
+use Rattle.ext_cmd.specs.Plain.{IsBelowRoot}
+use Rattle.ext_cmd.specs.Portable.{IsPortCommand, port_words}
+use Rattle.ext_cmd.specs.Words.{AreChosen, IsCommand, IsImages, IsMarkNumber, IsOptionalKeep, IsOptionalPath, IsViewCommand, IsWellFormed, chosen_words, command_words, component_word, component_words, keep_words, mark_words, optional_words, path_words, update_words, view_words}
 use Rattle.ext_cmd.specs.declared.command.Chosen.{Chosen}
 use Rattle.ext_cmd.specs.declared.command.Chosen.TheVariants as chosen
 use Rattle.ext_cmd.specs.declared.command.Command.{Command}
-use Rattle.ext_cmd.specs.declared.command.Command.TheVariants.{Init, ImportFs, Remove, Sysext, Confext, Tree, Cat, Compare, Check, Layer, Migrate, Batch, Sample, Sysupdate, Components, Mark, History, HistoryChanges, Rollback, Forget}
+use Rattle.ext_cmd.specs.declared.command.Command.TheVariants.{Init, ImportFs, Remove, Sysext, Confext, Tree, Cat, Compare, Check, Layer, Migrate, Batch, Sample, Sysupdate, Components, Portable, Mark, History, HistoryChanges, Rollback, Forget}
 use Rattle.ext_cmd.specs.declared.command.UpdateVerb.{UpdateVerb}
 use Rattle.ext_cmd.specs.declared.command.UpdateVerb.TheVariants as updates
 use Rattle.ext_cmd.specs.declared.command.ViewCommand.{ViewCommand}
@@ -26,13 +28,16 @@ use Rattle.ext_cmd.specs.declared.keyword.Keyword.{Keyword}
 use Rattle.ext_cmd.specs.declared.keyword.Keyword.TheVariants as keywords
 use Rattle.ext_cmd.specs.declared.keyword.UpdateWord.{UpdateWord}
 use Rattle.ext_cmd.specs.declared.keyword.UpdateWord.TheVariants as asks
+use Rattle.ext_cmd.specs.declared.portable.PortCommand.{PortCommand}
 use Rattle.ext_cmd.specs.declared.words.CmdErr.{CmdErr}
 use Rattle.ext_cmd.specs.declared.words.CmdErr.TheVariants.{OutOfMemory, Usage}
 use Rattle.ext_cmd.proofs.CommandLemmas.{one_keyword}
 use Rattle.ext_cmd.proofs.HierarchyLemmas.{one_list}
 use Rattle.ext_cmd.proofs.OneFaultLemmas.{no_fault}
-use Rattle.ext_cmd.proofs.OneViewLemmas.{one_path, one_view}
+use Rattle.ext_cmd.proofs.OnePortLemmas.{one_port}
+use Rattle.ext_cmd.proofs.OneViewLemmas.{one_view}
 use Rattle.ext_cmd.proofs.UpdateLemmas.{update_word_of}
+use Rattle.ext_cmd.proofs.WordLemmas.{one_path}
 
 abbrev arch_of : List ℕ → Option Arch
 arch_of text =
@@ -190,6 +195,7 @@ Gives keywords.Layer more c = c ≡ Layer
 Gives keywords.Migrate more c = c ≡ Migrate
 Gives keywords.Batch more c = c ≡ Batch
 Gives keywords.Sample more c = (n : ℕ) × IsImages n × (more ≡ decimal n ∷ []) × (c ≡ Sample n)
+Gives keywords.Portable more c = (p : PortCommand) × IsPortCommand p × (more ≡ port_words p) × (c ≡ Portable p)
 Gives keywords.Mark more c = (k : Option ℕ) × IsOptionalKeep k × (more ≡ keep_words k) × (c ≡ Mark k)
 Gives keywords.History more c = ((more ≡ []) × (c ≡ History)) ⊎ Since more c
 Gives keywords.Rollback more c = (n : ℕ) × IsMarkNumber n × (more ≡ mark_words n) × (c ≡ Rollback n)
@@ -222,6 +228,7 @@ given (Sysupdate o v) well = record {
   gives = inl (record { component = o; verb = v; words = refl; command = refl });
 }
 given Components well = record { keyword = keywords.Sysupdate; more = codes "components" ∷ []; same = refl; gives = inr (refl, refl) }
+given (Portable p) well = record { keyword = keywords.Portable; more = port_words p; same = refl; gives = (p, well, refl, refl) }
 given (Mark k) well = record { keyword = keywords.Mark; more = keep_words k; same = refl; gives = (k, well, refl, refl) }
 given History well = record { keyword = keywords.History; more = []; same = refl; gives = inl (refl, refl) }
 given (HistoryChanges n) well = record {
@@ -267,6 +274,7 @@ one_given keywords.Sysupdate more c d (inl a) (inl b) =
 one_given keywords.Sysupdate more c d (inl a) (inr (was, d_is)) = absurd (not_components a.component a.verb (sym a.words ∙ was))
 one_given keywords.Sysupdate more c d (inr (is, c_is)) (inl b) = absurd (not_components b.component b.verb (sym b.words ∙ is))
 one_given keywords.Sysupdate more c d (inr (is, c_is)) (inr (was, d_is)) = c_is ∙ sym d_is
+one_given keywords.Portable more c d (p, well, is, c_is) (q, also, was, d_is) = let same : p ≡ q = one_port p q well also (sym is ∙ was) in cc
 one_given keywords.Mark more c d (k, well, is, c_is) (l, also, was, d_is) = let same : k ≡ l = one_keep k l well also (sym is ∙ was) in cc
 one_given keywords.History more c d (inl a) (inl b) = a.1 ∙ sym b.1
 one_given keywords.History more c d (inl a) (inr b) = absurd (cc (a.0, b.words))

@@ -3,17 +3,13 @@ use Rattle.std.proofs.Common.{◌≡◌, ℕ, true, false, List, [], ◌∷◌, 
 use Rattle.std.specs.Prelude.{Option, Some, None}
 use Rattle.ext_text.specs.Absolute.{absolute}
 use Rattle.ext_text.specs.Path.{IsPath}
-use Rattle.ext_text.proofs.ForCallers.{path_injective}
 use Rattle.ext_cmd.specs.Words.{IsViewCommand, view_words}
 use Rattle.ext_cmd.specs.declared.command.ViewCommand.{ViewCommand}
 use Rattle.ext_cmd.specs.declared.command.ViewCommand.TheVariants as views
 use Rattle.ext_cmd.specs.declared.keyword.Verb.{Verb}
 use Rattle.ext_cmd.specs.declared.keyword.Verb.TheVariants as verbs
 use Rattle.ext_cmd.proofs.CommandLemmas.{verb_of}
-use Rattle.ext_cmd.proofs.WordLemmas.{root}
-
-pub one_path : (p q : List (List ℕ)) → IsPath p → IsPath q → absolute p ≡ absolute q → p ≡ q
-one_path p q is also same = path_injective p q is also (cc)
+use Rattle.ext_cmd.proofs.WordLemmas.{one_path, root}
 
 -- the path that is named, or the root where none is
 abbrev path_in : ViewCommand → List (List ℕ)

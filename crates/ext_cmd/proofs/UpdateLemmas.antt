@@ -6,7 +6,7 @@ use Rattle.ext_cmd.specs.Fault.{BeginsWords}
 use Rattle.ext_cmd.specs.Grammar.{HasNoMore, IsComponentWord, IsVersionWord, Maybe, Spells, TakesAsked, TakesUpdate, TakesUpdateWord, itself}
 use Rattle.ext_cmd.specs.Keyword.{update_word_text}
 use Rattle.ext_cmd.specs.Reading.{ReadsAfterUpdateWord, ReadsPart, RefusesWord, RefusesWords}
-use Rattle.ext_cmd.specs.Words.{IsAsked, IsCommand, IsOptionalVersion, IsPlainComponent, component_word, update_words, version_words}
+use Rattle.ext_cmd.specs.Words.{IsCommand, IsOptionalVersion, IsPlainComponent, IsUpdateAsk, component_word, update_words, version_words}
 use Rattle.ext_cmd.specs.declared.command.Command.TheVariants.{Sysupdate, Components}
 use Rattle.ext_cmd.specs.declared.command.UpdateVerb.{UpdateVerb}
 use Rattle.ext_cmd.specs.declared.command.UpdateVerb.TheVariants as updates
@@ -42,7 +42,7 @@ version_heard : (version : Option (List ℕ)) → IsOptionalVersion version → 
 version_heard None is = tt
 version_heard (Some version) is = (record { value = version; is = is; same = refl }, tt)
 
-pub asked_heard : (verb : UpdateVerb) → IsAsked verb → TakesAsked (update_words verb)
+pub asked_heard : (verb : UpdateVerb) → IsUpdateAsk verb → TakesAsked (update_words verb)
 asked_heard updates.List is = (asks.List, refl, tt)
 asked_heard updates.CheckNew is = (asks.CheckNew, refl, tt)
 asked_heard (updates.Update version) is = (asks.Update, refl, version_heard version is)
@@ -52,7 +52,7 @@ asked_heard updates.Features is = (asks.Features, refl, tt)
 -- and the other way round
 record Asks (words : List (List ℕ)) : Type 0 where
   pub verb : UpdateVerb
-  pub is : IsAsked verb
+  pub is : IsUpdateAsk verb
   pub same : words ≡ update_words verb
 
 word_said : (asked : UpdateWord) (more : List (List ℕ)) → TakesUpdateWord asked more → Asks (update_word_text asked ∷ more)
@@ -96,7 +96,7 @@ pub unknown_asked : (word : List ℕ) (more : List (List ℕ)) (first : ℕ) →
 unknown_asked word more first none = chooses_wrong update_word_text TakesUpdateWord word more (word ∷ more) first some_asked refl none
 
 -- what is read after the word is read with it
-pub read_asked : (word : List ℕ) (more : List (List ℕ)) (asked : UpdateWord) (first next : ℕ) (result : Result UpdateVerb CmdErr) → next ≡ first + 1 → word ≡ update_word_text asked → ReadsAfterUpdateWord asked more next result → ReadsPart update_words IsAsked TakesAsked (word ∷ more) first result
+pub read_asked : (word : List ℕ) (more : List (List ℕ)) (asked : UpdateWord) (first next : ℕ) (result : Result UpdateVerb CmdErr) → next ≡ first + 1 → word ≡ update_word_text asked → ReadsAfterUpdateWord asked more next result → ReadsPart update_words IsUpdateAsk TakesAsked (word ∷ more) first result
 read_asked word more asked first next (Ok verb) step is read = (read.0, ap (λ (w : List ℕ). w ∷ more) is ∙ read.1)
 read_asked word more asked first next (Err e) step is read =
     chooses_after update_word_text TakesUpdateWord one_update_word asked word more (word ∷ more) first next e step is refl read

@@ -1,24 +1,27 @@
 -- Words of arguments: that there are some, and what they are words of.
 use Rattle.std.proofs.Common.{◌≡◌, ◌≢◌, ℕ, ◌<◌, ◌≤◌, Bool, true, ◌&&◌, List, [], ◌∷◌, length, refl, arith, codes}
-use Rattle.std.specs.Prelude.{decimal, nat_lt}
-use Rattle.std.specs.List.{list_all}
+use Rattle.std.specs.Prelude.{decimal, nat_lt, not, ◌==◌, ◌^◌}
+use Rattle.std.specs.List.{list_all, slice_split}
 use Rattle.std.proofs.lemmas.Bool.{and_parts, ltb-true}
 use Rattle.std.proofs.lemmas.List.Elements.{All-weaker}
-use Rattle.std.proofs.lemmas.List.Sums.{AllPass-from_list_all}
+use Rattle.std.proofs.lemmas.List.Splits.{length-slice_split}
+use Rattle.std.proofs.lemmas.List.Sums.{AllPass-from_list_all, count_by-le-length, length-filter}
 use Rattle.std.proofs.lemmas.Str.{IsUtf8-from_ascii}
 use Rattle.std.proofs.lemmas.Str.Ascii.{IsAscii-from_all}
 use Rattle.std.specs.Prelude.{Err}
+use Rattle.ext_lines.specs.Blanks.{is_blank}
+use Rattle.ext_lines.specs.Words.{words_of}
 use Rattle.ext_text.specs.Absolute.{absolute}
 use Rattle.ext_text.specs.Name.{IsName, is_name_byte}
 use Rattle.ext_text.specs.Path.{IsPath, ReadsPath, path_text}
 use Rattle.ext_text.specs.declared.path.PathErr.{PathErr}
 use Rattle.ext_text.specs.declared.path.PathErr.TheVariants as paths
-use Rattle.ext_text.proofs.ForCallers.{no_path, path_not_empty}
+use Rattle.ext_text.proofs.ForCallers.{no_path, path_injective, path_not_empty}
 use Rattle.ext_cmd.specs.Fault.{BeginsWords}
 use Rattle.ext_cmd.specs.Grammar.{Any, HasNoMore, IsBelowRootWord, IsImagesWord, IsMarkWord, IsPathWord, IsResourceWord, Spells, Then}
 use Rattle.ext_cmd.specs.Reading.{RefusesWord, usage_of}
 use Rattle.ext_cmd.specs.Resource.{IsResource}
-use Rattle.ext_cmd.specs.Words.{IsBelowRoot}
+use Rattle.ext_cmd.specs.Plain.{IsBelowRoot}
 use Rattle.ext_cmd.specs.declared.words.CmdErr.TheVariants.{Usage}
 
 -- a byte of a name, of ASCII
@@ -39,11 +42,14 @@ ascii_name bytes some few dot dots plain =
       utf8 = IsUtf8-from_ascii bytes (IsAscii-from_all bytes low);
     }
 
-a_name : IsName (codes "a")
+pub a_name : IsName (codes "a")
 a_name = ascii_name (codes "a") (omega arith) (omega arith) (λ e. cc) (λ e. cc) refl
 
 a_tree_name : IsName (codes "a.tree")
 a_tree_name = ascii_name (codes "a.tree") (omega arith) (omega arith) (λ e. cc) (λ e. cc) refl
+
+pub default_name : IsName (codes "default")
+default_name = ascii_name (codes "default") (omega arith) (omega arith) (λ e. cc) (λ e. cc) refl
 
 -- the root, and a path below it
 pub root : IsPath []
@@ -101,3 +107,14 @@ has_names (name ∷ path) below = omega arith
 pub root_refused : (word : List ℕ) (path : List (List ℕ)) (place : ℕ) → length path ≡ 0 → word ≡ absolute path → RefusesWord (Spells absolute IsBelowRoot) word place (Usage place)
 root_refused word [] place none same = (refl, λ it. path_not_empty it.value [] it.is.within (has_names it.value it.is.below_root) refl (cc (same, it.same)))
 root_refused word (name ∷ path) place none same = absurd (omega arith)
+
+-- paths of one word are equal
+pub one_path : (p q : List (List ℕ)) → IsPath p → IsPath q → absolute p ≡ absolute q → p ≡ q
+one_path p q is also same = path_injective p q is also (cc)
+
+-- a text has no more words than it has bytes, and one
+pub words_few : (text : List ℕ) → length text < 2 ^ 63 → length (words_of text) ≤ 2 ^ 63
+words_few text short =
+    let some : List ℕ → Bool = λ piece. not (length piece == 0) in
+    let pieces = slice_split is_blank text in
+    omega (arith, short, length-filter some pieces, count_by-le-length some pieces, length-slice_split is_blank text, count_by-le-length is_blank text)

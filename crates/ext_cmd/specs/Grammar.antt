@@ -1,26 +1,31 @@
 -- The words after each keyword, part by part: which word may stand where. These grammars are those of the printed commands.
-use Rattle.std.specs.Prelude.{◌≡◌, ◌≢◌, ◌⊎◌, ℕ, List, [], ◌∷◌, codes, decimal}
+use Rattle.std.specs.Prelude.{◌≡◌, ◌≢◌, ◌⊎◌, ℕ, List, [], ◌∷◌, ◌++◌, codes, decimal}
 use Rattle.ext_text.specs.Absolute.{absolute}
 use Rattle.ext_text.specs.Arch.{arch_name}
 use Rattle.ext_text.specs.Path.{IsPath, path_text}
 use Rattle.ext_text.specs.Scope.{scope_name}
 use Rattle.ext_text.specs.declared.extension.Extension.TheVariants as extensions
 use Rattle.ext_text.specs.declared.scope.Scope.{Scope}
-use Rattle.ext_text.specs.declared.scope.Scope.TheVariants.{Portable}
+use Rattle.ext_text.specs.declared.scope.Scope.TheVariants as scopes
 use Rattle.ext_host.specs.Host.{default_hierarchies}
 use Rattle.ext_vers.specs.Version.{IsVersion}
-use Rattle.ext_cmd.specs.Keyword.{update_word_text, verb_text}
+use Rattle.ext_cmd.specs.Keyword.{port_word_text, update_word_text, verb_text}
 use Rattle.ext_cmd.specs.Resource.{IsResource}
-use Rattle.ext_cmd.specs.Words.{AreDisjoint, IsBelowRoot, IsHierarchyList, IsImages, IsKeep, IsMarkNumber, IsPlainComponent}
+use Rattle.ext_cmd.specs.Plain.{IsBelowRoot, IsPlainName}
+use Rattle.ext_cmd.specs.Portable.{IsImageOfWords, MayJoin, image_word, option_word}
+use Rattle.ext_cmd.specs.Words.{AreDisjoint, IsHierarchyList, IsImages, IsKeep, IsMarkNumber, IsPlainComponent}
 use Rattle.ext_cmd.specs.Words.{component_word, hierarchies_word}
 use Rattle.ext_cmd.specs.declared.keyword.Keyword.{Keyword}
 use Rattle.ext_cmd.specs.declared.keyword.Keyword.TheVariants.{Init, ImportFs, Remove, Sysext, Confext}
-use Rattle.ext_cmd.specs.declared.keyword.Keyword.TheVariants.{Tree, Cat, Compare, Check, Layer, Migrate, Batch, Sample, Sysupdate}
+use Rattle.ext_cmd.specs.declared.keyword.Keyword.TheVariants.{Tree, Cat, Compare, Check, Layer, Migrate, Batch, Sample, Sysupdate, Portable}
 use Rattle.ext_cmd.specs.declared.keyword.Keyword.TheVariants.{Mark, History, Rollback, Forget}
+use Rattle.ext_cmd.specs.declared.keyword.PortWord.{PortWord}
+use Rattle.ext_cmd.specs.declared.keyword.PortWord.TheVariants as ports
 use Rattle.ext_cmd.specs.declared.keyword.UpdateWord.{UpdateWord}
 use Rattle.ext_cmd.specs.declared.keyword.UpdateWord.TheVariants as asks
 use Rattle.ext_cmd.specs.declared.keyword.Verb.{Verb}
 use Rattle.ext_cmd.specs.declared.keyword.Verb.TheVariants as verbs
+use Rattle.ext_cmd.specs.declared.portable.AttachOption.{AttachOption}
 
 -- the word is that of a value with this property
 pub record Spells {A : Type 0} (form : A → List ℕ) (Is : A → Type 0) (word : List ℕ) : Type 0 where
@@ -42,7 +47,7 @@ IsArchWord = Spells arch_name Any
 
 -- the scope of a host
 abbrev pub IsHostScope : Scope → Type 0
-IsHostScope scope = scope ≢ Portable
+IsHostScope scope = scope ≢ scopes.Portable
 
 -- the name of a scope that a host may have
 abbrev pub IsScopeWord : List ℕ → Type 0
@@ -157,6 +162,42 @@ TakesUpdate words = TakesAsked words ⊎ Then IsComponents HasNoMore words ⊎ T
 abbrev pub IsSince : List ℕ → Type 0
 IsSince word = word ≡ codes "--changes"
 
+-- a name that isn't taken for an option
+abbrev pub IsPlainWord : List ℕ → Type 0
+IsPlainWord = Spells itself IsPlainName
+
+-- an image of a portable service
+abbrev pub IsImageWord : List ℕ → Type 0
+IsImageWord = Spells image_word IsImageOfWords
+
+-- any number of words of one kind
+abbrev pub Each : (List ℕ → Type 0) → List (List ℕ) → Type 0
+Each Is [] = Unit {0}
+Each Is (word ∷ words) = Is word × Each Is words
+
+-- prefixes and options, after an image and these options
+abbrev pub TakesAfter : List AttachOption → List (List ℕ) → Type 0
+TakesAfter options [] = Unit {0}
+TakesAfter options (word ∷ words) =
+    (IsPlainWord word × TakesAfter options words)
+    ⊎ ((option : AttachOption) × MayJoin options option × (word ≡ option_word option) × TakesAfter (options ++ option ∷ []) words)
+
+-- an image with options and prefixes, after these options
+abbrev pub TakesAttached : List AttachOption → List (List ℕ) → Type 0
+TakesAttached options [] = ⊥
+TakesAttached options (word ∷ words) =
+    (IsImageWord word × TakesAfter options words)
+    ⊎ ((option : AttachOption) × MayJoin options option × (word ≡ option_word option) × TakesAttached (options ++ option ∷ []) words)
+
+-- the words after the one by which something is done with portable services
+abbrev pub TakesPortWord : PortWord → List (List ℕ) → Type 0
+TakesPortWord ports.List = HasNoMore
+TakesPortWord ports.Inspect = Then IsImageWord (Each IsPlainWord)
+TakesPortWord ports.IsAttached = Then IsPlainWord HasNoMore
+TakesPortWord ports.Attach = TakesAttached []
+TakesPortWord ports.Detach = Then IsPlainWord HasNoMore
+TakesPortWord ports.Reattach = TakesAttached []
+
 -- the words after a keyword
 abbrev pub Takes : Keyword → List (List ℕ) → Type 0
 Takes Init = Then IsArchWord (Then IsScopeWord TakesChosen)
@@ -173,6 +214,7 @@ Takes Migrate = HasNoMore
 Takes Batch = HasNoMore
 Takes Sample = Then IsImagesWord HasNoMore
 Takes Sysupdate = TakesUpdate
+Takes Portable = Chooses port_word_text TakesPortWord
 Takes Mark = Maybe IsKeepWord HasNoMore
 Takes History = Maybe IsSince (Then IsMarkWord HasNoMore)
 Takes Rollback = Then IsMarkWord HasNoMore

@@ -1,10 +1,13 @@
 -- The words that say which command is meant. They are this project's own; the verbs of views are those of
--- systemd-sysext(8) with `changes` and `explain`, what is asked of updates is asked by the verbs of systemd-sysupdate(8).
+-- systemd-sysext(8) with `changes` and `explain`, what is asked of updates is asked by the verbs of systemd-sysupdate(8), those of
+-- portable services are those of portablectl(1).
 use Rattle.std.specs.Prelude.{◌≡◌, ◌≢◌, ℕ, List, codes, Option, Some, None}
 use Rattle.ext_cmd.specs.declared.keyword.Keyword.{Keyword}
 use Rattle.ext_cmd.specs.declared.keyword.Keyword.TheVariants.{Init, ImportFs, Remove, Sysext, Confext}
-use Rattle.ext_cmd.specs.declared.keyword.Keyword.TheVariants.{Tree, Cat, Compare, Check, Layer, Migrate, Batch, Sample, Sysupdate}
+use Rattle.ext_cmd.specs.declared.keyword.Keyword.TheVariants.{Tree, Cat, Compare, Check, Layer, Migrate, Batch, Sample, Sysupdate, Portable}
 use Rattle.ext_cmd.specs.declared.keyword.Keyword.TheVariants.{Mark, History, Rollback, Forget}
+use Rattle.ext_cmd.specs.declared.keyword.PortWord.{PortWord}
+use Rattle.ext_cmd.specs.declared.keyword.PortWord.TheVariants as ports
 use Rattle.ext_cmd.specs.declared.keyword.UpdateWord.{UpdateWord}
 use Rattle.ext_cmd.specs.declared.keyword.UpdateWord.TheVariants as asks
 use Rattle.ext_cmd.specs.declared.keyword.Verb.{Verb}
@@ -26,6 +29,7 @@ keyword_text Migrate = codes "migrate"
 keyword_text Batch = codes "batch"
 keyword_text Sample = codes "sample"
 keyword_text Sysupdate = codes "sysupdate"
+keyword_text Portable = codes "portable"
 keyword_text Mark = codes "mark"
 keyword_text History = codes "history"
 keyword_text Rollback = codes "rollback"
@@ -63,3 +67,17 @@ update_word_text asks.Features = codes "features"
 abbrev pub ReadsUpdateWord : List ℕ → Option UpdateWord → Type 0
 ReadsUpdateWord text (Some asked) = text ≡ update_word_text asked
 ReadsUpdateWord text None = (asked : UpdateWord) → text ≢ update_word_text asked
+
+-- the word by which something is done with portable services
+abbrev pub port_word_text : PortWord → List ℕ
+port_word_text ports.List = codes "list"
+port_word_text ports.Inspect = codes "inspect"
+port_word_text ports.IsAttached = codes "is-attached"
+port_word_text ports.Attach = codes "attach"
+port_word_text ports.Detach = codes "detach"
+port_word_text ports.Reattach = codes "reattach"
+
+-- what is done by a word, or that the word does nothing
+abbrev pub ReadsPortWord : List ℕ → Option PortWord → Type 0
+ReadsPortWord text (Some word) = text ≡ port_word_text word
+ReadsPortWord text None = (word : PortWord) → text ≢ port_word_text word

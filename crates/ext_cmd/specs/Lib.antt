@@ -1,10 +1,13 @@
 pub mod Fault
 pub mod Resource
 pub mod Marks
+pub mod Plain
+pub mod Portable
 pub mod Words
 pub mod Keyword
 pub mod Grammar
 pub mod Reading
+pub mod PortReading
 pub mod Line
 pub mod Replies
 pub mod Refusals

@@ -60,8 +60,3 @@ ReadsLineWords words (Err OutOfMemory) = Unit {0}
 -- what reading the text of a line gives
 abbrev pub ReadsBatchLine : List ℕ → Result (Option Command) CmdErr → Type 0
 ReadsBatchLine text result = ReadsLineWords (words_of text) result
-
--- The most words that a command has. Where a line has more than these after its keyword, it is no command, and its fault
--- stands among the first of them.
-abbrev pub most_words : ℕ
-most_words = 5

@@ -7,7 +7,7 @@ use Rattle.ext_text.specs.declared.path.PathErr.TheVariants as paths
 use Rattle.ext_cmd.specs.Fault.{IsFault}
 use Rattle.ext_cmd.specs.Grammar.{Spells, Takes, TakesOthers, TakesUpdateWord, TakesVerb}
 use Rattle.ext_cmd.specs.Keyword.{keyword_text, update_word_text, verb_text}
-use Rattle.ext_cmd.specs.Words.{AreChosen, IsAsked, IsHierarchy, IsNone, IsUsage, IsViewCommand, IsWellFormed}
+use Rattle.ext_cmd.specs.Words.{AreChosen, IsHierarchy, IsNone, IsUpdateAsk, IsUsage, IsViewCommand, IsWellFormed}
 use Rattle.ext_cmd.specs.Words.{chosen_words, command_words, hierarchies_word, slashed, update_words, view_words}
 use Rattle.ext_cmd.specs.declared.command.Chosen.{Chosen}
 use Rattle.ext_cmd.specs.declared.command.Command.{Command}
@@ -69,7 +69,7 @@ ReadsAfterVerb verb words (Err e) = RefusesWords (TakesVerb verb) words 3 e
 
 -- what is asked of updates by this word
 abbrev pub ReadsAfterUpdateWord : UpdateWord → List (List ℕ) → ℕ → Result UpdateVerb CmdErr → Type 0
-ReadsAfterUpdateWord asked words first (Ok verb) = IsAsked verb × (update_word_text asked ∷ words ≡ update_words verb)
+ReadsAfterUpdateWord asked words first (Ok verb) = IsUpdateAsk verb × (update_word_text asked ∷ words ≡ update_words verb)
 ReadsAfterUpdateWord asked words first (Err e) = RefusesWords (TakesUpdateWord asked) words first e
 
 -- no word, whatever the value
@@ -83,16 +83,16 @@ pub record MayFollow (names : List (List ℕ)) (name : List ℕ) : Type 0 where
   pub few : length names < 16
 
 -- whether a name is one of these
-abbrev pub is_one_of : List ℕ → List (List ℕ) → Bool
-is_one_of name names = list_any (λ other. pointwise nat_eq other name) names
+abbrev pub is_name_among : List ℕ → List (List ℕ) → Bool
+is_name_among name names = list_any (λ other. pointwise nat_eq other name) names
 
 -- whether it may stand after them, being one of a hierarchy
 abbrev pub may_follow : List (List ℕ) → List ℕ → Bool
-may_follow names name = nat_lt (length names) 16 && not (is_one_of name names)
+may_follow names name = nat_lt (length names) 16 && not (is_name_among name names)
 
 -- whether no name is one of the others
 abbrev pub are_apart : List (List ℕ) → List (List ℕ) → Bool
-are_apart names others = list_all (λ name. not (is_one_of name others)) names
+are_apart names others = list_all (λ name. not (is_name_among name others)) names
 
 -- the name of a part was added to those before it, or may not stand there
 abbrev pub PushesName : {A : Type 0} → List (List ℕ) → List (List ℕ) → List ℕ → ℕ → Result A CmdErr → Type 0

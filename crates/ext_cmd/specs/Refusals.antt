@@ -7,16 +7,21 @@ use Rattle.ext_text.specs.Path.{path_text}
 use Rattle.ext_text.specs.declared.which.Which.{Which}
 use Rattle.ext_text.specs.declared.which.Which.TheVariants as limits
 use Rattle.ext_tree.specs.declared.stamp.Stamp.{Stamp}
+use Rattle.ext_portext.specs.declared.errors.ExtWhy.{ExtWhy}
+use Rattle.ext_portext.specs.declared.errors.ExtWhy.TheVariants as reasons
 use Rattle.ext_transfer.specs.declared.err.TransferFault.{TransferFault}
 use Rattle.ext_transfer.specs.declared.err.TransferFault.TheVariants as transfers
 use Rattle.ext_transfer.specs.declared.feature.FeatureFault.{FeatureFault}
 use Rattle.ext_transfer.specs.declared.feature.FeatureFault.TheVariants as features
-use Rattle.ext_cmd.specs.Replies.{lined}
+use Rattle.ext_cmd.specs.Portable.{image_word}
+use Rattle.ext_cmd.specs.Replies.{lined, verdict_word, why_word}
 use Rattle.ext_cmd.specs.declared.refusal.Refusal.{Refusal}
 use Rattle.ext_cmd.specs.declared.refusal.Refusal.TheVariants.{NoStore, StoreExists, Merged, ReadOnly, NoHostRelease, BadHostRelease, Limit}
 use Rattle.ext_cmd.specs.declared.refusal.Refusal.TheVariants.{NoEntry, NotDirectory, NotFile, BadTree, NotInDepot, Mismatch}
 use Rattle.ext_cmd.specs.declared.refusal.Refusal.TheVariants.{NoTransfers, BadTransfer, BadManifest, NoneNewer, BadFeature, NoneOn}
 use Rattle.ext_cmd.specs.declared.refusal.Refusal.TheVariants.{NoSuchVersion, NoRoom, Clash, NoMark}
+use Rattle.ext_cmd.specs.declared.refusal.Refusal.TheVariants.{NoSuchImage, NotPortable, BadRelease, PrefixForbidden, NoUnits, NoProfile}
+use Rattle.ext_cmd.specs.declared.refusal.Refusal.TheVariants.{UnitExists, AlreadyAttached, NotAttached, NoExtension, Extension}
 
 -- the number of a refusal
 abbrev pub refusal_number : Refusal → ℕ
@@ -30,6 +35,15 @@ refusal_number (Limit which) = 7
 refusal_number (NoEntry path) = 8
 refusal_number (NotDirectory path) = 9
 refusal_number (NotFile path) = 10
+refusal_number NoSuchImage = 11
+refusal_number NotPortable = 12
+refusal_number (BadRelease line) = 13
+refusal_number (PrefixForbidden prefix) = 14
+refusal_number NoUnits = 15
+refusal_number NoProfile = 16
+refusal_number (UnitExists path) = 17
+refusal_number AlreadyAttached = 18
+refusal_number NotAttached = 19
 refusal_number NoTransfers = 20
 refusal_number (BadTransfer line why file) = 21
 refusal_number (BadManifest line path) = 22
@@ -40,6 +54,8 @@ refusal_number NoneNewer = 26
 refusal_number (NoSuchVersion version) = 27
 refusal_number (NoRoom count file) = 28
 refusal_number (Clash path) = 29
+refusal_number (NoExtension extension) = 30
+refusal_number (Extension extension why) = 31
 refusal_number (BadFeature line why file) = 32
 refusal_number NoneOn = 33
 refusal_number (NoMark generation) = 37
@@ -90,6 +106,12 @@ feature_fault_word features.Enabled = codes "enabled"
 abbrev pub file_fault_words : ℕ → List ℕ → List ℕ → List ℕ
 file_fault_words line why file = decimal line ++ codes " " ++ why ++ codes " " ++ file
 
+-- why an extension of a portable service does not fit
+abbrev pub ext_why_words : ExtWhy → List ℕ
+ext_why_words (reasons.Broken why) = why_word why
+ext_why_words (reasons.BadRelease line) = codes "bad-release " ++ decimal line
+ext_why_words (reasons.Verdict verdict) = verdict_word verdict
+
 -- the word and the details of a refusal
 abbrev pub refusal_details : Refusal → List ℕ
 refusal_details NoStore = codes "no-store"
@@ -102,6 +124,15 @@ refusal_details (Limit which) = codes "limit " ++ which_word which
 refusal_details (NoEntry path) = codes "no-entry " ++ absolute path
 refusal_details (NotDirectory path) = codes "not-directory " ++ absolute path
 refusal_details (NotFile path) = codes "not-file " ++ absolute path
+refusal_details NoSuchImage = codes "no-image"
+refusal_details NotPortable = codes "not-portable"
+refusal_details (BadRelease line) = codes "bad-release " ++ decimal line
+refusal_details (PrefixForbidden prefix) = codes "prefix " ++ prefix
+refusal_details NoUnits = codes "no-units"
+refusal_details NoProfile = codes "no-profile"
+refusal_details (UnitExists path) = codes "exists " ++ absolute path
+refusal_details AlreadyAttached = codes "already-attached"
+refusal_details NotAttached = codes "not-attached"
 refusal_details NoTransfers = codes "no-transfers"
 refusal_details (BadTransfer line why file) = codes "bad-transfer " ++ file_fault_words line (transfer_fault_word why) file
 refusal_details (BadManifest line path) = codes "bad-manifest " ++ decimal line ++ codes " " ++ path_text path
@@ -113,6 +144,8 @@ refusal_details NoneNewer = codes "none-newer"
 refusal_details (NoSuchVersion version) = codes "no-such-version " ++ version
 refusal_details (NoRoom count file) = codes "no-room " ++ decimal count ++ codes " " ++ file
 refusal_details (Clash path) = codes "clash " ++ absolute path
+refusal_details (NoExtension extension) = codes "no-extension " ++ image_word extension
+refusal_details (Extension extension why) = codes "extension " ++ image_word extension ++ codes " " ++ ext_why_words why
 refusal_details (BadFeature line why file) = codes "bad-feature " ++ file_fault_words line (feature_fault_word why) file
 refusal_details NoneOn = codes "none-on"
 refusal_details (NoMark generation) = codes "no-mark " ++ decimal generation

@@ -1,6 +1,6 @@
 -- The replies of commands that are done. Each line ends in a newline; paths of the host stand after a `/`. The words are
 -- this project's own.
-use Rattle.std.specs.Prelude.{ℕ, Bool, true, false, List, [], ◌++◌, length, codes, decimal}
+use Rattle.std.specs.Prelude.{ℕ, Bool, true, false, List, [], ◌++◌, length, codes, decimal, Option, Some, None}
 use Rattle.std.specs.List.{flat_map}
 use Rattle.std.specs.declared.cmp.Ordering.{Ordering}
 use Rattle.std.specs.declared.cmp.Ordering.TheVariants as orders
@@ -10,6 +10,9 @@ use Rattle.ext_text.specs.declared.digest.Digest.{Digest}
 use Rattle.ext_history.specs.declared.marks.Mark.{Mark}
 use Rattle.ext_changes.specs.Lines.{changes_text}
 use Rattle.ext_origin.specs.Lines.{origins_text}
+use Rattle.ext_attached.specs.declared.state.State.{State}
+use Rattle.ext_attached.specs.declared.state.State.TheVariants as states
+use Rattle.ext_units.specs.declared.inspected.Inspect.{Inspect}
 use Rattle.ext_match.specs.declared.verdict.Verdict.{Verdict}
 use Rattle.ext_match.specs.declared.verdict.Verdict.TheVariants as verdicts
 use Rattle.ext_find.specs.declared.found.BreakWhy.{BreakWhy}
@@ -18,12 +21,16 @@ use Rattle.ext_cmd.specs.declared.answer.Answer.{Answer}
 use Rattle.ext_cmd.specs.declared.answer.Answer.TheVariants.{Done, Unchanged, Merged, Unmerged, Found, Tree, Order, Checked, Sample}
 use Rattle.ext_cmd.specs.declared.answer.Answer.TheVariants.{Versions, Version, Updated, Removed, Features, Components}
 use Rattle.ext_cmd.specs.declared.answer.Answer.TheVariants.{Marked, History, Changes, Explained}
+use Rattle.ext_cmd.specs.declared.answer.Answer.TheVariants as answers
 use Rattle.ext_cmd.specs.declared.answer.FeatureItem.{FeatureItem}
 use Rattle.ext_cmd.specs.declared.answer.Item.{Item}
 use Rattle.ext_cmd.specs.declared.answer.ItemKind.{ItemKind}
 use Rattle.ext_cmd.specs.declared.answer.ItemKind.TheVariants.{Image, Masked, Raw, Broken, BadRelease}
 use Rattle.ext_cmd.specs.declared.answer.Presence.{Presence}
 use Rattle.ext_cmd.specs.declared.answer.Presence.TheVariants.{Absent, Partial, Installed}
+use Rattle.ext_cmd.specs.declared.answer.ServiceItem.{ServiceItem}
+use Rattle.ext_cmd.specs.declared.answer.ServiceKind.{ServiceKind}
+use Rattle.ext_cmd.specs.declared.answer.ServiceKind.TheVariants as services
 use Rattle.ext_cmd.specs.declared.answer.VersionItem.{VersionItem}
 
 -- a line and its newline
@@ -112,6 +119,37 @@ feature_line item = lined (item.name ++ feature_word item.on)
 abbrev pub mark_line : Mark → List ℕ
 mark_line mark = lined (decimal mark.generation ++ codes " " ++ decimal mark.entries ++ codes " " ++ decimal mark.files)
 
+-- the word of the state of a portable service
+abbrev pub state_word : State → List ℕ
+state_word states.Detached = codes "detached"
+state_word states.Attached = codes "attached"
+state_word states.AttachedRuntime = codes "attached-runtime"
+
+-- what a found item of portable services is, and where
+abbrev pub service_words : List (List ℕ) → ServiceKind → List ℕ
+service_words place (services.Image state) = codes "image " ++ absolute place ++ codes " " ++ state_word state
+service_words place services.Masked = codes "masked " ++ absolute place
+service_words place services.Raw = codes "raw " ++ absolute place
+
+-- the line of a found item of portable services
+abbrev pub service_line : ServiceItem → List ℕ
+service_line item = lined (item.name ++ codes " " ++ service_words item.place item.kind)
+
+-- a value of a release file, or `-` where it is unset
+abbrev pub value_word : Option (List ℕ) → List ℕ
+value_word None = codes "-"
+value_word (Some value) = value
+
+-- the line of a unit
+abbrev pub unit_line : List ℕ → List ℕ
+unit_line name = lined (codes "unit " ++ name)
+
+-- the lines of what inspecting a portable service tells
+abbrev pub inspect_text : Inspect → List ℕ
+inspect_text inspect =
+    lined (codes "image " ++ absolute inspect.place) ++ lined (codes "id " ++ value_word inspect.id)
+    ++ lined (codes "version " ++ value_word inspect.version) ++ flat_map unit_line inspect.units
+
 -- the text of an answer
 abbrev pub answer_text : Answer → List ℕ
 answer_text Done = lined (codes "done")
@@ -133,3 +171,8 @@ answer_text (Marked generation) = lined (codes "marked " ++ decimal generation)
 answer_text (History marks) = flat_map mark_line marks
 answer_text (Changes changes) = changes_text changes
 answer_text (Explained origins) = origins_text origins
+answer_text (answers.Services items) = flat_map service_line items
+answer_text (answers.Inspected inspect) = inspect_text inspect
+answer_text (answers.State state) = lined (state_word state)
+answer_text (answers.Attached names) = names_text (codes "attached ") names
+answer_text answers.Detached = lined (codes "detached")

@@ -1,6 +1,6 @@
 -- The words of commands: what the words of each command are, and which commands there are. The grammar is this project's
 -- own; the verbs of views are those of systemd-sysext(8) with `changes` and `explain`, those of updates are those of
--- systemd-sysupdate(8).
+-- systemd-sysupdate(8), those of portable services are those of portablectl(1).
 --
 --     init ARCH SCOPE [HIERS [HIERS]]
 --     import-fs RES ABS
@@ -17,6 +17,8 @@
 --     sample N
 --     sysupdate [--component=NAME] list | check-new | update [VERSION] | vacuum | features
 --     sysupdate components
+--     portable list | inspect IMAGE [PREFIX ..] | is-attached NAME | detach NAME
+--     portable attach IMAGE [PREFIX ..] | reattach IMAGE [PREFIX ..]
 --     mark [K]
 --     history [--changes G]
 --     rollback G
@@ -24,29 +26,33 @@
 --
 -- ABS is a path after a `/`, ABS1 one other than the root; RES is a resource; TEXT is any word. SCOPE is `system` or
 -- `initrd`. HIERS is 1 to 16 names with a `/` before each and a `:` between each two. N is 1 to 500, in decimal digits
--- without a leading zero, as K and G are: K is 1 to 16, G is 1 to 4,294,967,295. NAME is the name of a component, and doesn't
--- begin with `-`. VERSION is a version.
+-- without a leading zero, as K and G are: K is 1 to 16, G is 1 to 4,294,967,295. NAME is a name that doesn't begin with `-`, as
+-- PREFIX is; after `--component=` it is the name of a component. VERSION is a version. IMAGE is such a name or ABS1, as EXT is.
+-- `attach` and `reattach` take the options `[--runtime] [--profile=NAME] [--copy=MODE] [--extension=EXT ..]`, at any place among
+-- the words after the verb; MODE is `copy`, `symlink`, `auto` or `mixed`.
 use Rattle.std.specs.Prelude.{◌≡◌, ◌≢◌, ℕ, ◌<◌, ◌≤◌, Bool, true, false, List, [], ◌∷◌, ◌++◌, length, map, codes, decimal}
 use Rattle.std.specs.Prelude.{Option, Some, None}
 use Rattle.std.specs.List.{AllByRecursion, join_with_byte}
 use Rattle.ext_lines.specs.Split.{Lacks}
 use Rattle.ext_text.specs.Absolute.{absolute}
 use Rattle.ext_text.specs.Arch.{arch_name}
-use Rattle.ext_text.specs.Name.{IsName}
 use Rattle.ext_text.specs.Path.{IsPath, path_text}
 use Rattle.ext_text.specs.Scope.{scope_name}
 use Rattle.ext_text.specs.declared.extension.Extension.TheVariants as extensions
-use Rattle.ext_text.specs.declared.scope.Scope.TheVariants.{Portable}
+use Rattle.ext_text.specs.declared.scope.Scope.TheVariants as scopes
 use Rattle.ext_host.specs.Host.{default_hierarchies}
 use Rattle.ext_host.specs.Valid.{most_past}
 use Rattle.ext_transfer.specs.Component.{IsComponent}
 use Rattle.ext_vers.specs.Version.{IsVersion}
 use Rattle.ext_cmd.specs.Fault.{IsFault}
+use Rattle.ext_cmd.specs.Plain.{IsBelowRoot, IsPlainName}
+use Rattle.ext_cmd.specs.Portable.{IsPortCommand, port_words}
 use Rattle.ext_cmd.specs.Resource.{IsResource}
 use Rattle.ext_cmd.specs.declared.command.Command.{Command}
 use Rattle.ext_cmd.specs.declared.command.Command.TheVariants.{Init, ImportFs, Remove, Sysext, Confext}
 use Rattle.ext_cmd.specs.declared.command.Command.TheVariants.{Tree, Cat, Compare, Check, Layer, Migrate, Batch, Sample}
-use Rattle.ext_cmd.specs.declared.command.Command.TheVariants.{Sysupdate, Components, Mark, History, HistoryChanges, Rollback, Forget}
+use Rattle.ext_cmd.specs.declared.command.Command.TheVariants.{Sysupdate, Components, Portable}
+use Rattle.ext_cmd.specs.declared.command.Command.TheVariants.{Mark, History, HistoryChanges, Rollback, Forget}
 use Rattle.ext_cmd.specs.declared.command.UpdateVerb.{UpdateVerb}
 use Rattle.ext_cmd.specs.declared.command.UpdateVerb.TheVariants as updates
 use Rattle.ext_cmd.specs.declared.command.ViewCommand.{ViewCommand}
@@ -61,16 +67,6 @@ slashed name = 47 ∷ name
 -- a list of hierarchies: each name after a `/`, a `:` between each two
 abbrev pub hierarchies_word : List (List ℕ) → List ℕ
 hierarchies_word names = join_with_byte 58 (map slashed names)
-
--- a path other than the root
-pub record IsBelowRoot (path : List (List ℕ)) : Type 0 where
-  pub within : IsPath path
-  pub below_root : path ≢ []
-
--- a name that isn't taken for an option
-pub record IsPlainName (name : List ℕ) : Type 0 where
-  pub name_is : IsName name
-  pub no_dash : (rest : List ℕ) → name ≢ 45 ∷ rest
 
 -- the name of a component that isn't taken for an option
 pub record IsPlainComponent (name : List ℕ) : Type 0 where
@@ -186,6 +182,7 @@ command_words Batch = codes "batch" ∷ []
 command_words (Sample images) = codes "sample" ∷ decimal images ∷ []
 command_words (Sysupdate component verb) = codes "sysupdate" ∷ component_words component ++ update_words verb
 command_words Components = codes "sysupdate" ∷ codes "components" ∷ []
+command_words (Portable port) = codes "portable" ∷ port_words port
 command_words (Mark keep) = codes "mark" ∷ keep_words keep
 command_words History = codes "history" ∷ []
 command_words (HistoryChanges mark) = codes "history" ∷ codes "--changes" ∷ mark_words mark
@@ -208,12 +205,12 @@ IsOptionalVersion None = Unit {0}
 IsOptionalVersion (Some version) = IsVersion version
 
 -- what may be asked of updates: a version that is named is one
-abbrev pub IsAsked : UpdateVerb → Type 0
-IsAsked updates.List = Unit {0}
-IsAsked updates.CheckNew = Unit {0}
-IsAsked (updates.Update version) = IsOptionalVersion version
-IsAsked updates.Vacuum = Unit {0}
-IsAsked updates.Features = Unit {0}
+abbrev pub IsUpdateAsk : UpdateVerb → Type 0
+IsUpdateAsk updates.List = Unit {0}
+IsUpdateAsk updates.CheckNew = Unit {0}
+IsUpdateAsk (updates.Update version) = IsOptionalVersion version
+IsUpdateAsk updates.Vacuum = Unit {0}
+IsUpdateAsk updates.Features = Unit {0}
 
 -- a number of at least 1, and so many at the most
 abbrev pub IsCountTo : ℕ → ℕ → Type 0
@@ -256,7 +253,7 @@ IsViewCommand (views.Explain force path) = IsBelowRoot path
 
 -- the arguments are what the grammar allows
 abbrev pub IsWellFormed : Command → Type 0
-IsWellFormed (Init arch scope hierarchies) = (scope ≢ Portable) × AreChosen hierarchies
+IsWellFormed (Init arch scope hierarchies) = (scope ≢ scopes.Portable) × AreChosen hierarchies
 IsWellFormed (ImportFs resource path) = IsResource resource × IsPath path
 IsWellFormed (Remove path) = IsBelowRoot path
 IsWellFormed (Sysext view) = IsViewCommand view
@@ -269,8 +266,9 @@ IsWellFormed Layer = Unit {0}
 IsWellFormed Migrate = Unit {0}
 IsWellFormed Batch = Unit {0}
 IsWellFormed (Sample images) = IsImages images
-IsWellFormed (Sysupdate component verb) = IsOptionalComponent component × IsAsked verb
+IsWellFormed (Sysupdate component verb) = IsOptionalComponent component × IsUpdateAsk verb
 IsWellFormed Components = Unit {0}
+IsWellFormed (Portable port) = IsPortCommand port
 IsWellFormed (Mark keep) = IsOptionalKeep keep
 IsWellFormed History = Unit {0}
 IsWellFormed (HistoryChanges mark) = IsMarkNumber mark

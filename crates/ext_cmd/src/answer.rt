@@ -1,10 +1,12 @@
 // Answers.
+use ext_attached::State;
 use ext_changes::Changes;
 use ext_find::BreakWhy;
 use ext_history::Marks;
 use ext_match::Verdict;
 use ext_origin::Origins;
 use ext_text::{Digest, ListOf, Name, Names, Path, SortedPaths, Text};
+use ext_units::Inspect;
 use ext_vers::Version;
 use std::cmp::Ordering;
 
@@ -68,6 +70,17 @@ pub enum Answer {
     Changes(Changes),
     /// A line for each layer: to `explain`, the topmost first.
     Explained(Origins),
+    /// A line for each found item: to `portable list`.
+    Services(ServiceItems),
+    /// `image PLACE`, `id ID`, `version VERSION`, each on a line of its own, and a line `unit NAME` for each unit: to
+    /// `portable inspect`. What is unset is told as `-`.
+    Inspected(Inspect),
+    /// `detached`, `attached` or `attached-runtime`: to `portable is-attached`.
+    State(State),
+    /// `attached K`, and a line for each of the K units, by their bytes: to `portable attach` and `portable reattach`.
+    Attached(Names),
+    /// `detached`: to `portable detach`.
+    Detached,
 }
 
 /// An image or a mask that `list` finds.
@@ -142,3 +155,28 @@ pub struct FeatureItem {
 
 /// A list of features.
 pub type FeatureItems = ListOf<FeatureItem>;
+
+/// An image of a portable service, or a mask, that `portable list` finds.
+#[derive(Debug, Drop)]
+pub struct ServiceItem {
+    /// Its name.
+    pub name: Name,
+    /// Where it is in the host.
+    pub place: Path,
+    /// What it is.
+    pub kind: ServiceKind,
+}
+
+/// What a found item of portable services is.
+#[derive(Clone, Copy, Debug, PartialEq, Eq)]
+pub enum ServiceKind {
+    /// `image`: a directory image, and whether it is attached.
+    Image(State),
+    /// `masked`: there is no image of this name.
+    Masked,
+    /// `raw`: an image in a file, which is not looked into.
+    Raw,
+}
+
+/// A list of found items of portable services.
+pub type ServiceItems = ListOf<ServiceItem>;

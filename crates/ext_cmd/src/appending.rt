@@ -1,11 +1,12 @@
 // Parts of lines, each added at the end of a text. Where memory runs out, some of them have been added.
 ghost use Rattle.std.specs.Prelude.{◌≡◌, ◌++◌, decimal, OnOk};
 ghost use Rattle.hex.specs.Hex.{encode_lower};
+ghost use Rattle.ext_text.specs.Absolute.{absolute};
 ghost use Rattle.ext_cmd.specs.Replies.{lined};
 ghost use Rattle.ext_cmd.specs.Refusals.{stamp_words};
 
 use ext_lines::append_decimal;
-use ext_text::{Digest, OutOfMemory};
+use ext_text::{Digest, OutOfMemory, Path};
 use ext_tree::Stamp;
 
 // Words.
@@ -39,6 +40,14 @@ pub(crate) fn append_numbered_line(
     append_numbered(text, words, number)?;
     text.push(b'\n')?;
     Ok(())
+}
+
+// A word and a path of the host.
+pub(crate) fn append_placed(text: &mut Vec<u8>, word: &str, path: &Path) -> Result<(), OutOfMemory>
+    ensures { OnOk result (text.new.items ≡ text.old.items ++ (word.now ++ absolute path.now)) }
+{
+    append_words(text, word)?;
+    path.append_absolute(text)
 }
 
 // Words and a digest, as a line.

@@ -1,36 +1,29 @@
 // The words of arguments. Each reader is told the place of the word, or of the first of the words, that it reads.
-ghost use Rattle.std.specs.Prelude.{◌≡◌, ◌∷◌, ◌++◌, [], ◌+◌, ◌<◌, ◌^◌, codes, MatchOption, IfOk};
+ghost use Rattle.std.specs.Prelude.{◌≡◌, ◌++◌, ◌+◌, ◌<◌, ◌^◌, codes, IfOk};
 ghost use Rattle.ext_text.specs.Absolute.{absolute};
 ghost use Rattle.ext_text.specs.Arch.{arch_name};
+ghost use Rattle.ext_text.specs.Name.{IsName};
 ghost use Rattle.ext_text.specs.Path.{IsPath, path_text};
 ghost use Rattle.ext_text.specs.Scope.{scope_name};
-ghost use Rattle.ext_cmd.specs.Grammar.{Any, HasNoMore, IsBelowRootWord, IsHostScope, IsPathWord, Then};
+ghost use Rattle.ext_cmd.specs.Grammar.{Any, HasNoMore, IsBelowRootWord, IsHostScope, IsPathWord, Then, itself};
+ghost use Rattle.ext_cmd.specs.Plain.{IsBelowRoot, IsPlainName};
 ghost use Rattle.ext_cmd.specs.Reading.{ReadsPart, ReadsWord, no_words, usage_of};
 ghost use Rattle.ext_cmd.specs.Resource.{IsResource};
-ghost use Rattle.ext_cmd.specs.Words.{IsBelowRoot, path_words};
+ghost use Rattle.ext_cmd.specs.Words.{path_words};
 
 use crate::resource::Resource;
 use crate::words::CmdErr;
-use ext_text::{Arch, OutOfMemory, Path, PathErr, Scope, Text};
+use crate::words_left::WordsLeft;
+use ext_text::{Arch, Name, NameErr, OutOfMemory, Path, PathErr, Scope};
 use std::alloc::Global;
 
-// The first word, and the words after it.
-pub(crate) fn next(words: &[Text]) -> Option<(&[u8], &[Text])>
-    ensures { MatchOption result (words.now ≡ []) (λ found. words.now ≡ found.0.now ∷ found.1.now) }
-{
-    match words {
-        [] => None,
-        [word, more @ ..] => Some((word.bytes(), more)),
-    }
-}
-
 // No word is left.
-pub(crate) fn no_more(words: &[Text], place: u64) -> Result<(), CmdErr>
+pub(crate) fn no_more(words: &WordsLeft<'_>, place: u64) -> Result<(), CmdErr>
     ensures { ReadsPart no_words Any HasNoMore words.now place result }
 {
-    match words {
-        [] => Ok(()),
-        [_, ..] => Err(CmdErr::Usage { place }),
+    match words.next() {
+        None => Ok(()),
+        Some(_) => Err(CmdErr::Usage { place }),
     }
 }
 
@@ -52,6 +45,27 @@ pub(crate) fn read_scope(word: &[u8], place: u64) -> Result<Scope, CmdErr>
         Some(Scope::System) => Ok(Scope::System),
         Some(Scope::Initrd) => Ok(Scope::Initrd),
         Some(Scope::Portable) | None => Err(CmdErr::Usage { place }),
+    }
+}
+
+// A name that isn't taken for an option.
+pub(crate) fn read_plain_name(alloc: Global, text: &[u8], place: u64) -> Result<Name, CmdErr>
+    ensures { ReadsWord itself IsPlainName text.now place result }
+{
+    match text {
+        [b'-', ..] => Err(CmdErr::Usage { place }),
+        _ => read_any_name(alloc, text, place),
+    }
+}
+
+// A name that may be taken for an option.
+pub(crate) fn read_any_name(alloc: Global, text: &[u8], place: u64) -> Result<Name, CmdErr>
+    ensures { ReadsWord itself IsName text.now place result }
+{
+    match Name::read(alloc, text) {
+        Ok(name) => Ok(name),
+        Err(NameErr::OutOfMemory) => Err(CmdErr::OutOfMemory),
+        Err(NameErr::BadName) => Err(CmdErr::Usage { place }),
     }
 }
 
@@ -121,15 +135,19 @@ fn name_of_tree(alloc: Global, word: &[u8]) -> Result<Vec<u8>, OutOfMemory>
 }
 
 // A path of the host.
-pub(crate) fn read_last_path(alloc: Global, words: &[Text], first: u64) -> Result<Path, CmdErr>
+pub(crate) fn read_last_path(
+    alloc: Global,
+    words: &WordsLeft<'_>,
+    first: u64,
+) -> Result<Path, CmdErr>
     requires { first < 2 ^ 32 }
     ensures { ReadsPart path_words IsPath (Then IsPathWord HasNoMore) words.now first result }
 {
-    match next(words) {
+    match words.next() {
         None => Err(CmdErr::Usage { place: first }),
         Some((word, more)) => {
             let path = read_path(alloc, word, first)?;
-            no_more(more, first + 1)?;
+            no_more(&more, first + 1)?;
             Ok(path)
         }
     }
@@ -138,17 +156,17 @@ pub(crate) fn read_last_path(alloc: Global, words: &[Text], first: u64) -> Resul
 // A path of the host other than the root.
 pub(crate) fn read_last_below_root(
     alloc: Global,
-    words: &[Text],
+    words: &WordsLeft<'_>,
     first: u64,
 ) -> Result<Path, CmdErr>
     requires { first < 2 ^ 32 }
     ensures { ReadsPart path_words IsBelowRoot (Then IsBelowRootWord HasNoMore) words.now first result }
 {
-    match next(words) {
+    match words.next() {
         None => Err(CmdErr::Usage { place: first }),
         Some((word, more)) => {
             let path = read_below_root(alloc, word, first)?;
-            no_more(more, first + 1)?;
+            no_more(&more, first + 1)?;
             Ok(path)
         }
     }

@@ -2,6 +2,7 @@
 ghost use Rattle.std.specs.Prelude.{◌≡◌};
 ghost use Rattle.ext_cmd.specs.Marks.{kept_marks};
 
+use crate::portable::PortCommand;
 use crate::resource::Resource;
 use ext_text::{Arch, Names, Path, Scope, Text};
 use ext_transfer::Component;
@@ -71,6 +72,8 @@ pub enum Command {
     },
     /// `sysupdate components`: the components that the host has.
     Components,
+    /// `portable ..`: what is done with portable services.
+    Portable(PortCommand),
     /// `mark [K]`: what the host has now is marked under the number of its generation, and the K youngest marks stay.
     Mark {
         /// How many marks stay at the most: 1 to [`MOST_MARKS`]. None where it was left out, which means [`MOST_MARKS`].

@@ -1,45 +1,46 @@
 // The lists of hierarchies of `init`. The first has the place 4.
 ghost use Rattle.std.specs.Prelude.{◌≡◌, []};
 ghost use Rattle.ext_lines.specs.Split.{Lacks};
-ghost use Rattle.ext_text.specs.Name.{IsName};
-ghost use Rattle.ext_cmd.specs.Grammar.{TakesChosen, itself};
+ghost use Rattle.ext_cmd.specs.Grammar.{TakesChosen};
+ghost use Rattle.ext_cmd.specs.Plain.{IsPlainName};
 ghost use Rattle.ext_cmd.specs.Reading.{MayFollow, PushesName, ReadsOthers, ReadsPart, ReadsWord, are_apart, may_follow};
-ghost use Rattle.ext_cmd.specs.Words.{AreChosen, IsHierarchyList, IsPlainName, chosen_words, hierarchies_word, slashed};
+ghost use Rattle.ext_cmd.specs.Words.{AreChosen, IsHierarchyList, chosen_words, hierarchies_word, slashed};
 
-use crate::arguments::{next, no_more};
+use crate::arguments::{no_more, read_any_name};
 use crate::command::Chosen;
 use crate::words::CmdErr;
+use crate::words_left::WordsLeft;
 use ext_host::{MOST_HIERARCHIES, default_hierarchies};
 use ext_lines::split_at_byte;
-use ext_text::{Extension, Name, NameErr, Names, Text};
+use ext_text::{Extension, Name, Names};
 use std::alloc::Global;
 
 // The lists that are given, none, one or two.
-pub(crate) fn read_chosen(alloc: Global, words: &[Text]) -> Result<Chosen, CmdErr>
+pub(crate) fn read_chosen(alloc: Global, words: &WordsLeft<'_>) -> Result<Chosen, CmdErr>
     ensures { ReadsPart chosen_words AreChosen TakesChosen words.now 4 result }
 {
-    match next(words) {
+    match words.next() {
         None => Ok(Chosen::Default),
         Some((word, more)) => {
             let sysext = read_list(alloc, word, 4)?;
-            read_others(alloc, sysext, more)
+            read_others(alloc, sysext, &more)
         }
     }
 }
 
 // The list of configuration extensions, after that of system extensions.
-fn read_others(alloc: Global, sysext: Names, more: &[Text]) -> Result<Chosen, CmdErr>
+fn read_others(alloc: Global, sysext: Names, more: &WordsLeft<'_>) -> Result<Chosen, CmdErr>
     requires { IsHierarchyList sysext }
     ensures { ReadsOthers sysext more.now result }
 {
-    match next(more) {
+    match more.next() {
         None => sysext_alone(alloc, sysext),
         Some((word, more)) => {
             let confext = read_list(alloc, word, 5)?;
             if !are_apart(sysext.as_slice(), confext.as_slice()) {
                 return Err(CmdErr::Usage { place: 5 });
             }
-            no_more(more, 6)?;
+            no_more(&more, 6)?;
             Ok(Chosen::Both { sysext, confext })
         }
     }
@@ -115,17 +116,6 @@ fn read_name(alloc: Global, part: &[u8], place: u64) -> Result<Name, CmdErr>
         [b'/', b'-', ..] => Err(CmdErr::Usage { place }),
         [b'/', text @ ..] => read_any_name(alloc, text, place),
         _ => Err(CmdErr::Usage { place }),
-    }
-}
-
-// A name that may be taken for an option.
-fn read_any_name(alloc: Global, text: &[u8], place: u64) -> Result<Name, CmdErr>
-    ensures { ReadsWord itself IsName text.now place result }
-{
-    match Name::read(alloc, text) {
-        Ok(name) => Ok(name),
-        Err(NameErr::OutOfMemory) => Err(CmdErr::OutOfMemory),
-        Err(NameErr::BadName) => Err(CmdErr::Usage { place }),
     }
 }
 

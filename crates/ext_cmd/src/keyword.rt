@@ -1,5 +1,7 @@
 // The words that say which command is meant.
-ghost use Rattle.ext_cmd.specs.Keyword.{ReadsKeyword, ReadsUpdateWord, ReadsVerb};
+ghost use Rattle.std.specs.Prelude.{◌≡◌, ◌↔◌, IsTrue};
+ghost use Rattle.ext_cmd.specs.Keyword.{ReadsKeyword, ReadsPortWord, ReadsUpdateWord, ReadsVerb, port_word_text};
+ghost use Rattle.ext_cmd.specs.declared.keyword.PortWord.TheVariants as ports;
 
 /// The first word of a command.
 #[derive(Clone, Copy)]
@@ -32,6 +34,8 @@ pub(crate) enum Keyword {
     Sample,
     /// `sysupdate`.
     Sysupdate,
+    /// `portable`.
+    Portable,
     /// `mark`.
     Mark,
     /// `history`.
@@ -62,6 +66,7 @@ impl Keyword {
             b"batch" => Some(Keyword::Batch),
             b"sample" => Some(Keyword::Sample),
             b"sysupdate" => Some(Keyword::Sysupdate),
+            b"portable" => Some(Keyword::Portable),
             b"mark" => Some(Keyword::Mark),
             b"history" => Some(Keyword::History),
             b"rollback" => Some(Keyword::Rollback),
@@ -137,4 +142,47 @@ impl UpdateWord {
             _ => None,
         }
     }
+}
+
+/// The word after `portable`.
+#[derive(Clone, Copy)]
+pub(crate) enum PortWord {
+    /// `list`.
+    List,
+    /// `inspect`.
+    Inspect,
+    /// `is-attached`.
+    IsAttached,
+    /// `attach`.
+    Attach,
+    /// `detach`.
+    Detach,
+    /// `reattach`.
+    Reattach,
+}
+
+impl PortWord {
+    /// What is done by this text; `None` exactly where nothing is.
+    pub(crate) fn read(text: &[u8]) -> Option<PortWord>
+        ensures { ReadsPortWord text.now result }
+    {
+        if asks_state(text) {
+            return Some(PortWord::IsAttached);
+        }
+        match text {
+            b"list" => Some(PortWord::List),
+            b"inspect" => Some(PortWord::Inspect),
+            b"attach" => Some(PortWord::Attach),
+            b"detach" => Some(PortWord::Detach),
+            b"reattach" => Some(PortWord::Reattach),
+            _ => None,
+        }
+    }
+}
+
+// Whether it is the word that asks whether an image is attached.
+fn asks_state(text: &[u8]) -> bool
+    ensures { IsTrue result ↔ (text.now ≡ port_word_text ports.IsAttached) }
+{
+    text == b"is-attached".as_slice()
 }

@@ -9,28 +9,40 @@
 mod answer;
 mod appending;
 mod arguments;
+mod asked;
+mod attach_options;
+mod attaching;
 mod command;
+mod extension_refusals;
 mod hierarchies;
+mod images;
 mod keyword;
 pub mod laws;
 mod line;
 mod mark_replies;
 mod marks;
 mod numbers;
+mod portable;
 mod readers;
 mod refusal;
 mod replies;
 mod resource;
+mod service_replies;
+mod services;
 mod update_replies;
 mod updates;
 mod views;
 mod words;
+mod words_left;
 
 pub use answer::{
-    Answer, FeatureItem, FeatureItems, Item, ItemKind, Items, Presence, VersionItem, VersionItems,
+    Answer, FeatureItem, FeatureItems, Item, ItemKind, Items, Presence, ServiceItem, ServiceItems,
+    ServiceKind, VersionItem, VersionItems,
 };
+pub use asked::{ask_of, extensions_of};
 pub use command::{Chosen, Command, MOST_MARKS, UpdateVerb, ViewCommand, kept_marks};
 pub use line::read_line;
+pub use portable::{AttachOption, AttachOptions, AttachRest, AttachWord, AttachWords, PortCommand};
 pub use refusal::{Refusal, number, refusal_text};
 pub use replies::answer_text;
 pub use resource::Resource;

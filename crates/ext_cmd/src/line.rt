@@ -1,18 +1,14 @@
 // The lines of a batch.
-ghost use Rattle.std.specs.Prelude.{◌≡◌, ◌∷◌, ℕ, List, take, IfOk};
+ghost use Rattle.std.specs.Prelude.{◌≡◌, ◌∷◌, ℕ, List};
 ghost use Rattle.ext_lines.specs.Words.{words_of};
-ghost use Rattle.ext_cmd.specs.Line.{ReadsBatchLine, ReadsLineCommand, ReadsLineWords, counts_for_nothing, may_begin_line, most_words};
+ghost use Rattle.ext_cmd.specs.Line.{ReadsBatchLine, ReadsLineCommand, ReadsLineWords, counts_for_nothing, may_begin_line};
 
 use crate::command::Command;
 use crate::keyword::Keyword;
 use crate::words::{CmdErr, read_after};
+use crate::words_left::WordsLeft;
 use ext_lines::next_word;
-use ext_text::{OutOfMemory, Text, Words};
 use std::alloc::Global;
-
-// The most words that any command has: those of `init` with two lists of hierarchies. So many after the keyword are one too
-// many, and show where the first fault is. A line may have millions of words, and those after them are never copied.
-const MOST_WORDS: usize = 5;
 
 /// The command of a line of a batch, whose words stand between runs of spaces and tabs; `None` exactly where the line has no
 /// word, or its first word begins with `#`.
@@ -59,8 +55,7 @@ fn read_command(alloc: Global, word: &[u8], more: &[u8]) -> Result<Command, CmdE
             if !may_begin_line(keyword) {
                 return Err(CmdErr::Usage { place: 1 });
             }
-            let words = first_words(alloc, more)?;
-            read_after(alloc, keyword, words.as_slice())
+            read_after(alloc, keyword, &WordsLeft::of_text(more))
         }
     }
 }
@@ -70,22 +65,4 @@ fn may_begin_line(keyword: Keyword) -> bool
     ensures { result ≡ may_begin_line keyword }
 {
     !matches!(keyword, Keyword::Layer | Keyword::Batch | Keyword::Sample)
-}
-
-// The words of a text, or the first of them where there are more than any command has.
-fn first_words(alloc: Global, text: &[u8]) -> Result<Words, OutOfMemory>
-    ensures { IfOk result (λ words. words ≡ take most_words (words_of text.now)) }
-{
-    let mut words = Words::new(alloc);
-    let mut rest = text;
-    'words: for _index in 0..MOST_WORDS {
-        match next_word(rest) {
-            None => return Ok(words),
-            Some((word, more)) => {
-                words.push(Text::from_bytes(alloc, word)?)?;
-                rest = more;
-            }
-        }
-    }
-    Ok(words)
 }

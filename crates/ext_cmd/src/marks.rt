@@ -5,37 +5,37 @@ ghost use Rattle.ext_cmd.specs.Reading.{ReadsAfter, ReadsPart};
 ghost use Rattle.ext_cmd.specs.Words.{IsMarkNumber, mark_words};
 ghost use Rattle.ext_cmd.specs.declared.keyword.Keyword.TheVariants as keywords;
 
-use crate::arguments::{next, no_more};
+use crate::arguments::no_more;
 use crate::command::Command;
 use crate::numbers::{read_keep, read_mark_number};
 use crate::words::CmdErr;
-use ext_text::Text;
+use crate::words_left::WordsLeft;
 
 // `mark [K]`.
-pub(crate) fn read_mark(more: &[Text]) -> Result<Command, CmdErr>
+pub(crate) fn read_mark(more: &WordsLeft<'_>) -> Result<Command, CmdErr>
     ensures { ReadsAfter keywords.Mark more.now result }
 {
-    match next(more) {
+    match more.next() {
         None => Ok(Command::Mark { keep: None }),
         Some((word, more)) => {
             let keep = read_keep(word, 2)?;
-            no_more(more, 3)?;
+            no_more(&more, 3)?;
             Ok(Command::Mark { keep: Some(keep) })
         }
     }
 }
 
 // `history [--changes N]`.
-pub(crate) fn read_history(more: &[Text]) -> Result<Command, CmdErr>
+pub(crate) fn read_history(more: &WordsLeft<'_>) -> Result<Command, CmdErr>
     ensures { ReadsAfter keywords.History more.now result }
 {
-    match next(more) {
+    match more.next() {
         None => Ok(Command::History),
         Some((word, more)) => {
             if !is_since(word) {
                 return Err(CmdErr::Usage { place: 2 });
             }
-            let mark = read_last_mark(more, 3)?;
+            let mark = read_last_mark(&more, 3)?;
             Ok(Command::HistoryChanges { mark })
         }
     }
@@ -49,7 +49,7 @@ fn is_since(word: &[u8]) -> bool
 }
 
 // `rollback N`.
-pub(crate) fn read_rollback(more: &[Text]) -> Result<Command, CmdErr>
+pub(crate) fn read_rollback(more: &WordsLeft<'_>) -> Result<Command, CmdErr>
     ensures { ReadsAfter keywords.Rollback more.now result }
 {
     let mark = read_last_mark(more, 2)?;
@@ -57,7 +57,7 @@ pub(crate) fn read_rollback(more: &[Text]) -> Result<Command, CmdErr>
 }
 
 // `forget N`.
-pub(crate) fn read_forget(more: &[Text]) -> Result<Command, CmdErr>
+pub(crate) fn read_forget(more: &WordsLeft<'_>) -> Result<Command, CmdErr>
     ensures { ReadsAfter keywords.Forget more.now result }
 {
     let mark = read_last_mark(more, 2)?;
@@ -65,15 +65,15 @@ pub(crate) fn read_forget(more: &[Text]) -> Result<Command, CmdErr>
 }
 
 // The number of a mark's generation, which stands last.
-fn read_last_mark(words: &[Text], first: u64) -> Result<u32, CmdErr>
+fn read_last_mark(words: &WordsLeft<'_>, first: u64) -> Result<u32, CmdErr>
     requires { first < 2 ^ 32 }
     ensures { ReadsPart mark_words IsMarkNumber (Then IsMarkWord HasNoMore) words.now first result }
 {
-    match next(words) {
+    match words.next() {
         None => Err(CmdErr::Usage { place: first }),
         Some((word, more)) => {
             let mark = read_mark_number(word, first)?;
-            no_more(more, first + 1)?;
+            no_more(&more, first + 1)?;
             Ok(mark)
         }
     }

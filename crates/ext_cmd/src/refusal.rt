@@ -1,18 +1,20 @@
 ghost use Rattle.std.specs.Prelude.{◌≡◌, ◌++◌, codes, decimal, IfOk, OnOk};
-ghost use Rattle.ext_text.specs.Absolute.{absolute};
 ghost use Rattle.ext_text.specs.Path.{path_text};
 ghost use Rattle.ext_cmd.specs.Refusals.{place_word, refusal_details, refusal_line, refusal_number, stamp_words, which_word};
 ghost use Rattle.ext_cmd.specs.Refusals.{feature_fault_word, file_fault_words, transfer_fault_word};
 
-use crate::appending::{append_numbered, append_stamp, append_words};
+use crate::appending::{append_numbered, append_placed, append_stamp, append_words};
+use crate::extension_refusals::{append_no_extension, append_unfit};
 use ext_lines::append_decimal;
+use ext_portext::ExtWhy;
 use ext_text::{Name, OutOfMemory, Path, Text, Which};
 use ext_transfer::{FeatureFault, TransferFault};
 use ext_tree::Stamp;
+use ext_units::Image;
 use std::alloc::Global;
 
 /// Why a command was refused.
-#[derive(Debug, Drop, PartialEq, Eq)]
+#[derive(Debug, Drop)]
 pub enum Refusal {
     /// There is no store (number 1).
     NoStore,
@@ -52,6 +54,33 @@ pub enum Refusal {
         /// The path.
         path: Path,
     },
+    /// There is no such image of a portable service; a mask, and an image in a file, is none (number 11).
+    NoSuchImage,
+    /// The image has no release file (number 12).
+    NotPortable,
+    /// The image's release file is faulty (number 13).
+    BadRelease {
+        /// Its first faulty line, counted from 1.
+        line: u64,
+    },
+    /// The image does not allow units with this prefix (number 14).
+    PrefixForbidden {
+        /// The first prefix that it does not allow, which may be empty.
+        prefix: Text,
+    },
+    /// The image has no unit with one of the prefixes (number 15).
+    NoUnits,
+    /// There is no profile of the name (number 16).
+    NoProfile,
+    /// Something stands at a path at which a unit or its directory of drop-ins would be put (number 17).
+    UnitExists {
+        /// The least such path.
+        path: Path,
+    },
+    /// An image of this name is attached already (number 18).
+    AlreadyAttached,
+    /// No image of this name is attached (number 19).
+    NotAttached,
     /// No transfer file counts (number 20).
     NoTransfers,
     /// A transfer file is faulty (number 21).
@@ -110,6 +139,18 @@ pub enum Refusal {
         /// The least path of such a thing.
         path: Path,
     },
+    /// There is no such extension of a portable service; a mask, and an image in a file, is none (number 30).
+    NoExtension {
+        /// The extension, as it was given.
+        extension: Image,
+    },
+    /// An extension does not fit the image (number 31).
+    Extension {
+        /// The extension, as it was given.
+        extension: Image,
+        /// Why it does not.
+        why: ExtWhy,
+    },
     /// A feature file is faulty (number 32).
     BadFeature {
         /// The line of its first fault, counted from 1.
@@ -143,6 +184,15 @@ pub fn number(refusal: &Refusal) -> u32
         Refusal::NoEntry { .. } => 8,
         Refusal::NotDirectory { .. } => 9,
         Refusal::NotFile { .. } => 10,
+        Refusal::NoSuchImage => 11,
+        Refusal::NotPortable => 12,
+        Refusal::BadRelease { .. } => 13,
+        Refusal::PrefixForbidden { .. } => 14,
+        Refusal::NoUnits => 15,
+        Refusal::NoProfile => 16,
+        Refusal::UnitExists { .. } => 17,
+        Refusal::AlreadyAttached => 18,
+        Refusal::NotAttached => 19,
         Refusal::NoTransfers => 20,
         Refusal::BadTransfer { .. } => 21,
         Refusal::BadManifest { .. } => 22,
@@ -153,6 +203,8 @@ pub fn number(refusal: &Refusal) -> u32
         Refusal::NoSuchVersion { .. } => 27,
         Refusal::NoRoom { .. } => 28,
         Refusal::Clash { .. } => 29,
+        Refusal::NoExtension { .. } => 30,
+        Refusal::Extension { .. } => 31,
         Refusal::BadFeature { .. } => 32,
         Refusal::NoneOn => 33,
         Refusal::NoMark { .. } => 37,
@@ -183,13 +235,22 @@ fn append_details(line: &mut Vec<u8>, refusal: &Refusal) -> Result<(), OutOfMemo
         Refusal::NoStore => append_words(line, "no-store"),
         Refusal::StoreExists => append_words(line, "store-exists"),
         Refusal::Merged => append_words(line, "merged"),
-        Refusal::ReadOnly { path } => append_at(line, "read-only ", path),
+        Refusal::ReadOnly { path } => append_placed(line, "read-only ", path),
         Refusal::NoHostRelease => append_words(line, "no-host-release"),
         Refusal::BadHostRelease { line: at } => append_numbered(line, "bad-host-release ", *at),
         Refusal::Limit { which } => append_limit(line, *which),
-        Refusal::NoEntry { path } => append_at(line, "no-entry ", path),
-        Refusal::NotDirectory { path } => append_at(line, "not-directory ", path),
-        Refusal::NotFile { path } => append_at(line, "not-file ", path),
+        Refusal::NoEntry { path } => append_placed(line, "no-entry ", path),
+        Refusal::NotDirectory { path } => append_placed(line, "not-directory ", path),
+        Refusal::NotFile { path } => append_placed(line, "not-file ", path),
+        Refusal::NoSuchImage => append_words(line, "no-image"),
+        Refusal::NotPortable => append_words(line, "not-portable"),
+        Refusal::BadRelease { line: at } => append_numbered(line, "bad-release ", *at),
+        Refusal::PrefixForbidden { prefix } => append_text(line, "prefix ", prefix.bytes()),
+        Refusal::NoUnits => append_words(line, "no-units"),
+        Refusal::NoProfile => append_words(line, "no-profile"),
+        Refusal::UnitExists { path } => append_placed(line, "exists ", path),
+        Refusal::AlreadyAttached => append_words(line, "already-attached"),
+        Refusal::NotAttached => append_words(line, "not-attached"),
         Refusal::NoTransfers => append_words(line, "no-transfers"),
         Refusal::BadTransfer {
             line: at,
@@ -211,7 +272,9 @@ fn append_details(line: &mut Vec<u8>, refusal: &Refusal) -> Result<(), OutOfMemo
             version.bytes(),
         ),
         Refusal::NoRoom { count, file } => append_no_room(line, *count, file),
-        Refusal::Clash { path } => append_at(line, "clash ", path),
+        Refusal::Clash { path } => append_placed(line, "clash ", path),
+        Refusal::NoExtension { extension } => append_no_extension(line, extension),
+        Refusal::Extension { extension, why } => append_unfit(line, extension, *why),
         Refusal::BadFeature {
             line: at,
             why,
@@ -220,14 +283,6 @@ fn append_details(line: &mut Vec<u8>, refusal: &Refusal) -> Result<(), OutOfMemo
         Refusal::NoneOn => append_words(line, "none-on"),
         Refusal::NoMark { generation } => append_numbered(line, "no-mark ", u64::from(*generation)),
     }
-}
-
-// A word and a path of the host.
-fn append_at(line: &mut Vec<u8>, word: &str, path: &Path) -> Result<(), OutOfMemory>
-    ensures { OnOk result (line.new.items ≡ line.old.items ++ (word.now ++ absolute path.now)) }
-{
-    append_words(line, word)?;
-    path.append_absolute(line)
 }
 
 // Which limit would be passed.

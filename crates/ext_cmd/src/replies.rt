@@ -1,16 +1,16 @@
 // The texts of answers.
 ghost use Rattle.std.specs.Prelude.{◌≡◌, ◌++◌, IfOk, OnOk};
 ghost use Rattle.std.specs.List.{flat_map};
-ghost use Rattle.ext_text.specs.Absolute.{absolute};
 ghost use Rattle.ext_cmd.specs.Replies.{answer_text, item_line, kind_words, lined, names_text, order_word, verdict_word, why_word};
 ghost use Rattle.ext_cmd.specs.declared.answer.Answer.TheVariants.{Checked, Sample};
 ghost use Rattle.ext_cmd.specs.declared.answer.ItemKind.TheVariants.{BadRelease, Broken, Image};
 
 use crate::answer::{Answer, Item, ItemKind};
 use crate::appending::{
-    append_digest, append_line, append_numbered, append_numbered_line, append_words,
+    append_digest, append_line, append_numbered, append_numbered_line, append_placed, append_words,
 };
 use crate::mark_replies::{marked_text, marks_text};
+use crate::service_replies::{inspect_text, services_text, state_word};
 use crate::update_replies::{
     features_text, removed_text, updated_text, version_text, versions_text,
 };
@@ -56,6 +56,11 @@ pub fn answer_text(alloc: Global, answer: Answer) -> Result<Text, OutOfMemory>
         Answer::History(marks) => marks_text(alloc, marks.as_slice()),
         Answer::Changes(changes) => owned_text(alloc, changes.as_slice()),
         Answer::Explained(origins) => origins_text(alloc, origins.as_slice()),
+        Answer::Services(items) => services_text(alloc, items.as_slice()),
+        Answer::Inspected(inspect) => inspect_text(alloc, &inspect),
+        Answer::State(state) => line_of(alloc, state_word(state)),
+        Answer::Attached(names) => names_text(alloc, "attached ", names.as_slice()),
+        Answer::Detached => line_of(alloc, "detached"),
     }
 }
 
@@ -134,14 +139,6 @@ fn append_kind(text: &mut Vec<u8>, place: &Path, kind: ItemKind) -> Result<(), O
     }
 }
 
-// A word and a place.
-fn append_placed(text: &mut Vec<u8>, word: &str, place: &Path) -> Result<(), OutOfMemory>
-    ensures { OnOk result (text.new.items ≡ text.old.items ++ (word.now ++ absolute place.now)) }
-{
-    append_words(text, word)?;
-    place.append_absolute(text)
-}
-
 // An image, and whether it fits.
 fn append_image(text: &mut Vec<u8>, place: &Path, verdict: Verdict) -> Result<(), OutOfMemory>
     ensures { OnOk result (text.new.items ≡ text.old.items ++ kind_words place.now (Image verdict)) }
@@ -170,7 +167,7 @@ fn append_bad_release(text: &mut Vec<u8>, place: &Path, line: u64) -> Result<(),
 }
 
 // The word of a verdict.
-fn verdict_word(verdict: Verdict) -> &'static str
+pub(crate) fn verdict_word(verdict: Verdict) -> &'static str
     ensures { result.now ≡ verdict_word verdict }
 {
     match verdict {
@@ -185,7 +182,7 @@ fn verdict_word(verdict: Verdict) -> &'static str
 }
 
 // The word of why an image can't be used.
-fn why_word(why: BreakWhy) -> &'static str
+pub(crate) fn why_word(why: BreakWhy) -> &'static str
     ensures { result.now ≡ why_word why }
 {
     match why {

@@ -4,28 +4,29 @@ ghost use Rattle.ext_transfer.specs.Component.{IsComponent};
 ghost use Rattle.ext_vers.specs.Version.{IsVersion};
 ghost use Rattle.ext_cmd.specs.Grammar.{HasNoMore, IsVersionWord, Maybe, TakesAsked, itself};
 ghost use Rattle.ext_cmd.specs.Reading.{ReadsAfter, ReadsAfterUpdateWord, ReadsPart, ReadsWord, no_words};
-ghost use Rattle.ext_cmd.specs.Words.{IsAsked, IsOptionalVersion, IsPlainComponent, component_word, update_words, version_words};
+ghost use Rattle.ext_cmd.specs.Words.{IsOptionalVersion, IsPlainComponent, IsUpdateAsk, component_word, update_words, version_words};
 ghost use Rattle.ext_cmd.specs.declared.keyword.Keyword.TheVariants as keywords;
 ghost use Rattle.ext_cmd.specs.declared.keyword.UpdateWord.TheVariants as asks;
 
-use crate::arguments::{next, no_more};
+use crate::arguments::no_more;
 use crate::command::{Command, UpdateVerb};
 use crate::keyword::UpdateWord;
 use crate::words::CmdErr;
+use crate::words_left::WordsLeft;
 use ext_text::{NameErr, Text};
 use ext_transfer::Component;
 use ext_vers::{Version, is_version};
 use std::alloc::Global;
 
 // `sysupdate ..`.
-pub(crate) fn read_sysupdate(alloc: Global, more: &[Text]) -> Result<Command, CmdErr>
+pub(crate) fn read_sysupdate(alloc: Global, more: &WordsLeft<'_>) -> Result<Command, CmdErr>
     ensures { ReadsAfter keywords.Sysupdate more.now result }
 {
-    match next(more) {
+    match more.next() {
         None => Err(CmdErr::Usage { place: 2 }),
         Some((word, more)) => match after_option(word) {
-            None => read_of_none(alloc, word, more),
-            Some(name) => read_of_component(alloc, name, more),
+            None => read_of_none(alloc, word, &more),
+            Some(name) => read_of_component(alloc, name, &more),
         },
     }
 }
@@ -40,7 +41,7 @@ fn after_option(word: &[u8]) -> Option<&[u8]>
 }
 
 // What is asked where no component is chosen.
-fn read_of_none(alloc: Global, word: &[u8], more: &[Text]) -> Result<Command, CmdErr>
+fn read_of_none(alloc: Global, word: &[u8], more: &WordsLeft<'_>) -> Result<Command, CmdErr>
     requires { (name : List ℕ) → word.now ≢ component_word name }
     ensures { ReadsAfter keywords.Sysupdate (word.now ∷ more.now) result }
 {
@@ -63,7 +64,7 @@ fn is_components(word: &[u8]) -> bool
 }
 
 // What is asked of the component of this name.
-fn read_of_component(alloc: Global, name: &[u8], more: &[Text]) -> Result<Command, CmdErr>
+fn read_of_component(alloc: Global, name: &[u8], more: &WordsLeft<'_>) -> Result<Command, CmdErr>
     ensures { ReadsAfter keywords.Sysupdate (component_word name.now ∷ more.now) result }
 {
     let component = read_component(alloc, name, 2)?;
@@ -96,20 +97,25 @@ fn read_any_component(alloc: Global, name: &[u8], place: u64) -> Result<Componen
 }
 
 // What is asked of updates.
-fn read_asked(alloc: Global, words: &[Text], first: u64) -> Result<UpdateVerb, CmdErr>
+fn read_asked(alloc: Global, words: &WordsLeft<'_>, first: u64) -> Result<UpdateVerb, CmdErr>
     requires { first < 2 ^ 32 }
-    ensures { ReadsPart update_words IsAsked TakesAsked words.now first result }
+    ensures { ReadsPart update_words IsUpdateAsk TakesAsked words.now first result }
 {
-    match next(words) {
+    match words.next() {
         None => Err(CmdErr::Usage { place: first }),
-        Some((word, more)) => read_verb(alloc, word, more, first),
+        Some((word, more)) => read_verb(alloc, word, &more, first),
     }
 }
 
 // What is asked by a word and those after it.
-fn read_verb(alloc: Global, word: &[u8], more: &[Text], place: u64) -> Result<UpdateVerb, CmdErr>
+fn read_verb(
+    alloc: Global,
+    word: &[u8],
+    more: &WordsLeft<'_>,
+    place: u64,
+) -> Result<UpdateVerb, CmdErr>
     requires { place < 2 ^ 32 }
-    ensures { ReadsPart update_words IsAsked TakesAsked (word.now ∷ more.now) place result }
+    ensures { ReadsPart update_words IsUpdateAsk TakesAsked (word.now ∷ more.now) place result }
 {
     match UpdateWord::read(word) {
         None => Err(CmdErr::Usage { place }),
@@ -121,7 +127,7 @@ fn read_verb(alloc: Global, word: &[u8], more: &[Text], place: u64) -> Result<Up
 fn read_after(
     alloc: Global,
     asked: UpdateWord,
-    more: &[Text],
+    more: &WordsLeft<'_>,
     first: u64,
 ) -> Result<UpdateVerb, CmdErr>
     requires { first ≤ 2 ^ 32 }
@@ -137,7 +143,7 @@ fn read_after(
 }
 
 // What is asked by a word that no other follows.
-fn alone(verb: UpdateVerb, more: &[Text], first: u64) -> Result<UpdateVerb, CmdErr>
+fn alone(verb: UpdateVerb, more: &WordsLeft<'_>, first: u64) -> Result<UpdateVerb, CmdErr>
     ensures { ReadsPart no_words (λ v. v ≡ verb) HasNoMore more.now first result }
 {
     no_more(more, first)?;
@@ -145,7 +151,7 @@ fn alone(verb: UpdateVerb, more: &[Text], first: u64) -> Result<UpdateVerb, CmdE
 }
 
 // `update [VERSION]`.
-fn read_update(alloc: Global, more: &[Text], first: u64) -> Result<UpdateVerb, CmdErr>
+fn read_update(alloc: Global, more: &WordsLeft<'_>, first: u64) -> Result<UpdateVerb, CmdErr>
     requires { first ≤ 2 ^ 32 }
     ensures { ReadsAfterUpdateWord asks.Update more.now first result }
 {
@@ -154,15 +160,19 @@ fn read_update(alloc: Global, more: &[Text], first: u64) -> Result<UpdateVerb, C
 }
 
 // The version that may stand last.
-fn read_last_version(alloc: Global, words: &[Text], first: u64) -> Result<Option<Version>, CmdErr>
+fn read_last_version(
+    alloc: Global,
+    words: &WordsLeft<'_>,
+    first: u64,
+) -> Result<Option<Version>, CmdErr>
     requires { first ≤ 2 ^ 32 }
     ensures { ReadsPart version_words IsOptionalVersion (Maybe IsVersionWord HasNoMore) words.now first result }
 {
-    match next(words) {
+    match words.next() {
         None => Ok(None),
         Some((word, more)) => {
             let version = read_version(alloc, word, first)?;
-            no_more(more, first + 1)?;
+            no_more(&more, first + 1)?;
             Ok(Some(version))
         }
     }

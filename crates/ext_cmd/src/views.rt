@@ -6,28 +6,28 @@ ghost use Rattle.ext_cmd.specs.Reading.{ReadsAfterVerb, ReadsPart, no_words};
 ghost use Rattle.ext_cmd.specs.Words.{IsViewCommand, force_words, view_words};
 ghost use Rattle.ext_cmd.specs.declared.keyword.Verb.TheVariants as verbs;
 
-use crate::arguments::{next, no_more, read_below_root, read_last_below_root};
+use crate::arguments::{no_more, read_below_root, read_last_below_root};
 use crate::command::ViewCommand;
 use crate::keyword::Verb;
 use crate::words::CmdErr;
-use ext_text::Text;
+use crate::words_left::WordsLeft;
 use std::alloc::Global;
 
 // What is done with the extensions of a class.
-pub(crate) fn read_view(alloc: Global, words: &[Text]) -> Result<ViewCommand, CmdErr>
+pub(crate) fn read_view(alloc: Global, words: &WordsLeft<'_>) -> Result<ViewCommand, CmdErr>
     ensures { ReadsPart view_words IsViewCommand (Chooses verb_text TakesVerb) words.now 2 result }
 {
-    match next(words) {
+    match words.next() {
         None => Err(CmdErr::Usage { place: 2 }),
         Some((word, more)) => match Verb::read(word) {
             None => Err(CmdErr::Usage { place: 2 }),
-            Some(verb) => read_after(alloc, verb, more),
+            Some(verb) => read_after(alloc, verb, &more),
         },
     }
 }
 
 // A verb and the words after it.
-fn read_after(alloc: Global, verb: Verb, more: &[Text]) -> Result<ViewCommand, CmdErr>
+fn read_after(alloc: Global, verb: Verb, more: &WordsLeft<'_>) -> Result<ViewCommand, CmdErr>
     ensures { ReadsAfterVerb verb more.now result }
 {
     match verb {
@@ -42,7 +42,7 @@ fn read_after(alloc: Global, verb: Verb, more: &[Text]) -> Result<ViewCommand, C
 }
 
 // `merge [--force]`.
-fn read_merge(more: &[Text]) -> Result<ViewCommand, CmdErr>
+fn read_merge(more: &WordsLeft<'_>) -> Result<ViewCommand, CmdErr>
     ensures { ReadsAfterVerb verbs.Merge more.now result }
 {
     let force = read_force(more)?;
@@ -50,7 +50,7 @@ fn read_merge(more: &[Text]) -> Result<ViewCommand, CmdErr>
 }
 
 // `refresh [--force]`.
-fn read_refresh(more: &[Text]) -> Result<ViewCommand, CmdErr>
+fn read_refresh(more: &WordsLeft<'_>) -> Result<ViewCommand, CmdErr>
     ensures { ReadsAfterVerb verbs.Refresh more.now result }
 {
     let force = read_force(more)?;
@@ -58,7 +58,7 @@ fn read_refresh(more: &[Text]) -> Result<ViewCommand, CmdErr>
 }
 
 // `changes [--force]`.
-fn read_changes(more: &[Text]) -> Result<ViewCommand, CmdErr>
+fn read_changes(more: &WordsLeft<'_>) -> Result<ViewCommand, CmdErr>
     ensures { ReadsAfterVerb verbs.Changes more.now result }
 {
     let force = read_force(more)?;
@@ -66,23 +66,23 @@ fn read_changes(more: &[Text]) -> Result<ViewCommand, CmdErr>
 }
 
 // `explain [--force] ABS`.
-fn read_explain(alloc: Global, more: &[Text]) -> Result<ViewCommand, CmdErr>
+fn read_explain(alloc: Global, more: &WordsLeft<'_>) -> Result<ViewCommand, CmdErr>
     ensures { ReadsAfterVerb verbs.Explain more.now result }
 {
-    match next(more) {
+    match more.next() {
         None => Err(CmdErr::Usage { place: 3 }),
         Some((word, rest)) => {
             if is_force(word) {
-                read_forced(alloc, rest)
+                read_forced(alloc, &rest)
             } else {
-                read_unforced(alloc, word, rest)
+                read_unforced(alloc, word, &rest)
             }
         }
     }
 }
 
 // `ABS`, after `explain --force`.
-fn read_forced(alloc: Global, rest: &[Text]) -> Result<ViewCommand, CmdErr>
+fn read_forced(alloc: Global, rest: &WordsLeft<'_>) -> Result<ViewCommand, CmdErr>
     ensures { ReadsAfterVerb verbs.Explain (codes "--force" ∷ rest.now) result }
 {
     let path = read_last_below_root(alloc, rest, 4)?;
@@ -90,7 +90,7 @@ fn read_forced(alloc: Global, rest: &[Text]) -> Result<ViewCommand, CmdErr>
 }
 
 // A word that isn't `--force`, and those after it, after `explain`.
-fn read_unforced(alloc: Global, word: &[u8], rest: &[Text]) -> Result<ViewCommand, CmdErr>
+fn read_unforced(alloc: Global, word: &[u8], rest: &WordsLeft<'_>) -> Result<ViewCommand, CmdErr>
     requires { word.now ≢ codes "--force" }
     ensures { ReadsAfterVerb verbs.Explain (word.now ∷ rest.now) result }
 {
@@ -100,7 +100,7 @@ fn read_unforced(alloc: Global, word: &[u8], rest: &[Text]) -> Result<ViewComman
 }
 
 // A command whose verb no word follows.
-fn alone(view: ViewCommand, more: &[Text]) -> Result<ViewCommand, CmdErr>
+fn alone(view: ViewCommand, more: &WordsLeft<'_>) -> Result<ViewCommand, CmdErr>
     ensures { ReadsPart no_words (λ v. v ≡ view) HasNoMore more.now 3 result }
 {
     no_more(more, 3)?;
@@ -108,16 +108,16 @@ fn alone(view: ViewCommand, more: &[Text]) -> Result<ViewCommand, CmdErr>
 }
 
 // Whether `--force` stands there.
-fn read_force(words: &[Text]) -> Result<bool, CmdErr>
+fn read_force(words: &WordsLeft<'_>) -> Result<bool, CmdErr>
     ensures { ReadsPart force_words Any (Maybe IsForce HasNoMore) words.now 3 result }
 {
-    match next(words) {
+    match words.next() {
         None => Ok(false),
         Some((word, more)) => {
             if !is_force(word) {
                 return Err(CmdErr::Usage { place: 3 });
             }
-            no_more(more, 4)?;
+            no_more(&more, 4)?;
             Ok(true)
         }
     }

@@ -2,7 +2,6 @@
 ghost use Rattle.std.specs.Prelude.{◌∷◌};
 ghost use Rattle.ext_cmd.specs.Reading.{ReadsAfter, ReadsWords};
 
-use crate::arguments::next;
 use crate::command::Command;
 use crate::keyword::Keyword;
 use crate::marks::{read_forget, read_history, read_mark, read_rollback};
@@ -10,8 +9,10 @@ use crate::readers::{
     read_batch, read_cat, read_check, read_compare, read_confext, read_import, read_init,
     read_layer, read_migrate, read_remove, read_sample, read_sysext, read_tree,
 };
+use crate::services::read_portable;
 use crate::updates::read_sysupdate;
-use ext_text::{OutOfMemory, Text, Words};
+use crate::words_left::WordsLeft;
+use ext_text::{OutOfMemory, Words};
 use std::alloc::Global;
 use thiserror::Error;
 
@@ -49,14 +50,14 @@ impl From<OutOfMemory> for CmdErr {
 pub fn read_words(alloc: Global, words: &Words) -> Result<Command, CmdErr>
     ensures { ReadsWords words.now result }
 {
-    match next(words.as_slice()) {
+    match WordsLeft::of_words(words.as_slice()).next() {
         None => Err(CmdErr::Usage { place: 1 }),
-        Some((word, more)) => read_from(alloc, word, more),
+        Some((word, more)) => read_from(alloc, word, &more),
     }
 }
 
 // The command of the first word and those after it.
-fn read_from(alloc: Global, word: &[u8], more: &[Text]) -> Result<Command, CmdErr>
+fn read_from(alloc: Global, word: &[u8], more: &WordsLeft<'_>) -> Result<Command, CmdErr>
     ensures { ReadsWords (word.now ∷ more.now) result }
 {
     match Keyword::read(word) {
@@ -66,7 +67,11 @@ fn read_from(alloc: Global, word: &[u8], more: &[Text]) -> Result<Command, CmdEr
 }
 
 // The command of a keyword and the words after it.
-pub(crate) fn read_after(alloc: Global, keyword: Keyword, more: &[Text]) -> Result<Command, CmdErr>
+pub(crate) fn read_after(
+    alloc: Global,
+    keyword: Keyword,
+    more: &WordsLeft<'_>,
+) -> Result<Command, CmdErr>
     ensures { ReadsAfter keyword more.now result }
 {
     match keyword {
@@ -84,6 +89,7 @@ pub(crate) fn read_after(alloc: Global, keyword: Keyword, more: &[Text]) -> Resu
         Keyword::Batch => read_batch(more),
         Keyword::Sample => read_sample(more),
         Keyword::Sysupdate => read_sysupdate(alloc, more),
+        Keyword::Portable => read_portable(alloc, more),
         Keyword::Mark => read_mark(more),
         Keyword::History => read_history(more),
         Keyword::Rollback => read_rollback(more),

@@ -1,4 +1,5 @@
 pub mod PrefixLemmas
+pub mod SearchLemmas
 pub mod SightLemmas
 pub mod LineLemmas
 pub mod ChangesLemmas

@@ -1,4 +1,5 @@
 pub mod Finding
+pub mod Search
 pub mod Layers
 pub mod Adding
 pub mod Explaining

@@ -1,15 +1,19 @@
 // Where a path of a view comes from.
-ghost use Rattle.std.specs.Prelude.{◌≡◌, ◌≤◌, ◌++◌, Some, IfOk, OnOk};
+ghost use Rattle.std.specs.Prelude.{◌≡◌, ◌≤◌, ◌++◌, ℕ, List, Some, IfOk, OnOk};
 ghost use Rattle.std.specs.List.{AllByRecursion};
+ghost use Rattle.ext_tree.specs.Part.{part};
+ghost use Rattle.ext_walk.specs.Walk.{Ends};
 ghost use Rattle.ext_host.specs.Planning.{ServesHost};
 ghost use Rattle.ext_host.specs.Valid.{IsValidHost};
-ghost use Rattle.ext_view.specs.Parts.{LeadsItem};
+ghost use Rattle.ext_view.specs.Parts.{Leads, LeadsItem};
 ghost use Rattle.ext_explain.specs.Adding.{AddsLineOf, HaveImageLines, HaveLines, HaveLinesFromTop, SomeOrNone};
 ghost use Rattle.ext_explain.specs.Explaining.{Explains};
+ghost use Rattle.ext_explain.specs.Finding.{finding_of};
 ghost use Rattle.ext_explain.specs.Layers.{base_layer, origin_of, origin_where};
 
 use crate::errors::ExplainErr;
-use crate::seeing::finding_in;
+use crate::searching::spot_at;
+use crate::seeing::{finding_from, finding_in};
 use ext_host::{Held, Host, Shelf};
 use ext_origin::{Finding, Layer, Origin, Origins};
 use ext_text::{Extension, OutOfMemory, Path, PathRef};
@@ -21,8 +25,8 @@ use std::alloc::Global;
 /// its layers that has an entry at the path, or hides there what lower layers have, the topmost first. The layers are the
 /// images that would be merged, in the order of the view, and then the base. For a path outside the hierarchies of the class
 /// it is the base alone. A layer hides what is there by a file, a link, a whiteout or an opaque directory above the path, and
-/// its line tells the topmost of these. No view is made: for each layer it is one search in the base where the layer has an entry at
-/// the path, and else one more for each name of the path.
+/// its line tells the topmost of these. No view is made: an image that is a directory is found by one search in the base, and each
+/// name of the path by one near the name before.
 ///
 /// # Errors
 /// The first of these:
@@ -75,7 +79,7 @@ fn origins_in(
     ensures { IfOk result (λ origins. HaveLines base.now inside items.now path.now origins.items) }
 {
     let mut origins = image_origins(alloc, base, inside, items, path)?;
-    push_base(alloc, &mut origins, base, path)?;
+    push_base(&mut origins, base, path)?;
     Ok(origins)
 }
 
@@ -126,27 +130,41 @@ fn push_image(
     requires { LeadsItem base.now item.now }
     ensures { OnOk result (AddsLineOf base.now item.now path.now origins.old.items origins.new.items) }
 {
-    // `pairs` says of the tree that it is one.
-    let _entries = base.pairs();
-    let image = image_at(alloc, base, &item.place)?;
-    match finding_in(alloc, base, &image, path)? {
+    match finding_of_image(alloc, base, &item.place, path)? {
         None => Ok(()),
         Some(finding) => push_origin(origins, Layer::Image(item.name.copy()?), finding),
     }
 }
 
-// Adds the line of the base, where it has one.
-fn push_base(
+// What the image at this place has at the path, or hides there. A place that is a directory is the image itself, and is found by
+// the search that begins there; else the place leads to the image.
+fn finding_of_image(
     alloc: Global,
-    origins: &mut Vec<Origin>,
     base: &Tree<Held>,
+    place: &Path,
     path: &Path,
-) -> Result<(), OutOfMemory>
+) -> Result<Option<Finding>, OutOfMemory>
+    requires { Leads base.now place.now }
+    ensures { IfOk result (λ finding. (image : List (List ℕ)) × Ends base.now place.now image
+        × (finding ≡ finding_of (part image base.now) path.now)) }
+{
+    // `pairs` says of the tree that it is one.
+    let _entries = base.pairs();
+    match spot_at(base, &place.names()) {
+        Some(spot) if spot.pair.1.is_directory() => {
+            finding_from(base, spot.inside, &place.names(), &path.names())
+        }
+        _ => finding_in(base, &image_at(alloc, base, place)?, path),
+    }
+}
+
+// Adds the line of the base, where it has one.
+fn push_base(origins: &mut Vec<Origin>, base: &Tree<Held>, path: &Path) -> Result<(), OutOfMemory>
     ensures { OnOk result (origins.new.items ≡ origins.old.items ++ origin_of path.now (base_layer base.now)) }
 {
     // `pairs` says of the tree that it is one.
     let _entries = base.pairs();
-    match finding_in(alloc, base, &PathRef::root(), path)? {
+    match finding_in(base, &PathRef::root(), path)? {
         None => Ok(()),
         Some(finding) => push_origin(origins, Layer::Base, finding),
     }

@@ -11,6 +11,7 @@ mod changing;
 mod errors;
 mod explaining;
 pub mod laws;
+mod searching;
 mod seeing;
 
 pub use changing::view_changes;

@@ -1,19 +1,18 @@
-// What a layer has at a path and above it: one search in the base finds an entry there, and where none is, one for each name of
-// the path finds what hides it.
-ghost use Rattle.std.specs.Prelude.{◌≡◌, ◌++◌, if◌then◌else◌, Some, None, IfOk, IfSome};
+// What a layer has at a path and above it: the entry of each name of the path is searched near that of the name before.
+ghost use Rattle.std.specs.Prelude.{◌≡◌, ◌++◌, if◌then◌else◌, Some, None, IfOk};
 ghost use Rattle.std.specs.Option.{option_copied, option_map};
-ghost use Rattle.ext_text.specs.Path.{IsPath};
 ghost use Rattle.ext_tree.specs.Part.{part};
 ghost use Rattle.ext_tree.specs.Tree.{lookup};
 ghost use Rattle.ext_layer.specs.Layered.{cuts_below};
 ghost use Rattle.ext_host.specs.Stamped.{stamped_entry};
 ghost use Rattle.ext_explain.specs.Finding.{cover_of, finding_of};
+ghost use Rattle.ext_explain.specs.Search.{StandsFrom};
 
+use crate::searching::spot_near;
 use ext_host::Held;
 use ext_origin::Finding;
-use ext_text::{OutOfMemory, Path, PathErr, PathRef};
+use ext_text::{OutOfMemory, Path, PathRef};
 use ext_tree::{Entry, Stamp, Tree};
-use std::alloc::Global;
 
 type Pair = (Path, Entry<Held>);
 
@@ -27,51 +26,26 @@ struct Sight<'a> {
 
 // What the layer that the base has below these names has at the path, or hides there.
 pub(crate) fn finding_in(
-    alloc: Global,
     base: &Tree<Held>,
     layer: &PathRef,
     path: &Path,
 ) -> Result<Option<Finding>, OutOfMemory>
-    requires { IsPath layer.now }
     ensures { IfOk result (λ finding. finding ≡ finding_of (part layer.now base.now) path.now) }
 {
-    let names = path.names();
-    match entry_in(alloc, base, layer, &names)? {
-        Some(entry) => Ok(Some(Finding::Has(stamped(entry)?))),
-        None => finding_above(base, layer, &names),
-    }
+    finding_from(base, 0, layer, &path.names())
 }
 
-// The entry that the layer has at the path, by one search. Where there is none, none is found; and none at the root of the layer.
-fn entry_in<'a>(
-    alloc: Global,
-    base: &'a Tree<Held>,
-    layer: &PathRef,
-    path: &PathRef,
-) -> Result<Option<&'a Entry<Held>>, OutOfMemory>
-    requires layer { IsPath layer.now }
-    requires path { IsPath path.now }
-    ensures { IfOk result (λ found. IfSome (option_copied found) (λ e. lookup (part layer.now base.now) path.now ≡ Some e)) }
-{
-    if path.is_root() {
-        return Ok(None);
-    }
-    match layer.join(alloc, path) {
-        Ok(at) => Ok(base.get(&at)),
-        Err(PathErr::OutOfMemory) => Err(OutOfMemory),
-        Err(PathErr::TooLong | PathErr::TooDeep | PathErr::BadName) => Ok(None),
-    }
-}
-
-// What the layer has at the path, or hides there, by what is seen on the way.
-fn finding_above(
+// The same, where all that is directly in the layer stands from this index on.
+pub(crate) fn finding_from(
     base: &Tree<Held>,
+    from: usize,
     layer: &PathRef,
     path: &PathRef,
 ) -> Result<Option<Finding>, OutOfMemory>
+    requires { StandsFrom base.now layer.now from }
     ensures { IfOk result (λ finding. finding ≡ finding_of (part layer.now base.now) path.now) }
 {
-    let sight = see(base, layer, path);
+    let sight = see(base, from, layer, path);
     match (sight.found, sight.cover) {
         (Some(entry), _) => Ok(Some(Finding::Has(stamped(entry)?))),
         (None, Some(at)) => Ok(Some(Finding::Covers(at.rest(layer.depth())?))),
@@ -79,22 +53,23 @@ fn finding_above(
     }
 }
 
-// What is seen along the path from the directory of the base that has these names.
-fn see<'a>(base: &'a Tree<Held>, directory: &PathRef, path: &PathRef) -> Sight<'a>
+// What is seen along the path from the directory of the base that has these names, and in which all stands from this index on.
+fn see<'a>(base: &'a Tree<Held>, from: usize, directory: &PathRef, path: &PathRef) -> Sight<'a>
+    requires { StandsFrom base.now directory.now from }
     ensures found { option_copied result.found ≡ lookup (part directory.now base.now) path.now }
     ensures cover { option_copied result.cover ≡ option_map (λ at. directory.now ++ at) (cover_of (part directory.now base.now) path.now) }
 {
     let Some((name, below)) = path.split_first() else {
         return nothing();
     };
-    let Some(pair) = base.child(directory, name) else {
+    let Some(spot) = spot_near(base, from, directory, name) else {
         return nothing();
     };
     if below.is_root() {
-        return at_end(pair);
+        return at_end(spot.pair);
     }
-    let deeper = see(base, &pair.0.names(), &below);
-    seen_over(pair, deeper)
+    let deeper = see(base, spot.inside, &spot.pair.0.names(), &below);
+    seen_over(spot.pair, deeper)
 }
 
 // Nothing is seen.

@@ -27,7 +27,7 @@ use Rattle.ext_explain.specs.Explaining.{AreOrigins}
 use Rattle.ext_explain.specs.ViewChanges.{AreViewChanges}
 use Rattle.ext_cmd.specs.declared.command.Command.{Command}
 use Rattle.ext_cmd.specs.declared.command.Command.TheVariants.{Init, ImportFs, Remove, Sysext, Confext, Tree, Cat, Compare, Check, Layer, Migrate, Batch, Sample, Sysupdate, Components}
-use Rattle.ext_cmd.specs.declared.command.Command.TheVariants.{Mark, History, HistoryChanges, Rollback, Forget}
+use Rattle.ext_cmd.specs.declared.command.Command.TheVariants.{Mark, History, HistoryChanges, Rollback, Forget, Portable}
 use Rattle.ext_cmd.specs.declared.command.ViewCommand.{ViewCommand}
 use Rattle.ext_cmd.specs.declared.command.ViewCommand.TheVariants as views
 use Rattle.ext_cmd.specs.declared.refusal.Refusal.{Refusal}
@@ -35,6 +35,7 @@ use Rattle.ext_cmd.specs.declared.refusal.Refusal.TheVariants as refusals
 use Rattle.ext_intents.specs.Step.{TellAlike, WantsOf}
 use Rattle.ext_intents.specs.Views.{ChangesWants, ExplainWants, IsNotRefreshed, IsNotSurveyed, ListWantsOf, MergeWants, RefreshWants, RefreshWantsOf, ViewWants}
 use Rattle.ext_intents.specs.declared.intent.Intent.{Intent}
+use Rattle.ext_intents.proofs.PortableAlikeLemmas.{port_alike}
 use Rattle.ext_intents.proofs.UpdateAlikeLemmas.{update_alike}
 use Rattle.ext_intents.proofs.ViewFilesLemmas.{host_file, image_file}
 
@@ -131,6 +132,17 @@ module _ (host : Host) (told other : HeldFile → Told) (alike : TellAlike host 
   not_surveyed_alike base (refusals.BadFeature line why file) is not = absurd not
   not_surveyed_alike base refusals.NoneOn is not = absurd not
   not_surveyed_alike base (refusals.NoMark mark) is not = absurd not
+  not_surveyed_alike base refusals.NoSuchImage is not = absurd not
+  not_surveyed_alike base refusals.NotPortable is not = absurd not
+  not_surveyed_alike base (refusals.BadRelease line) is not = absurd not
+  not_surveyed_alike base (refusals.PrefixForbidden prefix) is not = absurd not
+  not_surveyed_alike base refusals.NoUnits is not = absurd not
+  not_surveyed_alike base refusals.NoProfile is not = absurd not
+  not_surveyed_alike base (refusals.UnitExists path) is not = absurd not
+  not_surveyed_alike base refusals.AlreadyAttached is not = absurd not
+  not_surveyed_alike base refusals.NotAttached is not = absurd not
+  not_surveyed_alike base (refusals.NoExtension extension) is not = absurd not
+  not_surveyed_alike base (refusals.Extension extension why) is not = absurd not
 
   not_refreshed_alike : (base : Entries HeldFile) (class : Extension) (force : Bool) (refusal : Refusal) → IsBaseTree host base → IsNotRefreshed host told base class force refusal → IsNotRefreshed host other base class force refusal
   not_refreshed_alike base class force (refusals.Limit which) is not = large_alike base class force which is not
@@ -156,6 +168,17 @@ module _ (host : Host) (told other : HeldFile → Told) (alike : TellAlike host 
   not_refreshed_alike base class force (refusals.BadFeature line why file) is not = absurd not
   not_refreshed_alike base class force refusals.NoneOn is not = absurd not
   not_refreshed_alike base class force (refusals.NoMark mark) is not = absurd not
+  not_refreshed_alike base class force refusals.NoSuchImage is not = absurd not
+  not_refreshed_alike base class force refusals.NotPortable is not = absurd not
+  not_refreshed_alike base class force (refusals.BadRelease line) is not = absurd not
+  not_refreshed_alike base class force (refusals.PrefixForbidden prefix) is not = absurd not
+  not_refreshed_alike base class force refusals.NoUnits is not = absurd not
+  not_refreshed_alike base class force refusals.NoProfile is not = absurd not
+  not_refreshed_alike base class force (refusals.UnitExists path) is not = absurd not
+  not_refreshed_alike base class force refusals.AlreadyAttached is not = absurd not
+  not_refreshed_alike base class force refusals.NotAttached is not = absurd not
+  not_refreshed_alike base class force (refusals.NoExtension extension) is not = absurd not
+  not_refreshed_alike base class force (refusals.Extension extension why) is not = absurd not
 
   list_alike : (base : Entries HeldFile) (class : Extension) (intent : Intent) → IsBaseTree host base → ListWantsOf host told base class intent → ListWantsOf host other base class intent
   list_alike base class intent is (inl (items, of, wants)) = inl (items, survey_alike base class false items is of, wants)
@@ -218,3 +241,4 @@ module _ (host : Host) (told other : HeldFile → Told) (alike : TellAlike host 
   wants_alike number newest files (HistoryChanges mark) intent wants = wants
   wants_alike number newest files (Rollback mark) intent wants = wants
   wants_alike number newest files (Forget mark) intent wants = wants
+  wants_alike number newest files (Portable command) intent wants = port_alike host told other alike command intent wants

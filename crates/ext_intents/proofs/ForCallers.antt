@@ -4,6 +4,8 @@ pub use Rattle.ext_intents.proofs.WantsLemmas.{wants_fit, first_wants_fit}
 pub use Rattle.ext_intents.proofs.SysupdateLemmas.{IsReplying, components_reply, update_replies}
 -- so is what `list`, `status`, `changes` and `explain` of a class want
 pub use Rattle.ext_intents.proofs.ViewsLemmas.{IsReplyingView, view_replies}
+-- and what `list`, `inspect` and `is-attached` of `portable` want
+pub use Rattle.ext_intents.proofs.PortableLemmas.{IsReplyingPort, port_replies}
 -- and what `history` and `history --changes` want
 pub use Rattle.ext_intents.proofs.MarksLemmas.{history_reply, history_changes_reply}
 -- and it is the same where the same is told of the host's files

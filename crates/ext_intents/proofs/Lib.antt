@@ -13,10 +13,15 @@ pub mod ViewsLemmas
 pub mod UpdatingLemmas
 pub mod SysupdateLemmas
 pub mod MarksLemmas
+pub mod AttachmentLemmas
+pub mod PastLemmas
+pub mod PortableLemmas
+pub mod PortableAlikeLemmas
 pub mod WantsLemmas
 pub mod OneInitLemmas
 pub mod OneImportLemmas
 pub mod OneViewLemmas
 pub mod OneUpdateLemmas
+pub mod OnePortableLemmas
 pub mod OneIntentLemmas
 pub mod ForCallers

@@ -88,7 +88,7 @@ vacuumed_past host next transfers items removed wants =
     (λ n. past_of host next sized.0 n.0 (let is = n.2 in cc is)) (λ which is. cc is)))))
 
 -- a planned host with the past of the host is fit
-past_fits : (coming : ℕ) (host next : Host) → IsPlannedHost host next → next.past ≡ host.past → IsPlanned coming (Some host) next
+pub past_fits : (coming : ℕ) (host next : Host) → IsPlannedHost host next → next.past ≡ host.past → IsPlanned coming (Some host) next
 past_fits coming host next planned past = record {
   valid = planned.valid;
   drawn = planned.drawn;

@@ -20,7 +20,7 @@ use Rattle.ext_host.specs.ReadOnly.{is_read_only}
 use Rattle.ext_cmd.specs.Words.{IsWellFormed}
 use Rattle.ext_cmd.specs.declared.command.Command.{Command}
 use Rattle.ext_cmd.specs.declared.command.Command.TheVariants.{Init, ImportFs, Remove, Sysext, Confext, Tree, Cat, Compare, Check, Layer, Migrate, Batch, Sample, Sysupdate, Components}
-use Rattle.ext_cmd.specs.declared.command.Command.TheVariants.{Mark, History, HistoryChanges, Rollback, Forget}
+use Rattle.ext_cmd.specs.declared.command.Command.TheVariants.{Mark, History, HistoryChanges, Rollback, Forget, Portable}
 use Rattle.ext_cmd.specs.declared.answer.Answer.TheVariants as answers
 use Rattle.ext_cmd.specs.declared.answer.Answer.TheVariants.{Done, Unchanged}
 use Rattle.ext_cmd.specs.declared.refusal.Refusal.TheVariants.{NoEntry, NotDirectory, ReadOnly}
@@ -37,6 +37,7 @@ use Rattle.ext_intents.specs.declared.intent.Intent.TheVariants.{Changes, Answer
 use Rattle.ext_intents.proofs.FitLemmas.{cut_is_planned, graft_is_planned, same_is_planned}
 use Rattle.ext_intents.proofs.InitLemmas.{new_is_planned}
 use Rattle.ext_intents.proofs.MarksLemmas.{forget_fits, history_changes_reply, mark_fits, rollback_fits}
+use Rattle.ext_intents.proofs.PortableLemmas.{port_fits}
 use Rattle.ext_intents.proofs.SysupdateLemmas.{components_reply, reply_fits, update_fits}
 use Rattle.ext_intents.proofs.ViewsLemmas.{view_fits}
 
@@ -131,6 +132,7 @@ wants_fit seen files History intent valid is = fit_of (seen.number + 1) (Some se
 wants_fit seen files (HistoryChanges mark) intent valid wants = reply_fits (seen.number + 1) (Some seen.host) intent (history_changes_reply seen.host mark intent wants)
 wants_fit seen files (Rollback mark) intent valid is = fit_of (seen.number + 1) (Some seen.host) _ intent is (rollback_fits (seen.number + 1) seen.host mark valid)
 wants_fit seen files (Forget mark) intent valid is = fit_of (seen.number + 1) (Some seen.host) _ intent is (forget_fits (seen.number + 1) seen.host mark valid)
+wants_fit seen files (Portable command) intent valid wants = port_fits (seen.number + 1) seen.host seen.told command intent valid wants
 
 -- where there is none
 pub first_wants_fit : (coming : ℕ) (command : Command) (intent : Intent) → IsWellFormed command → WantsFirst command intent → IsFit coming None intent
@@ -154,3 +156,4 @@ first_wants_fit coming History intent formed is = fit_of coming None _ intent is
 first_wants_fit coming (HistoryChanges mark) intent formed is = fit_of coming None _ intent is tt
 first_wants_fit coming (Rollback mark) intent formed is = fit_of coming None _ intent is tt
 first_wants_fit coming (Forget mark) intent formed is = fit_of coming None _ intent is tt
+first_wants_fit coming (Portable command) intent formed is = fit_of coming None _ intent is tt

@@ -16,10 +16,11 @@ use Rattle.ext_view.specs.Surveying.{IsRead}
 use Rattle.ext_view.specs.declared.errors.ViewErr.{ViewErr}
 use Rattle.ext_view.specs.declared.errors.ViewErr.TheVariants as errors
 use Rattle.ext_cmd.specs.declared.command.Command.{Command}
-use Rattle.ext_cmd.specs.declared.command.Command.TheVariants.{Sysext, Confext, Sysupdate}
+use Rattle.ext_cmd.specs.declared.command.Command.TheVariants.{Sysext, Confext, Sysupdate, Portable}
 use Rattle.ext_cmd.specs.declared.command.ViewCommand.{ViewCommand}
 use Rattle.ext_cmd.specs.declared.command.ViewCommand.TheVariants as views
 use Rattle.ext_cmd.specs.declared.refusal.Refusal.TheVariants as refusals
+use Rattle.ext_intents.specs.Portable.{IsServiceFile}
 use Rattle.ext_intents.specs.Sysupdate.{IsSysupdateFile}
 use Rattle.ext_intents.specs.declared.intent.Intent.{Intent}
 use Rattle.ext_intents.specs.declared.intent.Intent.TheVariants.{Refuses}
@@ -46,6 +47,7 @@ abbrev pub IsStepFile : Host → Command → HeldFile → Type 0
 IsStepFile host (Sysext view) held = IsViewFile host extensions.Sysext view held
 IsStepFile host (Confext view) held = IsViewFile host extensions.Confext view held
 IsStepFile host (Sysupdate component verb) held = IsSysupdateFile host component verb held
+IsStepFile host (Portable command) held = IsServiceFile host command held
 IsStepFile host _ held = ⊥
 
 -- the shelf did not give a file of the host that is read, for the cause that it has; the numbers count its faults before and after

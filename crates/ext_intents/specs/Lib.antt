@@ -16,6 +16,8 @@ pub mod Updates
 pub mod VersionItems
 pub mod Updating
 pub mod Sysupdate
+pub mod ServiceItems
+pub mod Portable
 pub mod Causes
 pub mod Step
 pub mod Laws

@@ -9,7 +9,7 @@ use Rattle.ext_host.specs.Shelf.{Told}
 use Rattle.ext_host.specs.declared.host.Host.{Host}
 use Rattle.ext_cmd.specs.declared.command.Command.{Command}
 use Rattle.ext_cmd.specs.declared.command.Command.TheVariants.{Init, ImportFs, Remove, Sysext, Confext, Tree, Cat, Compare, Check, Layer, Migrate, Batch, Sample, Sysupdate, Components}
-use Rattle.ext_cmd.specs.declared.command.Command.TheVariants.{Mark, History, HistoryChanges, Rollback, Forget}
+use Rattle.ext_cmd.specs.declared.command.Command.TheVariants.{Mark, History, HistoryChanges, Rollback, Forget, Portable}
 use Rattle.ext_cmd.specs.declared.refusal.Refusal.TheVariants.{NoStore, StoreExists}
 use Rattle.ext_intents.specs.Cat.{cat_intent}
 use Rattle.ext_intents.specs.Compare.{compare_intent}
@@ -18,6 +18,7 @@ use Rattle.ext_intents.specs.Init.{InitWants}
 use Rattle.ext_intents.specs.Intents.{Seen}
 use Rattle.ext_intents.specs.Marks.{HistoryChangesWants, MarkWants, forget_intent, history_intent, rollback_intent}
 use Rattle.ext_intents.specs.Migrate.{migrate_intent}
+use Rattle.ext_intents.specs.Portable.{PortWants}
 use Rattle.ext_intents.specs.Remove.{remove_intent}
 use Rattle.ext_intents.specs.Sysupdate.{ComponentsWants, VerbWants}
 use Rattle.ext_intents.specs.Tree.{meant_path, tree_intent}
@@ -47,6 +48,7 @@ WantsOf seen files History intent = intent ≡ history_intent seen.host
 WantsOf seen files (HistoryChanges mark) intent = HistoryChangesWants seen.host mark intent
 WantsOf seen files (Rollback mark) intent = intent ≡ rollback_intent seen.host mark
 WantsOf seen files (Forget mark) intent = intent ≡ forget_intent seen.host mark
+WantsOf seen files (Portable command) intent = PortWants seen.host seen.told command intent
 
 -- of each file of the host both tell one thing
 abbrev pub TellAlike : Host → (HeldFile → Told) → (HeldFile → Told) → Type 0

@@ -6,6 +6,7 @@
 //! command has one file, here and in the definitions.
 #![tactic(auto)]
 
+mod attaching;
 mod cat;
 mod compare;
 mod import;
@@ -16,7 +17,9 @@ mod layer;
 mod marks;
 mod migrate;
 mod plan_err;
+mod portable;
 mod remove;
+mod service_items;
 mod steps;
 mod sysupdate;
 mod tree;

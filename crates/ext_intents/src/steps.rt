@@ -17,6 +17,7 @@ use crate::intent::Intent;
 use crate::marks::{forget_step, history_changes_step, history_step, mark_step, rollback_step};
 use crate::migrate::migrate_step;
 use crate::plan_err::PlanErr;
+use crate::portable::port_step;
 use crate::remove::remove_step;
 use crate::sysupdate::{components_step, update_step};
 use crate::tree::tree_step;
@@ -98,6 +99,7 @@ pub fn step<P: Depot, H: Shelf>(
         Command::HistoryChanges { mark } => Ok(history_changes_step(alloc, host, *mark)?),
         Command::Rollback { mark } => Ok(rollback_step(alloc, host, *mark)?),
         Command::Forget { mark } => Ok(forget_step(alloc, host, *mark)?),
+        Command::Portable(command) => port_step(alloc, host, command, shelf),
         Command::Layer | Command::Batch | Command::Sample { .. } => unreachable!(),
     }
 }

@@ -8,6 +8,8 @@ pub use Rattle.ext_port.proofs.StartLemmas.{arch_start, base_served, serves_star
 pub use Rattle.ext_port.proofs.StartLemmas.{one_base}
 -- what is attached is no refusal
 pub use Rattle.ext_port.proofs.LawsLemmas.{no_refusal}
+-- what attaching leaves of the host, with the units of an image and with those of another tree
+pub use Rattle.ext_port.proofs.LeavesLemmas.{LeavesOthers, LeavesRest, attaches_leaves, body_leaves}
 -- one thing comes of an image that was read, with units from a tree and further lines
 pub use Rattle.ext_port.proofs.OneAttachLemmas.{one_attach_body}
 -- and it is no error of the shelf

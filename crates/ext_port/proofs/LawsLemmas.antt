@@ -141,11 +141,11 @@ module _ (start : Host) (cut : List (List (List ℕ))) (ask : Ask) (image tree :
       ∙ or_right _ _ (or_left _ _ (tied_name a.name a.name refl))
 
   module _ (done : IsDone start cut ask image tree made attach) where
-    abbrev coming : Host
+    abbrev pub coming : Host
     coming = attached_host start done.added done.root (attachment_of ask made.place done.added)
 
     -- the paths that it added are those at which something was put
-    paths_coming : added_of ask coming ≡ done.added
+    pub paths_coming : added_of ask coming ≡ done.added
     paths_coming =
         ap (λ attached. flat_map (λ (a : Attachment). a.added) attached) (one_gone (attachment_of ask made.place done.added) start.attached) ∙ append-nil done.added
 
@@ -237,11 +237,11 @@ module _ (told : HeldFile → Told) (old new : ℕ) (start : Host) (cut : List (
       record { image = body.tree; tree = tree; made = made; done = locked_done start cut ask body.tree tree made attach wants }
   profile_done body tree lines units (inr (none, is)) = no_refusal attach _ is
 
-  units_done : (body : Body) (tree : Entries HeldFile) (lines : List ℕ) → UnitsWant start cut base ask body tree lines (Ok attach) → WasDone start cut ask attach
+  pub units_done : (body : Body) (tree : Entries HeldFile) (lines : List ℕ) → UnitsWant start cut base ask body tree lines (Ok attach) → WasDone start cut ask attach
   units_done body tree lines (inl (units, chosen, wants)) = profile_done body tree lines units wants
   units_done body tree lines (inr (e, chosen, is)) = no_refusal attach _ is
 
-  body_done : (place : List (List ℕ)) → BodyWants told old new start cut base ask place (Ok attach) → WasDone start cut ask attach
+  pub body_done : (place : List (List ℕ)) → BodyWants told old new start cut base ask place (Ok attach) → WasDone start cut ask attach
   body_done place (inl (body, reads, wants)) = units_done body body.tree [] wants
   body_done place (inr (e, reads, is)) = no_refusal attach _ is
 
@@ -268,7 +268,7 @@ undo_law told old new again host ask attach is_tree attaches =
 -- attaching anew
 
 -- none that stays has the name of the image
-none_stays : (n : List ℕ) (attached : List Attachment) → list_any (is_of_name n) (staying FirstPart (first_part n) attached) ≡ false
+pub none_stays : (n : List ℕ) (attached : List Attachment) → list_any (is_of_name n) (staying FirstPart (first_part n) attached) ≡ false
 none_stays n [] = refl
 none_stays n (a ∷ attached) = elim (goes FirstPart (first_part n) a) as (λ b. goes FirstPart (first_part n) a ≡ b → list_any (is_of_name n) (cond (not b) (a ∷ staying FirstPart (first_part n) attached) (staying FirstPart (first_part n) attached)) ≡ false) [
   | true ↦ λ _. none_stays n attached

@@ -10,6 +10,7 @@ pub mod PlanLemmas
 pub mod PutLemmas
 pub mod StageLemmas
 pub mod LawsLemmas
+pub mod LeavesLemmas
 pub mod OnePartsLemmas
 pub mod OneAttachLemmas
 pub mod MovedLemmas

@@ -5,6 +5,7 @@ mod ContentLemmas
 mod ExtensionLemmas
 mod FailLemmas
 mod WantsLemmas
+mod LeavesLemmas
 mod RowLemmas
 pub mod OneExtensionLemmas
 pub mod OneExtendedLemmas

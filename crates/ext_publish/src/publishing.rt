@@ -23,8 +23,8 @@ use std::alloc::Global;
 /// 4. It writes and syncs the new manifest beside the old one, and renames it to `RES/SHA256SUMS`.
 /// 5. It writes `published`, the number of the files, and that of their bytes.
 ///
-/// A stop at any moment leaves the old manifest, or the new one with all that it lists. A run that is refused, or fails, changes
-/// nothing that others read. The store is only read. Each status comes as `Publishes` says.
+/// A stop at any moment leaves the old manifest, or the new one with all that it lists, and so does a run that fails. One that is
+/// refused changes nothing. The store is only read. Each status comes as `Publishes` says.
 pub fn publish<K: Sink, D: Disk, O: Disk>(
     alloc: Global,
     words: &Words,

@@ -47,6 +47,7 @@ use Rattle.ext_published.specs.declared.payload.Payload.{Payload}
 use Rattle.ext_published.specs.declared.payload.Payload.TheVariants.{Directory, File}
 use Rattle.ext_published.proofs.ForCallers.{files_have_listed_stamps}
 use Rattle.ext_publish.specs.Stops.{listed_digest}
+use Rattle.ext_pubtaken.proofs.TextLemmas.{published_has_text}
 use Rattle.ext_pubtaken.specs.Taken.{ImportTakes, ImportedFilesStand, IsTakenBy, OffersVersion, UpdateTakes, type_of_payload}
 
 -- the tree text of a resource stands beside it
@@ -60,12 +61,12 @@ found_whole : (o : Option (List ℕ)) (bytes : List ℕ) → o ≡ Some bytes �
 found_whole o bytes is short = ap text_of is ∙ cond-true (nat_le (length bytes) 67108864) (Whole bytes) TooLong (le-leb (length bytes) 67108864 short)
 
 pub import_takes : ImportTakes
-import_takes c asked tree bytes_of has published host path intent wants =
+import_takes c asked from at tree bytes_of valid is gives published host path intent wants =
     text (subst (λ found. TextWants host (published_resource_path asked) path found intent)
     (wants.1 ∙ ap (λ p. text_of (c p)) (tree_path_is asked.folder asked.name) ∙ found_whole (c (tree_text_path asked)) (published_text tree) published.text published.size) wants.2)
   where
     printed : IsTreeText (published_text tree) (stamps tree)
-    printed = record { tree = has; text = refl }
+    printed = record { tree = published_has_text from at tree valid is gives; text = refl }
 
     text : TextWants host (published_resource_path asked) path (Whole (published_text tree)) intent → TreeWants host (published_resource_path asked) path (stamps tree) intent
     text (inl read) = subst (λ es. TreeWants host (published_resource_path asked) path es intent) (tree_law (published_text tree) read.0 (stamps tree) read.1 printed) read.2

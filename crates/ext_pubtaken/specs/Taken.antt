@@ -1,12 +1,13 @@
 -- What the commands that read a depot make of what a run published there.
 use Rattle.std.specs.Prelude.{◌≡◌, ℕ, List, Option, Some, None, Result, Ok, Err}
 use Rattle.ext_tree.specs.TreeText.{HasText}
-use Rattle.ext_tree.specs.Tree.{Entries}
+use Rattle.ext_tree.specs.Tree.{Entries, IsTree}
 use Rattle.ext_depot.specs.Depot.{Files}
 use Rattle.ext_host.specs.DepotBodies.{from_depot}
 use Rattle.ext_host.specs.Drawn.{HasFile}
 use Rattle.ext_host.specs.Held.{HeldFile, IsStampOf}
 use Rattle.ext_host.specs.Stamped.{stamps}
+use Rattle.ext_host.specs.Valid.{IsValidHost}
 use Rattle.ext_host.specs.declared.body.Body.TheVariants.{Depot}
 use Rattle.ext_host.specs.declared.host.Host.{Host}
 use Rattle.ext_sums.specs.Manifest.{IsManifest}
@@ -22,18 +23,24 @@ use Rattle.ext_available.specs.declared.offers_err.OffersErr.{OffersErr}
 use Rattle.ext_intents.specs.Import.{ImportWants, TreeWants}
 use Rattle.ext_intents.specs.declared.intent.Intent.{Intent}
 use Rattle.ext_published.specs.Asked.{AskedOf, IsPublishAsk}
-use Rattle.ext_published.specs.Payload.{HasHeldFileAt}
+use Rattle.ext_published.specs.Payload.{GivesPayload, HasHeldFileAt}
 use Rattle.ext_published.specs.Places.{published_manifest_path, published_resource_path}
 use Rattle.ext_published.specs.Published.{IsPublished, IsPublishedTree}
 use Rattle.ext_published.specs.declared.payload.Payload.{Payload}
 use Rattle.ext_published.specs.declared.payload.Payload.TheVariants.{Directory, File}
 use Rattle.ext_publish.specs.Stops.{listed_digest}
 
--- what an import of the resource wants of a host is what it wants of the tree that was published, whatever the path; a tree that has a
--- text is that of every host
+-- a directory of a valid host, with all below it, has a text
+abbrev pub PublishedHasText : Type 0
+PublishedHasText =
+    (host : Host) (path : List (List ℕ)) (tree : Entries HeldFile) → IsValidHost host → IsTree host.root
+    → GivesPayload host.root path (Ok (Directory tree)) → HasText (stamps tree)
+
+-- what an import of the resource wants of a host is what it wants of the tree that was published of another, whatever the path
 abbrev pub ImportTakes : Type 0
 ImportTakes =
-    (c : Files) (asked : AskedOf) (tree : Entries HeldFile) (bytes_of : HeldFile → List ℕ) → HasText (stamps tree) → IsPublishedTree c asked tree bytes_of
+    (c : Files) (asked : AskedOf) (from : Host) (at : List (List ℕ)) (tree : Entries HeldFile) (bytes_of : HeldFile → List ℕ)
+    → IsValidHost from → IsTree from.root → GivesPayload from.root at (Ok (Directory tree)) → IsPublishedTree c asked tree bytes_of
     → (host : Host) (path : List (List ℕ)) (intent : Intent) → ImportWants host (Some c) (published_resource_path asked) path intent
     → TreeWants host (published_resource_path asked) path (stamps tree) intent
 

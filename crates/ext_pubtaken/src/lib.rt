@@ -2,7 +2,12 @@
 //! contract of a function that does nothing.
 #![tactic(auto)]
 
-ghost use Rattle.ext_pubtaken.specs.Taken.{ImportTakes, ImportedFilesStand, UpdateTakes};
+ghost use Rattle.ext_pubtaken.specs.Taken.{ImportTakes, ImportedFilesStand, PublishedHasText, UpdateTakes};
+
+/// A directory of a valid host has a text, with all below it, so that it can be published.
+pub fn what_is_published_has_a_text()
+    ensures { PublishedHasText }
+{}
 
 /// An import of a published directory reads its tree: it is refused neither as missing, nor as too long, nor as no tree, and where
 /// it is done, that tree stands in place of what stood. And each file that it then copies is in the depot, with its listed stamp.

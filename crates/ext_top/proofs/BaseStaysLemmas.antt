@@ -56,6 +56,10 @@ use Rattle.ext_update.specs.declared.planned.Vacuum.{Vacuum}
 use Rattle.ext_update.specs.declared.planned.Vacuum.TheVariants as vacuumed
 use Rattle.ext_update.specs.declared.updates.Updates.{Updates}
 use Rattle.ext_update.proofs.ForCallers.{manifests_are_kept, other_parts_stay, resources_stand, untouched_stand, update_writes, vacuum_removes}
+use Rattle.ext_attached.specs.Going.{cut_paths, detached}
+use Rattle.ext_attached.specs.declared.going.By.TheVariants.{Name}
+use Rattle.ext_port.specs.Laws.{added_of}
+use Rattle.ext_port.specs.Starting.{cut_of}
 use Rattle.ext_gen.specs.Opened.{Generation}
 use Rattle.ext_gen.specs.Store.{State, at, none}
 use Rattle.ext_view.specs.Laws.{MergingKeepsTheBase}
@@ -68,11 +72,15 @@ use Rattle.ext_cmd.specs.declared.answer.Answer.TheVariants.{Done, Unchanged}
 use Rattle.ext_cmd.specs.declared.command.Chosen.{Chosen}
 use Rattle.ext_cmd.specs.declared.command.Command.{Command}
 use Rattle.ext_cmd.specs.declared.command.Command.TheVariants.{Init, ImportFs, Remove, Sysext, Confext, Tree, Cat, Compare, Check, Layer, Migrate, Batch, Sample, Sysupdate, Components}
-use Rattle.ext_cmd.specs.declared.command.Command.TheVariants.{Mark, History, HistoryChanges, Rollback, Forget}
+use Rattle.ext_cmd.specs.declared.command.Command.TheVariants.{Mark, History, HistoryChanges, Rollback, Forget, Portable}
 use Rattle.ext_cmd.specs.declared.command.UpdateVerb.{UpdateVerb}
 use Rattle.ext_cmd.specs.declared.command.UpdateVerb.TheVariants as verbs
 use Rattle.ext_cmd.specs.declared.command.ViewCommand.{ViewCommand}
 use Rattle.ext_cmd.specs.declared.command.ViewCommand.TheVariants as views
+use Rattle.ext_cmd.specs.Portable.{ask_of, extensions_of}
+use Rattle.ext_cmd.specs.declared.portable.AttachWords.{AttachWords}
+use Rattle.ext_cmd.specs.declared.portable.PortCommand.{PortCommand}
+use Rattle.ext_cmd.specs.declared.portable.PortCommand.TheVariants as services
 use Rattle.ext_cmd.specs.declared.refusal.Refusal.TheVariants.{NoEntry, NotDirectory, ReadOnly}
 use Rattle.ext_intents.specs.Cat.{cat_at}
 use Rattle.ext_intents.specs.Change.{changed_at}
@@ -81,6 +89,7 @@ use Rattle.ext_intents.specs.Init.{IsNewHost}
 use Rattle.ext_intents.specs.Intents.{IsAnswerOrRefusal}
 use Rattle.ext_intents.specs.Marks.{forget_of, mark_in}
 use Rattle.ext_intents.specs.Migrate.{migrate_intent}
+use Rattle.ext_intents.specs.Portable.{AttachWants, DetachWants, PortWants}
 use Rattle.ext_intents.specs.Remove.{remove_intent}
 use Rattle.ext_intents.specs.Step.{WantsFirst, WantsOf}
 use Rattle.ext_intents.specs.Tree.{meant_path, text_below, tree_at, tree_intent}
@@ -90,10 +99,12 @@ use Rattle.ext_intents.specs.declared.intent.Intent.TheVariants.{Answers, Change
 use Rattle.ext_intents.specs.Sysupdate.{VerbWants}
 use Rattle.ext_intents.specs.Updates.{AreOn, AreUpdates}
 use Rattle.ext_intents.specs.Updating.{ByUpdate, ByVacuum, update_intent, vacuum_intent}
-use Rattle.ext_intents.proofs.ForCallers.{components_reply, history_changes_reply, history_reply, update_replies, view_replies}
+use Rattle.ext_intents.proofs.ForCallers.{components_reply, history_changes_reply, history_reply, port_replies, update_replies, view_replies}
 use Rattle.ext_top.specs.Machine.{bytes_at}
+use Rattle.ext_top.specs.Services.{TouchesByAttaching, TouchesByService}
 use Rattle.ext_top.specs.Untouched.{CommandTouches, TouchesByVerb, base_in, installed_in}
 use Rattle.ext_top.specs.Updating.{FindsInstances, MakesRoomIn, UpdatesHost, writes_in}
+use Rattle.ext_top.proofs.ServicesLemmas.{IsChangedAt, attached_changes, attached_leaves, detached_changes, filter_has}
 
 -- where another host is wanted, this holds of that one
 abbrev pub IfChanges : (Host → Type 0) → Intent → Type 0
@@ -132,18 +143,6 @@ not_below other path q apart below = false_from_ne_true (is_prefix other q) (λ 
 
 not_above : (other path q : List (List ℕ)) → are_related other path ≡ false → is_prefix path q ≡ true → is_prefix q other ≡ false
 not_above other path q apart below = false_from_ne_true (is_prefix q other) (λ over. true≢false (sym (second_related other path (prefix_trans path q other below over)) ∙ apart))
-
--- an element that passes a test stays
-more : {X : Type 0} (x : X) (xs : List X) (y : X) → Contains xs y → Contains (x ∷ xs) y
-more x xs y (k, lt, is) = (suc k, omega arith, is)
-
-filter_has : {X : Type 0} (test : X → Bool) (xs : List X) (y : X) → Contains xs y → test y ≡ true → Contains (filter test xs) y
-filter_has test [] y (k, lt, is) passes = absurd (omega arith)
-filter_has test (x ∷ xs) y (zero, lt, is) passes =
-    subst (λ (b : Bool). Contains (cond b (x ∷ filter test xs) (filter test xs)) y) (sym (ap test is ∙ passes)) (zero, omega arith, is)
-filter_has test (x ∷ xs) y (suc k, lt, is) passes =
-    let there = filter_has test xs y (k, omega arith, is) passes in
-    elim (test x) as (λ b. Contains (cond b (x ∷ filter test xs) (filter test xs)) y) [ true ↦ more x (filter test xs) y there | false ↦ there ]
 
 -- the base of another host has at and below the path what the state's has, and a manifest of the path that is installed stays so
 pub record NextKeeps (path : List (List ℕ)) (s : State) (next : Host) : Type 0 where
@@ -378,6 +377,41 @@ module _ (path : List (List ℕ)) (g : Generation) (contents : Home → List ℕ
   verb_keeps files component verbs.Vacuum intent apart (base, is, inr (refusal, lacking, same)) = of_same (NextKeeps path (at g contents)) _ intent same tt
   verb_keeps files component verbs.Features intent apart wants = reply_keeps intent (update_replies g.host told_here files component verbs.Features intent tt wants)
 
+  -- `portable`
+  changes_keep : (next : Host) (paths : List (List (List ℕ))) → IsChangedAt g.host next paths → ((other : List (List ℕ)) → is_among paths other ≡ true → are_related other path ≡ false) → NextKeeps path (at g contents) next
+  changes_keep next paths changed apart =
+      let none = none_meets paths apart in
+      record {
+        base = λ q below.
+            ap (λ (h : Host). base_at (hierarchies_in h) (present h) q) changed.rest
+            ∙ ap (λ o. if is_in (merged_hierarchies (hierarchies_in g.host) (present g.host)) q then lookup g.host.lower q else o) (changed.stands path q none below);
+        installed = λ manifest is has. changed.manifests manifest has (subst (λ p. meets paths p ≡ false) (sym is) none);
+      }
+
+  attach_keeps : (again : Bool) (words : AttachWords) (intent : Intent) → ((other : List (List ℕ)) → TouchesByAttaching (at g contents) again words other → are_related other path ≡ false) → AttachWants g.host told_here again words intent → Stays intent
+  attach_keeps again words intent apart (inl (attach, attached, planned, is)) =
+      of_same (NextKeeps path (at g contents)) _ intent is
+      (changes_keep attach.plan.next (cut_of again words.image g.host ++ added_of (ask_of words) attach.plan.next)
+      (attached_changes again g.host (ask_of words) attach.plan.next (attached_leaves told_here again g.host (ask_of words) (extensions_of words) attach attached))
+      (λ other among. apart other (record { seen = record { host = g.host; number = g.number; newest = g.text == 2; told = told_here }; is_seen = refl; attach = attach; attached = attached }, among)))
+  attach_keeps again words intent apart (inr (refusal, fails, is)) = of_same (NextKeeps path (at g contents)) _ intent is tt
+
+  detach_keeps : (name : List ℕ) (intent : Intent) → ((other : List (List ℕ)) → TouchesByService (at g contents) (services.Detach name) other → are_related other path ≡ false) → DetachWants g.host name intent → Stays intent
+  detach_keeps name intent apart (inl (plan, detaches, is)) =
+      of_same (NextKeeps path (at g contents)) _ intent is
+      (subst (NextKeeps path (at g contents)) (sym detaches.2)
+      (changes_keep (detached Name name g.host) (cut_paths Name name g.host) (detached_changes Name name g.host)
+      (λ other among. apart other (record { host = g.host; number = g.number; newest = g.text == 2; told = told_here }, refl, among))))
+  detach_keeps name intent apart (inr (error, refusal, fails, told, is)) = of_same (NextKeeps path (at g contents)) _ intent is tt
+
+  service_keeps : (command : PortCommand) (intent : Intent) → ((other : List (List ℕ)) → TouchesByService (at g contents) command other → are_related other path ≡ false) → PortWants g.host told_here command intent → Stays intent
+  service_keeps services.List intent apart wants = reply_keeps intent (port_replies g.host told_here services.List intent tt wants)
+  service_keeps (services.Inspect image prefixes) intent apart wants = reply_keeps intent (port_replies g.host told_here (services.Inspect image prefixes) intent tt wants)
+  service_keeps (services.IsAttached name) intent apart wants = reply_keeps intent (port_replies g.host told_here (services.IsAttached name) intent tt wants)
+  service_keeps (services.Attach words) intent apart wants = attach_keeps false words intent apart wants
+  service_keeps (services.Detach name) intent apart wants = detach_keeps name intent apart wants
+  service_keeps (services.Reattach words) intent apart wants = attach_keeps true words intent apart wants
+
   -- commands on extensions
   kept_with : (class : Extension) (names : Option (List (List ℕ))) (root lower : Entries HeldFile) → (with_view class names root lower g.host).kept ≡ g.host.kept
   kept_with extensions.Sysext names root lower = refl
@@ -476,6 +510,7 @@ module _ (path : List (List ℕ)) (g : Generation) (contents : Home → List ℕ
     wants_keep files (HistoryChanges mark) intent apart wants = reply_keeps intent (history_changes_reply g.host mark intent wants)
     wants_keep files (Rollback mark) intent apart is = let touched : are_related [] path ≡ false = apart [] tt in absurd (true≢false touched)
     wants_keep files (Forget mark) intent apart is = of_same (NextKeeps path (at g contents)) _ intent is (forget_keeps mark (mark_in mark g.host.past))
+    wants_keep files (Portable command) intent apart wants = service_keeps command intent apart wants
 
 -- a new host has nothing in its base, and no manifest was installed before
 bare : (b : Bool) (root lower : Entries HeldFile) (q : List (List ℕ)) → root ≡ [] → lower ≡ [] → (if b then lookup lower q else lookup root q) ≡ None
@@ -510,3 +545,4 @@ first_wants_keep path History intent is = of_same (NextKeeps path none) _ intent
 first_wants_keep path (HistoryChanges mark) intent is = of_same (NextKeeps path none) _ intent is tt
 first_wants_keep path (Rollback mark) intent is = of_same (NextKeeps path none) _ intent is tt
 first_wants_keep path (Forget mark) intent is = of_same (NextKeeps path none) _ intent is tt
+first_wants_keep path (Portable command) intent is = of_same (NextKeeps path none) _ intent is tt

@@ -16,11 +16,13 @@ use Rattle.ext_gen.specs.Opened.{Generation}
 use Rattle.ext_cmd.proofs.ForCallers.{one_command}
 use Rattle.ext_cmd.specs.declared.command.Command.{Command}
 use Rattle.ext_cmd.specs.declared.command.Command.TheVariants.{Init, ImportFs, Remove, Sysext, Confext, Tree, Cat, Compare, Check, Layer, Migrate, Batch, Sample, Sysupdate, Components}
-use Rattle.ext_cmd.specs.declared.command.Command.TheVariants.{Mark, History, HistoryChanges, Rollback, Forget}
+use Rattle.ext_cmd.specs.declared.command.Command.TheVariants.{Mark, History, HistoryChanges, Rollback, Forget, Portable}
 use Rattle.ext_cmd.specs.declared.command.UpdateVerb.{UpdateVerb}
 use Rattle.ext_cmd.specs.declared.command.UpdateVerb.TheVariants as verbs
 use Rattle.ext_cmd.specs.declared.command.ViewCommand.{ViewCommand}
 use Rattle.ext_cmd.specs.declared.command.ViewCommand.TheVariants as views
+use Rattle.ext_cmd.specs.declared.portable.PortCommand.{PortCommand}
+use Rattle.ext_cmd.specs.declared.portable.PortCommand.TheVariants as services
 use Rattle.ext_cmd.specs.declared.answer.Answer.TheVariants as answers
 use Rattle.ext_cmd.specs.declared.refusal.Refusal.TheVariants as refusals
 use Rattle.ext_intents.specs.Cat.{cat_at}
@@ -30,9 +32,9 @@ use Rattle.ext_intents.specs.Tree.{meant_path, text_below, tree_at, tree_intent}
 use Rattle.ext_intents.specs.Views.{ViewWants}
 use Rattle.ext_intents.specs.declared.intent.Intent.{Intent}
 use Rattle.ext_intents.specs.declared.intent.Intent.TheVariants.{Answers, Changes, Checks, Refuses, Shows}
-use Rattle.ext_intents.proofs.ForCallers.{IsReplying, IsReplyingView, components_reply, history_changes_reply, history_reply, update_replies, view_replies}
+use Rattle.ext_intents.proofs.ForCallers.{IsReplying, IsReplyingPort, IsReplyingView, components_reply, history_changes_reply, history_reply, port_replies, update_replies, view_replies}
 use Rattle.ext_top.specs.Applying.{seen_on}
-use Rattle.ext_top.specs.Changing.{StaysUnlessChanging, may_change, may_verb_change, may_view_change}
+use Rattle.ext_top.specs.Changing.{StaysUnlessChanging, may_change, may_service_change, may_verb_change, may_view_change}
 use Rattle.ext_top.specs.Chain.{LinesRun, RunsOn}
 use Rattle.ext_top.specs.Devices.{DeviceStates, StoreSide, store_side_of}
 use Rattle.ext_top.specs.Exits.{does}
@@ -92,6 +94,15 @@ is_replying (verbs.Update wanted) reads = cc
 is_replying verbs.Vacuum reads = cc
 is_replying verbs.Features reads = tt
 
+-- a command of portable services that may change nothing only replies
+is_service_replying : (command : PortCommand) → may_service_change command ≡ false → IsReplyingPort command
+is_service_replying services.List reads = tt
+is_service_replying (services.Inspect image prefixes) reads = tt
+is_service_replying (services.IsAttached name) reads = tt
+is_service_replying (services.Attach words) reads = cc
+is_service_replying (services.Detach name) reads = cc
+is_service_replying (services.Reattach words) reads = cc
+
 no_next_seen : (seen : Seen) (files : Option Files) (command : Command) (intent : Intent) → may_change command ≡ false → WantsOf seen files command intent → next_of intent ≡ None
 no_next_seen seen files (Init arch scope hierarchies) intent reads wants = cc
 no_next_seen seen files (ImportFs resource path) intent reads wants = cc
@@ -113,6 +124,7 @@ no_next_seen seen files History intent reads wants = no_next_of_reply intent (hi
 no_next_seen seen files (HistoryChanges mark) intent reads wants = no_next_of_reply intent (history_changes_reply seen.host mark intent wants)
 no_next_seen seen files (Rollback mark) intent reads wants = cc
 no_next_seen seen files (Forget mark) intent reads wants = cc
+no_next_seen seen files (Portable command) intent reads wants = no_next_of_reply intent (port_replies seen.host seen.told command intent (is_service_replying command reads) wants)
 
 no_next_first : (command : Command) (intent : Intent) → may_change command ≡ false → WantsFirst command intent → next_of intent ≡ None
 no_next_first (Init arch scope hierarchies) intent reads wants = cc
@@ -135,6 +147,7 @@ no_next_first History intent reads wants = ap next_of wants
 no_next_first (HistoryChanges mark) intent reads wants = ap next_of wants
 no_next_first (Rollback mark) intent reads wants = cc
 no_next_first (Forget mark) intent reads wants = cc
+no_next_first (Portable command) intent reads wants = ap next_of wants
 
 no_next : (seen : Option Seen) (files : Option Files) (command : Command) (intent : Intent) → may_change command ≡ false → Wants seen files command intent → next_of intent ≡ None
 no_next None files command intent reads wants = no_next_first command intent reads wants
@@ -192,6 +205,7 @@ batch_changes History is = cc
 batch_changes (HistoryChanges mark) is = cc
 batch_changes (Rollback mark) is = cc
 batch_changes (Forget mark) is = cc
+batch_changes (Portable command) is = cc
 
 kind_stays : (kind : Kind) (command : Command) (old new : DeviceStates) (status : Status) → run_kind command ≡ kind → RunsKind kind command old new status → may_change command ≡ false → BothTold StaysTold old.disk.told new.disk.told
 kind_stays alone command old new status is runs reads = left_alone old new runs.disk

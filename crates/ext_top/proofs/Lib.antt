@@ -29,9 +29,11 @@ pub mod ChangingLemmas
 pub mod SeenLemmas
 pub mod StampsLemmas
 pub mod KeptEntriesLemmas
+pub mod ServicesLemmas
 pub mod BaseStaysLemmas
 pub mod WayLemmas
 pub mod UntouchedLemmas
 pub mod VersionsLemmas
 pub mod ReturningLemmas
 pub mod MarkingLemmas
+pub mod UndoingLemmas

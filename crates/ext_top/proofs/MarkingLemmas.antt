@@ -30,7 +30,7 @@ use Rattle.ext_gen.proofs.ForCallers.{opened_is_valid_for, opened_is_well_formed
 use Rattle.ext_cmd.specs.declared.answer.Answer.{Answer}
 use Rattle.ext_cmd.specs.declared.command.Command.{Command}
 use Rattle.ext_cmd.specs.declared.command.Command.TheVariants.{Init, ImportFs, Remove, Sysext, Confext, Tree, Cat, Compare, Check, Layer, Migrate, Batch, Sample, Sysupdate, Components}
-use Rattle.ext_cmd.specs.declared.command.Command.TheVariants.{Mark, History, HistoryChanges, Rollback, Forget}
+use Rattle.ext_cmd.specs.declared.command.Command.TheVariants.{Mark, History, HistoryChanges, Rollback, Forget, Portable}
 use Rattle.ext_intents.specs.Marks.{forget_of, mark_in, rollback_to}
 use Rattle.ext_intents.specs.declared.intent.Intent.TheVariants.{Changes}
 use Rattle.ext_intents.proofs.ForCallers.{finds}
@@ -153,6 +153,7 @@ module _ (g : Generation) (opened : IsOpened g) where
   wanted_kept Components old depot answer next marking wants = absurd marking
   wanted_kept History old depot answer next marking wants = absurd marking
   wanted_kept (HistoryChanges mark) old depot answer next marking wants = absurd marking
+  wanted_kept (Portable command) old depot answer next marking wants = absurd marking
 
 both_more : (P Q : Told → Told → Type 0) (d e : Option Told) → ((a b : Told) → P a b → Q a b) → BothTold P d e → BothTold Q d e
 both_more P Q None None more holds = tt

@@ -89,6 +89,17 @@ not_taken old depot files n refusal held path next home written told body why ta
     by_refusal (refusals.BadFeature line cause file) why is bytes there stamped = why
     by_refusal refusals.NoneOn why is bytes there stamped = why
     by_refusal (refusals.NoMark generation) why is bytes there stamped = why
+    by_refusal refusals.NoSuchImage why is bytes there stamped = why
+    by_refusal refusals.NotPortable why is bytes there stamped = why
+    by_refusal (refusals.BadRelease line) why is bytes there stamped = why
+    by_refusal (refusals.PrefixForbidden prefix) why is bytes there stamped = why
+    by_refusal refusals.NoUnits why is bytes there stamped = why
+    by_refusal refusals.NoProfile why is bytes there stamped = why
+    by_refusal (refusals.UnitExists place) why is bytes there stamped = why
+    by_refusal refusals.AlreadyAttached why is bytes there stamped = why
+    by_refusal refusals.NotAttached why is bytes there stamped = why
+    by_refusal (refusals.NoExtension extension) why is bytes there stamped = why
+    by_refusal (refusals.Extension extension cause) why is bytes there stamped = why
 
 in_depot : (depot : DepotState) (refusal : Refusal) (held : HeldFile) → WhyNot depot refusal held → (path : List (List ℕ)) × (held.body ≡ Depot path)
 in_depot depot (refusals.NotInDepot path) held why = (path, why.body)
@@ -114,6 +125,17 @@ in_depot depot (refusals.Clash place) held why = absurd why
 in_depot depot (refusals.BadFeature line cause file) held why = absurd why
 in_depot depot refusals.NoneOn held why = absurd why
 in_depot depot (refusals.NoMark generation) held why = absurd why
+in_depot depot refusals.NoSuchImage held why = absurd why
+in_depot depot refusals.NotPortable held why = absurd why
+in_depot depot (refusals.BadRelease line) held why = absurd why
+in_depot depot (refusals.PrefixForbidden prefix) held why = absurd why
+in_depot depot refusals.NoUnits held why = absurd why
+in_depot depot refusals.NoProfile held why = absurd why
+in_depot depot (refusals.UnitExists path) held why = absurd why
+in_depot depot refusals.AlreadyAttached held why = absurd why
+in_depot depot refusals.NotAttached held why = absurd why
+in_depot depot (refusals.NoExtension extension) held why = absurd why
+in_depot depot (refusals.Extension extension cause) held why = absurd why
 
 module _ (old : Stored) (depot : DepotState) (files : Files) (told : depot.contents ≡ Some files) (n : ℕ) where
   -- such a file isn't placed
@@ -218,6 +240,17 @@ module _ (depot : DepotState) (files : Files) (told : depot.contents ≡ Some fi
   why_once (refusals.NotInDepot p) (refusals.BadFeature line why file) x y = absurd y
   why_once (refusals.NotInDepot p) refusals.NoneOn x y = absurd y
   why_once (refusals.NotInDepot p) (refusals.NoMark generation) x y = absurd y
+  why_once (refusals.NotInDepot p) refusals.NoSuchImage x y = absurd y
+  why_once (refusals.NotInDepot p) refusals.NotPortable x y = absurd y
+  why_once (refusals.NotInDepot p) (refusals.BadRelease line) x y = absurd y
+  why_once (refusals.NotInDepot p) (refusals.PrefixForbidden prefix) x y = absurd y
+  why_once (refusals.NotInDepot p) refusals.NoUnits x y = absurd y
+  why_once (refusals.NotInDepot p) refusals.NoProfile x y = absurd y
+  why_once (refusals.NotInDepot p) (refusals.UnitExists path) x y = absurd y
+  why_once (refusals.NotInDepot p) refusals.AlreadyAttached x y = absurd y
+  why_once (refusals.NotInDepot p) refusals.NotAttached x y = absurd y
+  why_once (refusals.NotInDepot p) (refusals.NoExtension extension) x y = absurd y
+  why_once (refusals.NotInDepot p) (refusals.Extension extension why) x y = absurd y
   why_once (refusals.Mismatch p listed found) refusals.NoStore x y = absurd y
   why_once (refusals.Mismatch p listed found) refusals.StoreExists x y = absurd y
   why_once (refusals.Mismatch p listed found) refusals.Merged x y = absurd y
@@ -239,6 +272,17 @@ module _ (depot : DepotState) (files : Files) (told : depot.contents ≡ Some fi
   why_once (refusals.Mismatch p listed found) (refusals.BadFeature line why file) x y = absurd y
   why_once (refusals.Mismatch p listed found) refusals.NoneOn x y = absurd y
   why_once (refusals.Mismatch p listed found) (refusals.NoMark generation) x y = absurd y
+  why_once (refusals.Mismatch p listed found) refusals.NoSuchImage x y = absurd y
+  why_once (refusals.Mismatch p listed found) refusals.NotPortable x y = absurd y
+  why_once (refusals.Mismatch p listed found) (refusals.BadRelease line) x y = absurd y
+  why_once (refusals.Mismatch p listed found) (refusals.PrefixForbidden prefix) x y = absurd y
+  why_once (refusals.Mismatch p listed found) refusals.NoUnits x y = absurd y
+  why_once (refusals.Mismatch p listed found) refusals.NoProfile x y = absurd y
+  why_once (refusals.Mismatch p listed found) (refusals.UnitExists path) x y = absurd y
+  why_once (refusals.Mismatch p listed found) refusals.AlreadyAttached x y = absurd y
+  why_once (refusals.Mismatch p listed found) refusals.NotAttached x y = absurd y
+  why_once (refusals.Mismatch p listed found) (refusals.NoExtension extension) x y = absurd y
+  why_once (refusals.Mismatch p listed found) (refusals.Extension extension why) x y = absurd y
   why_once refusals.NoStore y why wherefore = absurd why
   why_once refusals.StoreExists y why wherefore = absurd why
   why_once refusals.Merged y why wherefore = absurd why
@@ -260,6 +304,17 @@ module _ (depot : DepotState) (files : Files) (told : depot.contents ≡ Some fi
   why_once (refusals.BadFeature line cause file) y why wherefore = absurd why
   why_once refusals.NoneOn y why wherefore = absurd why
   why_once (refusals.NoMark generation) y why wherefore = absurd why
+  why_once refusals.NoSuchImage y why wherefore = absurd why
+  why_once refusals.NotPortable y why wherefore = absurd why
+  why_once (refusals.BadRelease line) y why wherefore = absurd why
+  why_once (refusals.PrefixForbidden prefix) y why wherefore = absurd why
+  why_once refusals.NoUnits y why wherefore = absurd why
+  why_once refusals.NoProfile y why wherefore = absurd why
+  why_once (refusals.UnitExists path) y why wherefore = absurd why
+  why_once refusals.AlreadyAttached y why wherefore = absurd why
+  why_once refusals.NotAttached y why wherefore = absurd why
+  why_once (refusals.NoExtension extension) y why wherefore = absurd why
+  why_once (refusals.Extension extension cause) y why wherefore = absurd why
 
 module _ (t : Tree) (s : State) (stands : Stands t s) (files : Files) where
   has_bytes : HasBytes (stored_of s) (contents_of s)
@@ -297,6 +352,17 @@ module _ (t : Tree) (s : State) (stands : Stands t s) (files : Files) where
   why_refused host (refusals.BadFeature line why file) refused = absurd refused
   why_refused host refusals.NoneOn refused = absurd refused
   why_refused host (refusals.NoMark generation) refused = absurd refused
+  why_refused host refusals.NoSuchImage refused = absurd refused
+  why_refused host refusals.NotPortable refused = absurd refused
+  why_refused host (refusals.BadRelease line) refused = absurd refused
+  why_refused host (refusals.PrefixForbidden prefix) refused = absurd refused
+  why_refused host refusals.NoUnits refused = absurd refused
+  why_refused host refusals.NoProfile refused = absurd refused
+  why_refused host (refusals.UnitExists path) refused = absurd refused
+  why_refused host refusals.AlreadyAttached refused = absurd refused
+  why_refused host refusals.NotAttached refused = absurd refused
+  why_refused host (refusals.NoExtension extension) refused = absurd refused
+  why_refused host (refusals.Extension extension why) refused = absurd refused
 
   some_none : (which : Which) (o : Option Which) → o ≡ Some which → o ≡ None → ⊥
   some_none which o is free = let wrong : Some which ≡ None = sym is ∙ free in cc

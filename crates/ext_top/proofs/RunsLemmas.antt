@@ -18,7 +18,7 @@ use Rattle.ext_io.specs.Whole.{Stopped}
 use Rattle.ext_io.specs.declared.whole.ReadErr.{ReadErr}
 use Rattle.ext_io.specs.declared.whole.ReadErr.TheVariants as reads
 use Rattle.ext_cmd.specs.declared.command.Command.TheVariants.{Init, ImportFs, Remove, Sysext, Confext, Tree, Cat, Compare, Check, Layer, Migrate, Batch, Sample, Sysupdate, Components}
-use Rattle.ext_cmd.specs.declared.command.Command.TheVariants.{Mark, History, HistoryChanges, Rollback, Forget}
+use Rattle.ext_cmd.specs.declared.command.Command.TheVariants.{Mark, History, HistoryChanges, Rollback, Forget, Portable}
 use Rattle.ext_intents.specs.declared.intent.Intent.{Intent}
 use Rattle.ext_intents.specs.declared.intent.Intent.TheVariants.{Answers, Refuses}
 use Rattle.ext_top.specs.Alone.{AloneWants, IsAlone, reads_source, status_of_refusal}
@@ -132,6 +132,7 @@ one_line_kind History compare layer batch sample = refl
 one_line_kind (HistoryChanges mark) compare layer batch sample = refl
 one_line_kind (Rollback mark) compare layer batch sample = refl
 one_line_kind (Forget mark) compare layer batch sample = refl
+one_line_kind (Portable command) compare layer batch sample = refl
 one_line_kind (Compare a b) compare layer batch sample = absurd (compare a b refl)
 one_line_kind Layer compare layer batch sample = absurd (layer refl)
 one_line_kind Batch compare layer batch sample = absurd (batch refl)

@@ -202,6 +202,17 @@ module _ (from : Option Generation) (next : Host) (old mid : DiskState) (later d
   refused_since (refusals.BadFeature line why file) refused = absurd refused
   refused_since refusals.NoneOn refused = absurd refused
   refused_since (refusals.NoMark generation) refused = absurd refused
+  refused_since refusals.NoSuchImage refused = absurd refused
+  refused_since refusals.NotPortable refused = absurd refused
+  refused_since (refusals.BadRelease line) refused = absurd refused
+  refused_since (refusals.PrefixForbidden prefix) refused = absurd refused
+  refused_since refusals.NoUnits refused = absurd refused
+  refused_since refusals.NoProfile refused = absurd refused
+  refused_since (refusals.UnitExists path) refused = absurd refused
+  refused_since refusals.AlreadyAttached refused = absurd refused
+  refused_since refusals.NotAttached refused = absurd refused
+  refused_since (refusals.NoExtension extension) refused = absurd refused
+  refused_since (refusals.Extension extension why) refused = absurd refused
 
 met_since : (from : Option Generation) (old mid new : DiskState) (later depot : DepotState) (refusal : Option Refusal) (after : Option Generation) → BothTold KeepsNow old.told mid.told → later.contents ≡ depot.contents → (intent : Intent)
     → Met intent from mid new later refusal after → Met intent from old new depot refusal after

@@ -4,11 +4,13 @@ use Rattle.ext_disk.specs.Disk.{BothTold}
 use Rattle.ext_cmd.specs.Words.{IsWellFormed, command_words}
 use Rattle.ext_cmd.specs.declared.command.Command.{Command}
 use Rattle.ext_cmd.specs.declared.command.Command.TheVariants.{Init, ImportFs, Remove, Sysext, Confext, Tree, Cat, Compare, Check, Layer, Migrate, Batch, Sample, Sysupdate, Components}
-use Rattle.ext_cmd.specs.declared.command.Command.TheVariants.{Mark, History, HistoryChanges, Rollback, Forget}
+use Rattle.ext_cmd.specs.declared.command.Command.TheVariants.{Mark, History, HistoryChanges, Rollback, Forget, Portable}
 use Rattle.ext_cmd.specs.declared.command.UpdateVerb.{UpdateVerb}
 use Rattle.ext_cmd.specs.declared.command.UpdateVerb.TheVariants as verbs
 use Rattle.ext_cmd.specs.declared.command.ViewCommand.{ViewCommand}
 use Rattle.ext_cmd.specs.declared.command.ViewCommand.TheVariants as views
+use Rattle.ext_cmd.specs.declared.portable.PortCommand.{PortCommand}
+use Rattle.ext_cmd.specs.declared.portable.PortCommand.TheVariants as services
 use Rattle.ext_top.specs.Devices.{DeviceStates}
 use Rattle.ext_top.specs.Working.{StaysTold}
 
@@ -29,6 +31,15 @@ may_verb_change verbs.CheckNew = false
 may_verb_change (verbs.Update wanted) = true
 may_verb_change verbs.Vacuum = true
 may_verb_change verbs.Features = false
+
+-- a command of portable services that may want another host
+abbrev pub may_service_change : PortCommand → Bool
+may_service_change services.List = false
+may_service_change (services.Inspect image prefixes) = false
+may_service_change (services.IsAttached name) = false
+may_service_change (services.Attach words) = true
+may_service_change (services.Detach name) = true
+may_service_change (services.Reattach words) = true
 
 -- a command that may want another host; a batch may, whatever its lines
 abbrev pub may_change : Command → Bool
@@ -52,6 +63,7 @@ may_change History = false
 may_change (HistoryChanges mark) = false
 may_change (Rollback mark) = true
 may_change (Forget mark) = true
+may_change (Portable command) = may_service_change command
 
 -- where the words are those of a command that may change nothing, nothing is made, removed or appended, whatever the disk has
 abbrev pub StaysUnlessChanging : List (List ℕ) → DeviceStates → DeviceStates → Type 0

@@ -16,6 +16,7 @@ use Rattle.ext_installed.specs.declared.instance.Instance.{Instance}
 use Rattle.ext_installed.specs.declared.instance.Instances.{Instances}
 use Rattle.ext_updated.specs.declared.piece.Piece.{Piece}
 use Rattle.ext_update.specs.Laws.{IsProtected}
+use Rattle.ext_units.specs.ImageName.{image_name}
 use Rattle.ext_gen.specs.Preparing.{host_before}
 use Rattle.ext_gen.specs.PreparingIndex.{coming_index}
 use Rattle.ext_store_files.specs.Appended.{Raises}
@@ -26,17 +27,20 @@ use Rattle.ext_cmd.specs.Replies.{answer_text}
 use Rattle.ext_cmd.specs.declared.answer.Answer.{Answer}
 use Rattle.ext_cmd.specs.declared.answer.Answer.TheVariants.{Order, Updated}
 use Rattle.ext_cmd.specs.declared.command.Command.{Command}
-use Rattle.ext_cmd.specs.declared.command.Command.TheVariants.{Compare, Confext, Forget, Mark, Rollback, Sample, Sysext, Sysupdate}
+use Rattle.ext_cmd.specs.declared.command.Command.TheVariants.{Compare, Confext, Forget, Mark, Portable, Rollback, Sample, Sysext, Sysupdate}
 use Rattle.ext_cmd.specs.declared.command.UpdateVerb.{UpdateVerb}
 use Rattle.ext_cmd.specs.declared.command.UpdateVerb.TheVariants as asks
 use Rattle.ext_cmd.specs.declared.command.ViewCommand.{ViewCommand}
 use Rattle.ext_cmd.specs.declared.command.ViewCommand.TheVariants as views
+use Rattle.ext_cmd.specs.declared.portable.AttachWords.{AttachWords}
+use Rattle.ext_cmd.specs.declared.portable.PortCommand.TheVariants.{Detach}
 use Rattle.ext_cmd.specs.declared.refusal.Refusal.{Refusal}
 use Rattle.ext_intents.specs.declared.intent.Intent.TheVariants.{Changes}
 use Rattle.ext_top.specs.Alone.{ComesAlone}
 use Rattle.ext_top.specs.Exits.{EndsLines, IsOnTheWay, Line, LineComes, Standing, does, durable}
 use Rattle.ext_top.specs.Machine.{Outcome, Step, gives}
 use Rattle.ext_top.specs.Returning.{IsBackAt}
+use Rattle.ext_top.specs.Services.{GivesBack, attaching}
 use Rattle.ext_top.specs.Untouched.{After, HasInstalled, IsInstalledAs, IsSameAt, IsUntouched, IsWellFormedLine, installed_in}
 use Rattle.ext_top.specs.Updating.{FindsInstances, UpdatesHost, pieces_in}
 use Rattle.ext_top.specs.Working.{Replaced, WantsOn}
@@ -168,6 +172,17 @@ RollbackGivesWhatWasMarked =
     → After u files lines v
     → Step v files (Rollback g.number) (gives w last)
     → IsBackAt (at g contents) w
+
+-- Detaching undoes attaching: from a state for which a store stands, where an image was attached, or attached anew, detaching it gives
+-- back what there was before, or what there was without the attachments that went for it. The store may lack the room, and there is no
+-- other refusal.
+abbrev pub DetachingUndoesAttaching : Type 0
+DetachingUndoesAttaching =
+    (t : Tree) (s u : State) (files later : Option Files) (again : Bool) (words : AttachWords) (reply : List ℕ) (outcome : Outcome)
+    → Stands t s
+    → Step s files (Portable (attaching again words)) (gives u reply)
+    → Step u later (Portable (Detach (image_name words.image))) outcome
+    → GivesBack again words.image s u outcome
 
 -- the commands of marks that change a host
 abbrev pub IsMarking : Command → Type 0

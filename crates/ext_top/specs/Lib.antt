@@ -16,6 +16,7 @@ pub mod Sampling
 pub mod Completing
 pub mod Changing
 pub mod Updating
+pub mod Services
 pub mod Returning
 pub mod Untouched
 pub mod Laws

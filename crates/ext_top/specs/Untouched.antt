@@ -1,8 +1,9 @@
 -- What lists of lines leave as it was, this project's own. Every search reads the base of a host. `import-fs` and `remove` write
 -- or cut it at and below their path, and with that the manifests of related paths go. An update, where it changes the host, writes
--- the resources and the links of its version and cuts what has to go; making room cuts. A rollback puts all that the mark had in
--- place of all that there is. No other command changes the base: merging, unmerging and refreshing change what is seen over it, `mark`
--- and `forget` change the marks, and `init` makes a host without entries.
+-- the resources and the links of its version and cuts what has to go; making room cuts. Attaching an image writes what it adds, and
+-- detaching one, or attaching it anew, cuts what was added. A rollback puts all that the mark had in place of all that there is. No
+-- other command changes the base: merging, unmerging and refreshing change what is seen over it, `mark` and `forget` change the marks,
+-- and `init` makes a host without entries.
 use Rattle.std.specs.Prelude.{◌≡◌, ℕ, false, IsTrue, List, [], ◌∷◌, Contains, Option, Some, None}
 use Rattle.ext_text.specs.Path.{are_related}
 use Rattle.ext_text.specs.SortedPaths.{is_among}
@@ -19,11 +20,12 @@ use Rattle.ext_update.specs.Stages.{items_of, touched_by}
 use Rattle.ext_gen.specs.Store.{State, none, at}
 use Rattle.ext_cmd.specs.Words.{IsWellFormed}
 use Rattle.ext_cmd.specs.declared.command.Command.{Command}
-use Rattle.ext_cmd.specs.declared.command.Command.TheVariants.{ImportFs, Remove, Rollback, Sysupdate}
+use Rattle.ext_cmd.specs.declared.command.Command.TheVariants.{ImportFs, Portable, Remove, Rollback, Sysupdate}
 use Rattle.ext_cmd.specs.declared.command.UpdateVerb.{UpdateVerb}
 use Rattle.ext_cmd.specs.declared.command.UpdateVerb.TheVariants as verbs
 use Rattle.ext_top.specs.Exits.{Line, LineComes, does, unread, wrong}
 use Rattle.ext_top.specs.Machine.{Outcome, bytes_at, state_after}
+use Rattle.ext_top.specs.Services.{TouchesByService}
 use Rattle.ext_top.specs.Updating.{MakesRoomIn, UpdatesHost, writes_in}
 
 -- the state after all of these lines
@@ -46,6 +48,7 @@ CommandTouches s files (ImportFs resource target) path = path ≡ target
 CommandTouches s files (Remove target) path = path ≡ target
 CommandTouches s files (Sysupdate component verb) path = TouchesByVerb s files component verb path
 CommandTouches s files (Rollback mark) path = Unit {0}
+CommandTouches s files (Portable command) path = TouchesByService s command path
 CommandTouches s files _ path = ⊥
 
 -- the line does: words that are no command touch nothing

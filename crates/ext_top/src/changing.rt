@@ -1,8 +1,8 @@
 // Which commands may change a store.
 ghost use Rattle.std.specs.Prelude.{◌≡◌};
-ghost use Rattle.ext_top.specs.Changing.{may_change, may_verb_change, may_view_change};
+ghost use Rattle.ext_top.specs.Changing.{may_change, may_service_change, may_verb_change, may_view_change};
 
-use ext_cmd::{Command, UpdateVerb, ViewCommand};
+use ext_cmd::{Command, PortCommand, UpdateVerb, ViewCommand};
 
 /// Whether a command may make, remove or append anything in a store folder; `batch` may, whatever its lines. Where a command may
 /// not, a run of it does not, whatever stands there. `run` says so.
@@ -29,6 +29,7 @@ pub fn may_change(command: &Command) -> bool
         | Command::History
         | Command::HistoryChanges { .. } => false,
         Command::Sysupdate { verb, .. } => may_verb_change(verb),
+        Command::Portable(command) => may_service_change(command),
     }
 }
 
@@ -50,5 +51,14 @@ fn may_verb_change(verb: &UpdateVerb) -> bool
     match verb {
         UpdateVerb::List | UpdateVerb::CheckNew | UpdateVerb::Features => false,
         UpdateVerb::Update { .. } | UpdateVerb::Vacuum => true,
+    }
+}
+
+fn may_service_change(command: &PortCommand) -> bool
+    ensures { result ≡ may_service_change command.now }
+{
+    match command {
+        PortCommand::List | PortCommand::Inspect { .. } | PortCommand::IsAttached { .. } => false,
+        PortCommand::Attach(_) | PortCommand::Detach { .. } | PortCommand::Reattach(_) => true,
     }
 }

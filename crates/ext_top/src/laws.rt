@@ -1,8 +1,9 @@
 //! Laws of the machine, each the contract of a function that does nothing: what holds of every command, state and source.
 ghost use Rattle.ext_top.specs.Exits.{IsOnTheWay};
-ghost use Rattle.ext_top.specs.Laws.{AddedVersionsStay, AfterSomeIsOnTheWay, CompareIsDone, DoneLinesLeaveTheStateAfter};
-ghost use Rattle.ext_top.specs.Laws.{MarksAppendTheirIndex, OnTheWayIsAfterSome, OneOutcome, OneReply, ProtectedVersionsStay};
-ghost use Rattle.ext_top.specs.Laws.{RefreshLeavesWhatBothLeave, RollbackGivesWhatWasMarked, UntouchedManifestsStay, WhatNoLineTouchesStays};
+ghost use Rattle.ext_top.specs.Laws.{AddedVersionsStay, AfterSomeIsOnTheWay, CompareIsDone, DetachingUndoesAttaching};
+ghost use Rattle.ext_top.specs.Laws.{DoneLinesLeaveTheStateAfter, MarksAppendTheirIndex, OnTheWayIsAfterSome, OneOutcome, OneReply};
+ghost use Rattle.ext_top.specs.Laws.{ProtectedVersionsStay, RefreshLeavesWhatBothLeave, RollbackGivesWhatWasMarked, UntouchedManifestsStay};
+ghost use Rattle.ext_top.specs.Laws.{WhatNoLineTouchesStays};
 ghost use Rattle.ext_top.specs.Untouched.{After};
 
 use ext_intents::laws::a_command_wants_one_thing;
@@ -55,8 +56,9 @@ pub fn done_lines_leave_the_state_after()
 /// What no line touches stays. From a state for which a store stands, lines none of which touches a path that is at, above or
 /// below a path leave the base the same entries at and below that path, and the files there the same bytes, after all of them
 /// and on the way. `import-fs` and `remove` touch their path. An update that changes the host touches what it writes and what goes
-/// for that, and `vacuum` what goes. A rollback touches every path. No other command touches any: merging, unmerging and refreshing
-/// change what is seen over the base.
+/// for that, and `vacuum` what goes. Attaching an image touches what it adds, detaching one what was added, and attaching one anew
+/// both. A rollback touches every path. No other command touches any: merging, unmerging and refreshing change what is seen over the
+/// base.
 pub fn what_no_line_touches_stays()
     ensures after { WhatNoLineTouchesStays After }
     ensures on_the_way { WhatNoLineTouchesStays IsOnTheWay }
@@ -98,6 +100,15 @@ pub fn protected_versions_stay()
 /// names, attachments and manifests. It is refused where the lines dropped the mark.
 pub fn a_rollback_gives_what_was_marked()
     ensures { RollbackGivesWhatWasMarked }
+{}
+
+/// Detaching undoes attaching. From a state for which a store stands, after a done `portable attach` or `portable reattach` of an image,
+/// with extensions or without, detaching it leaves a host that has at each path what was seen before, and in the ways to what was added,
+/// where nothing stood, a directory of mode 755; the same bytes, the same merged names and what lay under these; the attachments that
+/// there were; and the manifests but those that are related to what was added. Where it was attached anew, what there was is what there
+/// was without the attachments that went. It is refused only where the store has no number for a generation, or no room for its index.
+pub fn detaching_undoes_attaching()
+    ensures { DetachingUndoesAttaching }
 {}
 
 /// A done `mark`, `rollback` or `forget` writes no file. On any disk that tells what it holds, what a run says that its line met goes

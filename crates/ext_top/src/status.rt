@@ -5,7 +5,7 @@ use crate::bad_store::BadStore;
 use ext_cmd::Refusal;
 
 /// How a run ended.
-#[derive(Debug, Drop, PartialEq, Eq)]
+#[derive(Debug, Drop)]
 pub enum Status {
     /// The command was done, and its reply was written.
     Done,

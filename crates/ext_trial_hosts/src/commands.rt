@@ -1,7 +1,8 @@
 // The words of commands.
+use crate::service_words::{append_list, append_portable};
 use ext_case::{Trouble, append_number, append_path, append_str, one};
 use ext_cmd::{Chosen, CmdErr, Command, UpdateVerb, ViewCommand, read_line, read_words};
-use ext_text::{Names, Path, Text, Words};
+use ext_text::{Path, Text, Words};
 use ext_transfer::Component;
 use std::alloc::Global;
 
@@ -94,6 +95,7 @@ fn append_command(alloc: Global, text: &mut Text, command: &Command) -> Result<(
             append_update(text, verb)
         }
         Command::Components => append_str(text, "Components"),
+        Command::Portable(command) => append_portable(alloc, text, command),
         Command::Mark { keep: None } => append_str(text, "Mark"),
         Command::Mark { keep: Some(keep) } => append_counted(alloc, text, "Mark ", *keep),
         Command::History => append_str(text, "History"),
@@ -201,15 +203,4 @@ fn append_chosen(text: &mut Text, chosen: &Chosen) -> Result<(), Trouble> {
             append_list(text, confext)
         }
     }
-}
-
-// ` [NAME NAME ..]`.
-fn append_list(text: &mut Text, names: &Names) -> Result<(), Trouble> {
-    let mut before = " [";
-    for name in names.as_slice() {
-        append_str(text, before)?;
-        text.append(name.bytes())?;
-        before = " ";
-    }
-    append_str(text, "]")
 }

@@ -32,7 +32,11 @@ fn item_of(alloc: Global, arguments: &[Text]) -> Result<Item, Trouble> {
     }
 }
 
-fn kind_of(word: &[u8]) -> Result<ItemKind, Trouble> {
+/// What an item is by a word.
+///
+/// # Errors
+/// `Unreadable` where no item is of this kind.
+pub(crate) fn kind_of(word: &[u8]) -> Result<ItemKind, Trouble> {
     match word {
         b"masked" => Ok(ItemKind::Masked),
         b"raw" => Ok(ItemKind::Raw),

@@ -1,4 +1,4 @@
-// The laws of commands, hosts, marks, changes, indexes, searches and views.
+// The laws of commands, hosts, marks, changes, indexes, searches, views and portable services.
 use ext_tree::Stamp;
 
 /// Calls each law, a generic one for stamps. A law has no body that could do anything. Its contract is a theorem.
@@ -8,6 +8,7 @@ pub(crate) fn call_laws() {
     call_laws_of_changes();
     call_laws_of_indexes();
     call_laws_of_views();
+    call_laws_of_services();
     ext_find::laws::an_entry_gives_one_item::<Stamp>();
     ext_find::laws::there_is_one_found_list::<Stamp>();
     ext_cmd::laws::words_are_of_one_command();
@@ -60,4 +61,23 @@ fn call_laws_of_views() {
     ext_view::laws::nothing_hides_in_views();
     ext_view::laws::merging_keeps_the_base();
     ext_view::laws::unmerge_undoes_merge();
+}
+
+fn call_laws_of_services() {
+    ext_units::laws::there_is_one_image();
+    ext_units::laws::there_is_one_choice_of_units::<Stamp>();
+    ext_units::laws::there_is_one_inspection();
+    ext_units::laws::there_is_one_list_of_units::<Stamp>();
+    ext_units::laws::units_ascend::<Stamp>();
+    ext_units::laws::each_unit_has_a_prefix::<Stamp>();
+    ext_units::laws::the_first_entry_decides::<Stamp>();
+    ext_attached::laws::a_detached_host_is_planned();
+    ext_attached::laws::there_is_one_least_path();
+    ext_attached::laws::other_states_stay();
+    ext_attached::laws::taking_away_twice_is_taking_away_once();
+    ext_port::laws::what_is_added_is_recorded();
+    ext_port::laws::detaching_undoes_attaching();
+    ext_port::laws::reattaching_is_detaching_and_attaching();
+    ext_portext::laws::without_extensions_it_is_attaching();
+    ext_portext::laws::there_is_one_unit_tree();
 }

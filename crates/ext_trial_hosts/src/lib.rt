@@ -25,6 +25,8 @@ mod releases;
 mod replies;
 mod samples;
 mod searches;
+mod service_words;
+mod services;
 mod showing;
 mod subject;
 mod updates;

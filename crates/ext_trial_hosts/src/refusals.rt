@@ -1,4 +1,5 @@
 // Refusals, their numbers and their lines.
+use crate::services::service_refusal;
 use crate::updates::{bad_feature, bad_transfer};
 use ext_case::{
     Trouble, digest, five, name, none, number, number_line, one, one_and_more, path, small, two,
@@ -33,6 +34,12 @@ fn plain_refusal(word: &[u8]) -> Option<Refusal> {
         b"store-exists" => Some(Refusal::StoreExists),
         b"merged" => Some(Refusal::Merged),
         b"no-host-release" => Some(Refusal::NoHostRelease),
+        b"no-image" => Some(Refusal::NoSuchImage),
+        b"not-portable" => Some(Refusal::NotPortable),
+        b"no-units" => Some(Refusal::NoUnits),
+        b"no-profile" => Some(Refusal::NoProfile),
+        b"already-attached" => Some(Refusal::AlreadyAttached),
+        b"not-attached" => Some(Refusal::NotAttached),
         b"no-transfers" => Some(Refusal::NoTransfers),
         b"none-newer" => Some(Refusal::NoneNewer),
         b"none-on" => Some(Refusal::NoneOn),
@@ -42,7 +49,7 @@ fn plain_refusal(word: &[u8]) -> Option<Refusal> {
 
 // A refusal that tells more: `bad-host-release LINE`, `limit WHICH`, `bad-transfer LINE WHY FILE`, `bad-feature LINE WHY FILE`,
 // `bad-manifest LINE PATH`, `bad-tree LINE [PATH]`, `mismatch PATH SIZE DIGEST SIZE DIGEST`, `no-such-version TEXT`,
-// `no-room COUNT FILE`, `no-mark N`, or a word and a path.
+// `no-room COUNT FILE`, `no-mark N`, one of portable services, or a word and a path.
 fn full_refusal(alloc: Global, word: &[u8], rest: &[Text]) -> Result<Refusal, Trouble> {
     match word {
         b"bad-host-release" => Ok(Refusal::BadHostRelease {
@@ -63,7 +70,10 @@ fn full_refusal(alloc: Global, word: &[u8], rest: &[Text]) -> Result<Refusal, Tr
         b"no-mark" => Ok(Refusal::NoMark {
             generation: small(one(rest)?)?,
         }),
-        _ => refusal_at(alloc, word, one(rest)?),
+        _ => match service_refusal(alloc, word, rest)? {
+            Some(refusal) => Ok(refusal),
+            None => refusal_at(alloc, word, one(rest)?),
+        },
     }
 }
 
@@ -136,6 +146,7 @@ fn refusal_at(alloc: Global, word: &[u8], at: &Text) -> Result<Refusal, Trouble>
         b"not-file" => Ok(Refusal::NotFile { path }),
         b"not-in-depot" => Ok(Refusal::NotInDepot { path }),
         b"clash" => Ok(Refusal::Clash { path }),
+        b"exists" => Ok(Refusal::UnitExists { path }),
         _ => Err(Trouble::Unreadable("no such refusal")),
     }
 }

@@ -1,10 +1,11 @@
 // Answers and their texts.
 use crate::items::items;
 use crate::marks::{changes, marks, origins};
+use crate::services::{inspected, names_of, services, state};
 use crate::updates::{feature_items, version_items};
-use ext_case::{Trouble, digest, four, name, none, number, one, one_and_more, path, small, two};
+use ext_case::{Trouble, digest, four, none, number, one, one_and_more, path, small, two};
 use ext_cmd::{Answer, answer_text};
-use ext_text::{Names, SortedPaths, Text};
+use ext_text::{SortedPaths, Text};
 use std::alloc::Global;
 use std::cmp::Ordering;
 
@@ -33,13 +34,15 @@ fn plain_answer(word: &[u8]) -> Option<Answer> {
         b"less" => Some(Answer::Order(Ordering::Less)),
         b"equal" => Some(Answer::Order(Ordering::Equal)),
         b"greater" => Some(Answer::Order(Ordering::Greater)),
+        b"detached" => Some(Answer::Detached),
         _ => None,
     }
 }
 
 // An answer that tells more: `merged NAME..`, `found ITEM..`, `tree TEXT`, `checked FILES BYTES`,
 // `sample ENTRIES FILES BYTES DIGEST`, `versions ITEM..`, `version TEXT`, `updated TEXT`, `removed PATH..`, `features ITEM..`,
-// `components NAME..`, `marked N`, `history MARK..`, `changes CHANGE..`, `explained ORIGIN..`.
+// `components NAME..`, `marked N`, `history MARK..`, `changes CHANGE..`, `explained ORIGIN..`, `services ITEM..`,
+// `inspected PLACE ID VERSION UNIT..`, `state STATE`, `attached UNIT..`.
 fn full_answer(alloc: Global, word: &[u8], rest: &[Text]) -> Result<Answer, Trouble> {
     match word {
         b"merged" => Ok(Answer::Merged(names_of(alloc, rest)?)),
@@ -59,16 +62,12 @@ fn full_answer(alloc: Global, word: &[u8], rest: &[Text]) -> Result<Answer, Trou
         b"history" => Ok(Answer::History(marks(alloc, rest)?)),
         b"changes" => Ok(Answer::Changes(changes(alloc, rest)?)),
         b"explained" => Ok(Answer::Explained(origins(alloc, rest)?)),
+        b"services" => Ok(Answer::Services(services(alloc, rest)?)),
+        b"inspected" => inspected(alloc, rest),
+        b"state" => Ok(Answer::State(state(one(rest)?)?)),
+        b"attached" => Ok(Answer::Attached(names_of(alloc, rest)?)),
         _ => Err(Trouble::Unreadable("no such answer")),
     }
-}
-
-fn names_of(alloc: Global, arguments: &[Text]) -> Result<Names, Trouble> {
-    let mut names = Names::new(alloc);
-    for argument in arguments {
-        names.push(name(alloc, argument)?)?;
-    }
-    Ok(names)
 }
 
 // The paths in path order, each once.

@@ -11,10 +11,10 @@ returns-in-None c = then_missing IsPathWord HasNoMore c.args.words.now c.args.fi
 pub returns-in_err-path-in-Some : goal.returns-in_err-path-in-Some
 returns-in_err-path-in-Some c =
     let p = err_from_is_err_and c.from_residual.result c.from_residual.ensures.1 in
-    rw (p.1, p.2) (then_wrong IsPathWord HasNoMore c.in-Some.word.now c.in-Some.more.now c.args.words.now c.args.first _ some_last_path c.in-Some.ensures c.in_err-path-in-Some.ensures)
+    rw (p.1, p.2) (then_wrong IsPathWord HasNoMore c.in-Some.word.now c.in-Some.more c.args.words.now c.args.first _ some_last_path c.in-Some.ensures c.in_err-path-in-Some.ensures)
 
 pub returns-in_err-no_more-in-Some : goal.returns-in_err-no_more-in-Some
 returns-in_err-no_more-in-Some c =
     let p = err_from_is_err_and c.from_residual-in_err-no_more-in-Some.result c.from_residual-in_err-no_more-in-Some.ensures.1 in
     let path = c.in_ok-path-in-Some.ensures in
-    rw (p.1, p.2) (then_after IsPathWord HasNoMore c.in-Some.word.now c.in-Some.more.now c.args.words.now c.args.first _ _ refl (record { value = c.in_ok-path-in-Some.path; is = path.0; same = path.1 }) c.in-Some.ensures c.in_err-no_more-in-Some.ensures)
+    rw (p.1, p.2) (then_after IsPathWord HasNoMore c.in-Some.word.now c.in-Some.more c.args.words.now c.args.first _ _ refl (record { value = c.in_ok-path-in-Some.path; is = path.0; same = path.1 }) c.in-Some.ensures c.in_err-no_more-in-Some.ensures)

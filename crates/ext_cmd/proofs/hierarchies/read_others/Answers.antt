@@ -7,12 +7,12 @@ use Rattle.ext_cmd.proofs.hierarchies.read_others.Goals as goal
 pub returns-in_err-confext-in-Some : goal.returns-in_err-confext-in-Some
 returns-in_err-confext-in-Some c =
     let p = err_from_is_err_and c.from_residual.result c.from_residual.ensures.1 in
-    rw (p.1, p.2) (others_refused c.args.sysext c.in-Some.word.now c.in-Some.more.now c.args.more.now _ c.requires c.in-Some.ensures c.in_err-confext-in-Some.ensures)
+    rw (p.1, p.2) (others_refused c.args.sysext c.in-Some.word.now c.in-Some.more c.args.more.now _ c.requires c.in-Some.ensures c.in_err-confext-in-Some.ensures)
 
 pub returns-then-not-are_apart : goal.returns-then-not-are_apart
 returns-then-not-are_apart c =
     let others = c.in_ok-confext-in-Some.ensures in
-    clash_refused c.args.sysext c.in_ok-confext-in-Some.confext c.in-Some.word.now c.in-Some.more.now c.args.more.now c.requires others.0 others.1
+    clash_refused c.args.sysext c.in_ok-confext-in-Some.confext c.in-Some.word.now c.in-Some.more c.args.more.now c.requires others.0 others.1
     (told_apart _ _ _ _ false c.as_slice.ensures c.as_slice-in-Some.ensures c.if-not-are_apart.ensures) c.in-Some.ensures
 
 pub returns-in_err-no_more-in-Some : goal.returns-in_err-no_more-in-Some
@@ -20,12 +20,12 @@ returns-in_err-no_more-in-Some c =
     let p = err_from_is_err_and c.from_residual-in_err-no_more-in-Some.result c.from_residual-in_err-no_more-in-Some.ensures.1 in
     let others = c.in_ok-confext-in-Some.ensures in
     let confext = c.in_ok-confext-in-Some.confext in
-    rw (p.1, p.2) (more_refused c.args.sysext confext c.in-Some.word.now c.in-Some.more.now c.args.more.now _ others.0
+    rw (p.1, p.2) (more_refused c.args.sysext confext c.in-Some.word.now c.in-Some.more c.args.more.now _ others.0
     (apart_true c.args.sysext confext (told_apart _ _ _ confext true c.as_slice.ensures c.as_slice-in-Some.ensures c.if-not-are_apart.ensures)) others.1 c.in-Some.ensures c.in_err-no_more-in-Some.ensures)
 
 pub returns-in_ok-no_more-in-Some : goal.returns-in_ok-no_more-in-Some
 returns-in_ok-no_more-in-Some c =
     let others = c.in_ok-confext-in-Some.ensures in
     let confext = c.in_ok-confext-in-Some.confext in
-    both_read c.args.sysext confext c.in-Some.word.now c.in-Some.more.now c.args.more.now c.requires others.0
+    both_read c.args.sysext confext c.in-Some.word.now c.in-Some.more c.args.more.now c.requires others.0
     (apart_true c.args.sysext confext (told_apart _ _ _ confext true c.as_slice.ensures c.as_slice-in-Some.ensures c.if-not-are_apart.ensures)) others.1 c.in-Some.ensures c.in_ok-no_more-in-Some.ensures.1

@@ -15,11 +15,11 @@ returns-in-None c = then_missing Text (Then Text HasNoMore) c.args.more.now 2 so
 
 pub returns-in-None-next : goal.returns-in-None-next
 returns-in-None-next c =
-    then_after Text (Then Text HasNoMore) c.in-Some.a.now c.in-Some.more.now c.args.more.now 2 3 (Usage 3) refl tt c.in-Some.ensures
-    (then_missing Text HasNoMore c.in-Some.more.now 3 some_text c.in-None-next.ensures)
+    then_after Text (Then Text HasNoMore) c.in-Some.a.now c.in-Some.more c.args.more.now 2 3 (Usage 3) refl tt c.in-Some.ensures
+    (then_missing Text HasNoMore c.in-Some.more 3 some_text c.in-None-next.ensures)
 
 pub returns-in_err-no_more-in-Some-next : goal.returns-in_err-no_more-in-Some-next
 returns-in_err-no_more-in-Some-next c =
     let p = err_from_is_err_and c.from_residual.result c.from_residual.ensures.1 in
-    rw (p.1, p.2) (then_after Text (Then Text HasNoMore) c.in-Some.a.now c.in-Some.more.now c.args.more.now 2 3 _ refl tt c.in-Some.ensures
-    (then_after Text HasNoMore c.in-Some-next.b.now c.in-Some-next.more.now c.in-Some.more.now 3 4 _ refl tt c.in-Some-next.ensures c.in_err-no_more-in-Some-next.ensures))
+    rw (p.1, p.2) (then_after Text (Then Text HasNoMore) c.in-Some.a.now c.in-Some.more c.args.more.now 2 3 _ refl tt c.in-Some.ensures
+    (then_after Text HasNoMore c.in-Some-next.b.now c.in-Some-next.more c.in-Some.more 3 4 _ refl tt c.in-Some-next.ensures c.in_err-no_more-in-Some-next.ensures))

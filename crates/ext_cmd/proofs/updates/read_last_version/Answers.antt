@@ -8,4 +8,4 @@ pub returns-in_err-no_more-in-Some : goal.returns-in_err-no_more-in-Some
 returns-in_err-no_more-in-Some c =
     let p = err_from_is_err_and c.from_residual-in_err-no_more-in-Some.result c.from_residual-in_err-no_more-in-Some.ensures.1 in
     let version = c.in_ok-version-in-Some.ensures in
-    rw (p.1, p.2) (maybe_after IsVersionWord HasNoMore c.in-Some.word.now c.in-Some.more.now c.args.words.now c.args.first _ _ refl (record { value = c.in_ok-version-in-Some.version; is = version.0; same = version.1 }) c.in-Some.ensures c.in_err-no_more-in-Some.ensures)
+    rw (p.1, p.2) (maybe_after IsVersionWord HasNoMore c.in-Some.word.now c.in-Some.more c.args.words.now c.args.first _ _ refl (record { value = c.in_ok-version-in-Some.version; is = version.0; same = version.1 }) c.in-Some.ensures c.in_err-no_more-in-Some.ensures)

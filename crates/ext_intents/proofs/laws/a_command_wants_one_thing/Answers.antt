@@ -1,5 +1,6 @@
 use Rattle.ext_intents.proofs.OneImportLemmas.{TextLaws}
 use Rattle.ext_intents.proofs.OneIntentLemmas.{one_intent}
+use Rattle.ext_intents.proofs.OnePortableLemmas.{PortLaws}
 use Rattle.ext_intents.proofs.OneUpdateLemmas.{UpdateLaws}
 use Rattle.ext_intents.proofs.OneViewLemmas.{SurveyLaws}
 use Rattle.ext_intents.proofs.laws.a_command_wants_one_thing.Goals as goal
@@ -30,4 +31,10 @@ returns c =
       one_update = c.one_thing_is_wanted.ensures.update;
       one_vacuum = c.one_thing_is_wanted.ensures.vacuum;
     } in
-    one_intent texts surveys updates
+    let ports : PortLaws = record {
+      one_found = c.there_is_one_found_list.ensures;
+      one_inspect = c.there_is_one_inspection.ensures;
+      one_attach = c.there_is_one_attachment.ensures;
+      one_extended = c.there_is_one_extended_attachment.ensures;
+    } in
+    one_intent texts surveys updates ports

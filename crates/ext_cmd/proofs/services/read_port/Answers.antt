@@ -1,0 +1,11 @@
+use Rattle.ext_cmd.proofs.PortLemmas.{no_port, read_port, unknown_port}
+use Rattle.ext_cmd.proofs.services.read_port.Goals as goal
+
+pub returns-in-None : goal.returns-in-None
+returns-in-None c = no_port c.args.words.now c.in-None.ensures
+
+pub returns-in-None-read : goal.returns-in-None-read
+returns-in-None-read c = unknown_port c.in-Some.word.now c.in-Some.more c.args.words.now c.in-Some.ensures c.in-None-read.ensures
+
+pub returns-in-Some-read : goal.returns-in-Some-read
+returns-in-Some-read c = read_port c.in-Some.word.now c.in-Some.more c.args.words.now c.in-Some-read.port c.read_after.result c.in-Some.ensures c.in-Some-read.ensures c.read_after.ensures
