@@ -50,6 +50,8 @@ WRONG = [
     ('exec {program} "$@" | sed s/available/installed/', kinds.Transfers, "and not"),
     ('exec {program} "$@" | sed "s/beta on/beta off/"', kinds.Features, "and not"),
     ('exec {program} "$@" | sed "s/^d 755 usr$/d 700 usr/"', kinds.Images, "it wrote"),
+    ('exec {program} "$@" | sed s/^id/di/', kinds.Service_Releases, "and not"),
+    ('exec {program} "$@" | sed "s/^f 644/f 755/"', kinds.Unit_Files, "and not"),
     ("echo 'hostext: usage 9' >&2; exit 2", kinds.Words, "and the place is|it ended with 2"),
     ('exec {program} "$@" | sed s/^done/do/', kinds.Batches, "it replies"),
 ]
@@ -126,7 +128,7 @@ def a_text_is_made_no_smaller_than_what_fails(_program):
 
 READERS = {
     kinds.Trees: read_tree, kinds.Layers: read_sequence, kinds.Manifests: read_manifest, kinds.Features: read_feature, kinds.Host_Releases: read_release,
-    kinds.Releases: read_release, kinds.Indexes: lambda text: Index(text, 8), kinds.Transfers: lambda text: Transfer(text, kinds.SPECIFIERS),
+    kinds.Releases: read_release, kinds.Service_Releases: read_release, kinds.Indexes: lambda text: Index(text, 8), kinds.Transfers: lambda text: Transfer(text, kinds.SPECIFIERS),
 }
 
 

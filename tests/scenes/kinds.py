@@ -14,7 +14,7 @@ from scenes.releases import read_release, verdict
 from scenes.replies import Replies
 from scenes.running import ABC, EMPTY, TOP, Failed, tree_text
 from scenes.stores import EMPTY_INDEX, KEPT, MERGED, OLD_INDEX
-from scenes.tree_texts import Faulty, entry_of, layered, names_of, read_sequence, read_tree, resolved, text_of
+from scenes.tree_texts import Faulty, entry_of, is_name, layered, names_of, read_sequence, read_tree, resolved, text_of
 from scenes.updates import compared
 from scenes.uses import RESOURCES, TRANSFER, list_updates, tree_of
 from scenes.words import CHAIN, ORDERS
@@ -36,7 +36,7 @@ def copy_examples(bench):
     """Puts the resources of the examples, and some of the uses, into the depot."""
     for name in "host", "images/tool-2", "images/vendor":
         bench.resource(name, (EXAMPLES / f"{name}.tree").read_bytes(), files_below(EXAMPLES / name))
-    used = "few", "x", "foos", "two-transfers", "images/tool_2"
+    used = "few", "x", "foos", "two-transfers", "images/tool_2", "app", "profile"
     for name, files in {**{name: RESOURCES[name] for name in used}, "conf": CONFIGURATION}.items():
         bench.resource(name, tree_of(files), files)
     list_updates(bench.depot / "images")
@@ -587,6 +587,97 @@ class Features(Updating):
             self.bench.restore()
 
 
+# Where units are attached, what their image and their profile hold, and what their names end in.
+ATTACHED, UNITS, PROFILE = "run/systemd/system.attached", "usr/lib/systemd/system", "usr/lib/systemd/portable/profile/default/service.conf"
+UNIT = b"[Unit]\nDescription=A service\n\n[Service]\nType=notify\nExecStart=/usr/bin/app --all\nRestart=on-failure\n\n[Install]\nWantedBy=multi-user.target\n"
+ENDINGS = b".service", b".socket", b".target", b".timer", b".path"
+
+
+class Services(Kind):
+    """Inputs that are a file of an image of a portable service, each of an image of its own, which is attached while the program runs and
+    detached again. All are imported as one tree. A drop-in stands only beside units that end in `.service`."""
+
+    many = 40
+
+    def prepare(self):
+        files = {PROFILE: b"[Service]\nPrivateTmp=yes\n"}
+        self.bench.resource("host", tree_of(files), files)
+        self.bench.resource("empty", tree_text())
+        self.bench.make("init x86-64 system", "import-fs host /", f"import-fs empty /{ATTACHED}")
+
+    def judge(self, texts):
+        """Of each image, what its two lines and those between them write."""
+        files, lines, wanted = {}, [b"import-fs services /var/lib/portables"], b"done\n"
+        for at, text in enumerate(texts):
+            image = b"app_%02d" % at
+            found = self.files_of(text)
+            files |= {f"{image.decode()}/{path}": content for path, content in found.items()}
+            lines += [b"portable inspect %b app" % image, b"portable attach %b app --runtime" % image, f"tree /{ATTACHED}".encode(), b"portable detach %b" % image]
+            wanted += self.said(image, found)
+        self.bench.resource("services", tree_of(files), files)
+        try:
+            expect(self.bench.batch(lines, max(map(len, texts))), wanted)
+        finally:
+            self.bench.restore()
+
+    def said(self, image, files):
+        """What the four lines of an image write."""
+        (path, unit), release = next((path, content) for path, content in files.items() if path.startswith(UNITS)), files["usr/lib/os-release"]
+        name = path.removeprefix(f"{UNITS}/").encode()
+        empty, not_attached = tree_text(), b"refused 19 not-attached\n"
+        try:
+            values = read_release(release)
+        except Faulty as fault:
+            return b"refused 13 bad-release %d\n" % fault.line * 2 + empty + not_attached
+        allowed = values.get(b"PORTABLE_PREFIXES")
+        if allowed is not None and b"app" not in transfers.words_of(allowed):
+            return b"refused 14 prefix app\n" * 2 + empty + not_attached
+        if not is_unit(name):
+            return b"refused 15 no-units\n" * 2 + empty + not_attached
+        about = b"image /var/lib/portables/%b\nid %b\nversion %b\nunit %b\n" % (image, values.get(b"ID", b"-"), values.get(b"VERSION_ID", b"-"), name)
+        if name.endswith(b".service") and not is_name(name + b".d"):
+            return about + b"refused 7 limit path\n" + empty + not_attached
+        return about + b"attached 1\n%b\n" % name + attached_text(image, name, unit) + b"detached\n"
+
+
+def is_unit(name):
+    return name.startswith((b"app-", b"app.", b"app@")) and name.endswith(ENDINGS)
+
+
+def attached_text(image, name, unit):
+    """What stands where units are attached, while this one is."""
+    entries = {(name,): (b"f", (b"644", b"%d" % len(unit), digits_of(unit)))}
+    if name.endswith(b".service"):
+        drop_in = b"# hostext portable %b\n[Service]\nRootDirectory=/var/lib/portables/%b\n" % (image, image)
+        folder, link = name + b".d", f"/{PROFILE}".encode()
+        entries |= {(folder,): (b"d", (b"755",)), (folder, b"10-profile.conf"): (b"l", (b"%d" % len(link), link))}
+        entries[folder, b"20-portable.conf"] = b"f", (b"644", b"%d" % len(drop_in), digits_of(drop_in))
+    return text_of(entries)
+
+
+class Service_Releases(Services):
+    """Each is the release file of an image."""
+
+    def found_bases(self):
+        own = b"ID=debian\nVERSION_ID=12\nPORTABLE_PREFIXES=app\n", b'ID=debian\nPORTABLE_PREFIXES="web app x"\n', b"PORTABLE_PREFIXES='app-x apple\tapp'\n", b"ID=\"a b\"\n"
+        return [*own * 4, *base_texts.releases()]
+
+    def files_of(self, text):
+        return {f"{UNITS}/app.service": UNIT, "usr/lib/os-release": text}
+
+
+class Unit_Files(Services):
+    """Each is the name of a unit, and after a line feed its bytes; the name is another where the text has none."""
+
+    def found_bases(self):
+        names = b"app.service", b"app-x.service", b"app@.service", b"app.timer", b"app-y.socket", b"app.target", b"app.path", b"apple.service", b"app.mount", b"app" + b"-x" * 121 + b".service"
+        return [name + b"\n" + content for name in names for content in (UNIT, b"", b"[Timer]\nOnCalendar=daily\n", b"\x00\xff")]
+
+    def files_of(self, text):
+        name, _, content = text.partition(b"\n")
+        return {f"{UNITS}/{(name if is_name(name) else b'app.service').decode()}": content, "usr/lib/os-release": b"ID=debian\n"}
+
+
 class Versions(Kind):
     """Two versions, a line each, by `compare` as a line of a batch."""
 
@@ -615,6 +706,11 @@ class Versions(Kind):
 
 # They bring two transfers and a target with three versions, and install a version in place of one.
 UPDATING = b"import-fs two-transfers /etc/sysupdate.d", b"import-fs foos /var/lib/foo", b"sysupdate update 2", b"sysupdate vacuum", b"sysupdate update"
+# They bring an image and a profile, attach it and take it away.
+ATTACHING = (
+    *(b"import-fs profile /run/systemd/portable/profile/default", b"import-fs app /var/lib/portables/app_1", b"portable attach app_1 --runtime", b"portable list"),
+    *(b"portable reattach --extension=tool-2 app_1 --runtime --copy=copy", b"portable is-attached app_1", b"portable inspect app_1 app", b"portable detach app_1"),
+)
 
 
 class Worded(Kind):
@@ -627,6 +723,7 @@ class Worded(Kind):
         *(b"batch", b"sample 2", b"sysupdate list", b"sysupdate --component=web check-new", b"sysupdate features", b"sysupdate components", b"import-fs few /srv/x", b"tree /usr"),
         *(b"mark", b"mark 3", b"history", b"history --changes 2", b"rollback 2", b"forget 2", b"sysext changes", b"confext changes --force", b"sysext explain /usr/bin/tool"),
         *(b"confext unmerge", *UPDATING, b"sysupdate --component=web update", b"sysupdate --component=web vacuum", b"sysupdate update 2.0~rc1"),
+        *(*ATTACHING, b"portable attach /srv/app_2 app --profile=default --copy=mixed", b"portable attach app_1 --extension=/var/lib/extensions/tool-2"),
     )
 
     def prepare(self):
@@ -653,7 +750,8 @@ class Batches(Worded):
         lines = [command + b"\n" for command in self.COMMANDS]
         pieces = [b"".join(lines[at : at + 6]) for at in range(0, len(lines), 3)]
         updates = b"".join(line + b"\n" for line in (b"confext unmerge", *UPDATING))
-        return [*pieces, *[updates] * 2, b"# a comment\n\n \t\n" + lines[2] + lines[5], *base_texts.batches()]
+        services = b"".join(line + b"\n" for line in (*ATTACHING[:3], *ATTACHING))
+        return [*pieces, *[updates, services] * 2, b"# a comment\n\n \t\n" + lines[2] + lines[5], *base_texts.batches()]
 
     def judge(self, texts):
         for text in texts:
@@ -736,5 +834,5 @@ def is_utf8(word):
 # Each kind with its share of the whole; those of which one run tries many have a larger one.
 SHARES = {
     **{Current: 3, Indexes: 12, Homes: 3, Layers: 8, Batches: 5, Words: 5},
-    **{Trees: 12, Images: 6, Manifests: 10, Transfers: 12, Features: 6, Host_Releases: 6, Releases: 8, Versions: 4},
+    **{Trees: 12, Images: 6, Manifests: 10, Transfers: 12, Features: 6, Host_Releases: 6, Releases: 8, Versions: 4, Service_Releases: 4, Unit_Files: 4},
 }
