@@ -116,6 +116,7 @@ def each_word_of_a_command_is_offered(place, folder):
         rows += [(f"hostext s d {view} explain --fo", ["--force"]), (f"hostext s d {view} explain /us", ["/usr"]), (f"hostext s d {view} explain --force /us", ["/usr"])]
     of_component = [words[2] for words in grammar if words[0] == "sysupdate" and "[--component=NAME]" in words]
     rows += [("hostext s d sysupdate ", [*of_component, "components", "--component="]), ("hostext s d sysupdate --component=x ", of_component)]
+    rows += [("hostext s d portable ", [words[1] for words in grammar if words[0] == "portable"]), ("hostext s d portable reatt", ["reattach"])]
     architectures = re.search(r"\| architecture \| (.*?) \|", Sources().text("docs/FORMATS.md"))[1]
     rows += [("hostext s d init ", re.findall(r"`(.*?)`", architectures)), ("hostext s d init arm sy", ["system"]), ("hostext s d init x86 ", ["system", "initrd"])]
     rows += [(f"hostext s d {command} ", []) for command in ("check", "migrate", "layer", "batch", "compare", "sample", "frob", "check x")]
@@ -186,6 +187,38 @@ def versions_that_an_update_may_install_are_offered(place, folder):
         ("hostext s d sysupdate update ", []),
         ("hostext s d sysupdate list ", []),
         ("hostext s gone sysupdate '--component=w $e' update ", []),
+    )
+
+
+def images_of_portable_services_are_offered_by_their_states(place, folder):
+    """And options that are not given yet, at any place."""
+    release, unit = b"ID=debian\n", b"[Service]\n"
+    library = {"os-release": release, **{f"systemd/portable/profile/{name}/service.conf": unit for name in ("default", "st rict")}}
+    services = {f"{name}/usr/lib/{path}": content for name in ("a b", "c_1", "-d") for path, content in (("os-release", release), (f"systemd/system/{name[0]}.timer", unit))}
+    extensions = {f"{name}/usr/lib/extension-release.d/extension-release.{name}": release for name in ("tools", "to p")}
+    for name, files, where in ("lib", library, "/usr/lib"), ("services", services, "/var/lib/portables"), ("extensions", extensions, "/var/lib/extensions"):
+        place.resource(name, tree_of(files), files)
+        place.expect((f"import-fs {name} {where}", DONE))
+    place.expect(("portable attach c_1", b"attached 1\nc.timer\n"))
+    offered(
+        folder,
+        *((f"hostext s d portable {verb} ", ["a\\ b", "c_1"]) for verb in ("inspect", "is-attached")),
+        ("hostext s d portable detach ", ["c_1"]),
+        ("hostext s d portable inspect 'a", ["a b"]),
+        ("hostext s d portable inspect /va", ["/var"]),
+        *((f"hostext s d portable {words} ", []) for words in ("list", "inspect c_1", "detach c_1", "is-attached c_1")),
+        ("hostext s d portable detach /va", []),
+        ("hostext s d portable attach ", ["a\\ b", "--runtime", "--profile=", "--copy=", "--extension="]),
+        ("hostext s d portable reattach a", ["a\\ b"]),
+        ("hostext s d portable reattach --runtime c", ["c_1"]),
+        ("hostext s d portable attach --runtime a\\ b a ", ["--profile=", "--copy=", "--extension="]),
+        ("hostext s d portable attach --copy=mixed --extension=e --", ["--runtime", "--profile=", "--extension="]),
+        ("hostext s d portable attach a\\ b --r", ["--runtime"]),
+        ("hostext s d portable attach a\\ b --copy=", ["auto", "copy", "mixed", "symlink"]),
+        ("hostext s d portable attach '--copy=m", ["--copy=mixed"]),
+        ("hostext s d portable reattach --profile=", ["default", "st\\ rict"]),
+        ("hostext s d portable reattach c_1 --extension=t", ["to\\ p", "tools"]),
+        ("hostext s gone portable attach --ru", ["--runtime"]),
     )
 
 
@@ -371,7 +404,7 @@ def zsh_waits_for_no_store(place, folder):
 
 CALLS = [
     *(each_word_of_a_command_is_offered, paths_of_the_store_are_offered_by_their_kinds, names_are_quoted_as_the_word_was_begun),
-    *(resources_of_the_depot_and_components_are_offered, versions_that_an_update_may_install_are_offered, paths_and_folders_for_publishing_are_offered, the_store_may_stand_in_quotes_a_variable_or_the_home),
+    *(resources_of_the_depot_and_components_are_offered, versions_that_an_update_may_install_are_offered, images_of_portable_services_are_offered_by_their_states, paths_and_folders_for_publishing_are_offered, the_store_may_stand_in_quotes_a_variable_or_the_home),
     *(a_store_that_is_none_or_is_locked_is_not_waited_for, a_program_that_does_not_end_is_not_waited_for),
     *(bash_completes_on_a_terminal, zsh_completes_on_a_terminal, zsh_waits_for_no_store),
 ]

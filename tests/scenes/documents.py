@@ -299,9 +299,10 @@ def commands_of(sources):
     commands = re.findall(r'^command_words .*?=\s+codes "([a-z-]+)"', text, re.M)
     verbs = re.findall(r'^view_words .*?=\s+codes "([a-z-]+)"', text, re.M)
     updates = re.findall(r'^update_words .*?=\s+codes "([a-z-]+)"', text, re.M)
-    if not commands or not verbs or not updates:
+    services = re.findall(r'^port_words .*?=\s+codes "([a-z-]+)"', sources.text("crates/ext_cmd/specs/Portable.antt"), re.M)
+    if not commands or not verbs or not updates or not services:
         raise Failed("the definitions of words have no commands")
-    return commands, {"sysext": verbs, "confext": verbs, "sysupdate": updates}
+    return commands, {"sysext": verbs, "confext": verbs, "sysupdate": updates, "portable": services}
 
 
 def check_commands(sources, shown):
@@ -321,7 +322,7 @@ def check_commands(sources, shown):
             raise Failed(f"README.md has no row for `{command}`")
         if not re.search(rf"^  {command}\b", shown, re.M):
             raise Failed(f"--help lacks `{command}`")
-    for command, verb in ((command, verb) for command in ("sysext", "sysupdate") for verb in verbs[command]):
+    for command, verb in ((command, verb) for command in ("sysext", "sysupdate", "portable") for verb in verbs[command]):
         if verb not in told or not any(verb in words.split() for words in listed) or not re.search(rf"^  {command} ([^ ]+ )?{verb}\b", shown, re.M):
             raise Failed(f"a table or --help lacks `{command} {verb}`")
 

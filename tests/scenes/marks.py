@@ -115,36 +115,47 @@ def killed(place, command, seconds):
     return child.returncode == -signal.SIGKILL
 
 
+def kills_leave_before_or_after(place, command, kills, chance, look):
+    """Kills a command at so many random moments, over the store as it stands: what is looked at is then that of before or of after,
+    and `check` passes. The moments are drawn so that about half of them come before the end. The store is at last as it was."""
+    held = place.store.with_name("held")
+    shutil.copytree(place.store, held)
+
+    def take_back():
+        shutil.rmtree(place.store)
+        shutil.copytree(held, place.store)
+
+    before = look(place)
+    if place.run(*command.split())[2]:
+        raise Failed(f"`{command}` is refused")
+    ends, window, early = (before, look(place)), 0.02, 0
+    for _ in range(kills):
+        take_back()
+        was_killed = killed(place, command, chance.random() * window)
+        window *= 1.2 if was_killed else 0.8
+        early += was_killed
+        if look(place) not in ends or place.run("check")[2]:
+            raise Failed(f"after a kill of `{command}` there is {shortened(look(place))}")
+    take_back()
+    shutil.rmtree(held)
+    if not 5 <= early <= kills - 5:
+        raise Failed(f"of {kills} kills of `{command}` {early} came before its end")
+
+
 def seen(place):
     return tuple(place.run(word)[0] for word in ("tree", "history"))
 
 
 def a_kill_leaves_the_host_of_before_or_of_after(place):
-    """Of `mark`, `rollback` and `forget`, at random moments: what is seen and what is marked are those of before or of after. The
-    moments are drawn so that about half of the kills come before the end, and the host has many entries, so that there is time."""
+    """Of `mark`, `rollback` and `forget`: what is seen and what is marked are those of before or of after. The host has many entries,
+    so that there is time."""
     place.resource("folders", directories(MANY))
     installed(place)
     place.expect(("import-fs folders /srv", DONE))
     place.expect(("mark", b"marked 3\n"), ("import-fs new /opt", DONE))
-    held, rng = place.store.parent / "held", random.Random(SEED)
-    shutil.copytree(place.store, held)
+    chance = random.Random(SEED)
     for command in "mark", "rollback 3", "forget 3":
-        before = seen(place)
-        if place.run(*command.split())[2]:
-            raise Failed(f"`{command}` is refused")
-        ends, window, early = (before, seen(place)), 0.02, 0
-        for _ in range(KILLS):
-            shutil.rmtree(place.store)
-            shutil.copytree(held, place.store)
-            was_killed = killed(place, command, rng.random() * window)
-            window *= 1.2 if was_killed else 0.8
-            early += was_killed
-            if seen(place) not in ends or place.run("check")[2]:
-                raise Failed(f"after a kill of `{command}` there is {shortened(seen(place))}")
-        shutil.rmtree(place.store)
-        shutil.copytree(held, place.store)
-        if not 5 <= early <= KILLS - 5:
-            raise Failed(f"of {KILLS} kills of `{command}` {early} came before its end")
+        kills_leave_before_or_after(place, command, KILLS, chance, seen)
 
 
 CALLS = [

@@ -89,10 +89,11 @@ def a_bad_store_names_the_line_or_the_file(place):
     explains(told(place, "tree"), "bad store", f"{place.store}/current names no generation; {SEE}", 8)
 
 
-COMMANDS = "init, import-fs, remove, sysext, confext, sysupdate, mark, history, rollback, forget, tree, cat, compare, check, layer, migrate, batch, sample"
+COMMANDS = "init, import-fs, remove, sysext, confext, sysupdate, portable, mark, history, rollback, forget, tree, cat, compare, check, layer, migrate, batch, sample"
 INIT = "the words are init ARCH SCOPE [HIERS [HIERS]], where ARCH is x86, x86-64, arm, arm64, riscv64, s390x, ppc64-le or loongarch64, SCOPE is system or initrd, and HIERS are as /usr:/opt"
 UPDATES = "the words are sysupdate [--component=NAME] list, check-new, update [VERSION], vacuum or features, or sysupdate components, where sysupdate.NAME.d is a name, NAME doesn't begin with a dash, and VERSION is as 2.0~rc1"
 VIEWS = "the words are {} list, status, merge [--force], unmerge, refresh [--force], changes [--force] or explain [--force] PATH, where PATH begins with a slash, and isn't the root"
+SERVICES = "the words are portable list, inspect IMAGE [PREFIX ..], is-attached NAME, attach IMAGE [PREFIX ..], detach NAME or reattach IMAGE [PREFIX ..], where IMAGE is a name or begins with a slash, and a name doesn't begin with a dash; attach and reattach take --runtime, --profile=NAME, --copy=copy, symlink, auto or mixed, and --extension=IMAGE, not with --copy=symlink"
 
 
 def words_that_are_no_command_are_explained(place):
@@ -103,6 +104,10 @@ def words_that_are_no_command_are_explained(place):
         (["confext"], 2, f"{VIEWS.format('confext')}: one is missing"),
         (["sysupdate", "--component=x"], 3, f"{UPDATES}: one is missing"),
         (["sysupdate", "--component=x", "components"], 3, f"{UPDATES}: not `components`"),
+        (["portable", "list", "a"], 3, f"{SERVICES}: not `a`"),
+        (["portable", "attach", "a", "--copy=link"], 4, f"{SERVICES}: not `--copy=link`"),
+        (["portable", "reattach", "--runtime"], 4, f"{SERVICES}: one is missing"),
+        (["portabel"], 1, "`portabel` is no command; is it to be portable?"),
         (["import-fs", "a"], 3, "the words are import-fs RES PATH, where RES.tree is in the depot, and PATH begins with a slash: one is missing"),
         (["remove", "/"], 2, "the words are remove PATH, where PATH begins with a slash, and isn't the root: not `/`"),
         (["sysext", "explain", "--force"], 4, f"{VIEWS.format('sysext')}: one is missing"),
@@ -170,7 +175,7 @@ def what_reads_the_depot_is_refused_where_it_is_the_store_or_below(place):
         for words in ("import-fs", "host", "/"), ("batch",), *READERS:
             explains(told(place, *words, depot=depot), "usage 1", reason, 2)
             place.holds(before)
-    for words in ("tree",), ("check",), ("remove", "/a"), ("sysext", "status"), ("sysupdate", "vacuum"), ("sysupdate", "features"), ("sysupdate", "components"):
+    for words in ("tree",), ("check",), ("remove", "/a"), ("sysext", "status"), ("sysupdate", "vacuum"), ("sysupdate", "features"), ("sysupdate", "components"), ("portable", "list"), ("portable", "attach", "a"):
         if run(place.program, [os.fsencode(word) for word in (place.store, place.store, *words)])[2] > 1:
             raise Failed(f"`{words[0]}` does not take STORE for DEPOT")
     shutil.rmtree(place.store / "g-7")

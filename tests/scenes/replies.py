@@ -7,7 +7,10 @@ from scenes.running import Failed
 VERDICT = rb"(?:fits|scope|architecture|no-id|id|level|version)"
 WHY = rb"(?:not-directory|has-os-release|no-release|bad-release [1-9][0-9]*)"
 LISTED = rb"(?:[^\n]+ (?:image /[^\n]* %b|masked /[^\n]*|raw /[^\n]*|broken /[^\n]* %b)\n)*" % (VERDICT, WHY)
-COUNTED = re.compile(rb"(merged|components|removed) ([0-9]+)\n")
+COUNTED = re.compile(rb"(merged|components|removed|attached) ([0-9]+)\n")
+STATE = rb"(?:detached|attached-runtime|attached)"
+SERVED = rb"(?:[^\n]+ (?:image /[^\n]* %b|masked /[^\n]*|raw /[^\n]*)\n)*" % STATE
+INSPECTED = rb"image /[^\n]*\nid [^\n]*\nversion [^\n]*\n(?:unit [^\n]+\n)+"
 OFFERED = rb"(?:[A-Za-z0-9._+~^-]+(?: (?:available|installed|partial|protected|obsolete))+\n)*"
 CHANGED = rb"(?:[-+*] /[^\n]*\n)*"
 EXPLAINED = rb"(?:image [^\n]+|base) (?:[do] [0-7]+|f [0-7]+ [0-9]+ [0-9a-f]{64}|l [^\n]+|w|covers /[^\n]*)\n"
@@ -39,10 +42,16 @@ FORMS = {
     b"sysupdate vacuum": (rb"removed [0-9]+\n", (1, 4, 6, 7, 20, 21, 28, 29, 32, 33), True),
     b"sysupdate features": (rb"(?:[^\n]+ (?:on|off)\n)*", (1, 32), False),
     b"sysupdate components": (rb"components [0-9]+\n", (1,), False),
+    b"portable list": (SERVED, (1,), False),
+    b"portable inspect": (INSPECTED, (1, 11, 12, 13, 14, 15), False),
+    b"portable is-attached": (rb"%b\n" % STATE, (1,), False),
+    b"portable attach": (rb"attached [0-9]+\n", (1, 4, 7, 9, 11, 12, 13, 14, 15, 16, 17, 18, 30, 31), True),
+    b"portable reattach": (rb"attached [0-9]+\n", (1, 4, 7, 9, 11, 12, 13, 14, 15, 16, 17, 19, 30, 31), True),
+    b"portable detach": (rb"detached\n", (1, 4, 7, 19), True),
     b"cat": (rb"", (1, 8, 10), False),
 }
 # Those whose reply begins with the number of its other lines, where it has any.
-COUNTING = b"status", b"merge", b"refresh", b"sysupdate components", b"sysupdate vacuum"
+COUNTING = b"status", b"merge", b"refresh", b"sysupdate components", b"sysupdate vacuum", b"portable attach", b"portable reattach"
 # The replies of commands that may change a store, where they didn't.
 KEPT = b"unchanged\n", b"removed 0\n"
 NUMBERS = {number: word for word, number in REFUSED.items()}
@@ -52,7 +61,7 @@ def form_name(words):
     """The name of the row of a command."""
     if words[0] == b"sysupdate":
         return b"sysupdate " + words[2 if words[1].startswith(b"--component=") else 1]
-    if words[0] == b"history":
+    if words[0] in (b"history", b"portable"):
         return b" ".join(words[:2])
     return words[1] if words[0] in (b"sysext", b"confext") else words[0]
 

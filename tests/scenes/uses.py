@@ -62,6 +62,9 @@ LINKED = TRANSFER.replace(b"Features=beta\n", b"") + b"CurrentSymlink=latest\n"
 RESOURCES["two-transfers"] = {"10-tool.transfer": TOOL, "20-foo.transfer": LINKED}
 RESOURCES["wrong-transfers"] = {"10-tool.transfer": TOOL, "20-foo.transfer": LINKED.replace(b"/images", b"/wrong")}
 RESOURCES["images/tool_2"] = {f"{IMAGE}tool_2": RELEASE, "usr/tool": b"tool 2\n", "usr/more": b"0123456789" * 7_000}
+# An image of a portable service, and a profile.
+RESOURCES["app"] = {"usr/lib/os-release": RELEASE, "usr/lib/systemd/system/app.service": b"service\n", "usr/lib/systemd/system/app.socket": b"socket\n"}
+RESOURCES["profile"] = {"service.conf": b"[Service]\n"}
 # The last command of each look: whatever came before, a change is possible.
 NEXT = "import-fs other /next"
 
@@ -125,7 +128,7 @@ class Use:
     def name(self):
         """Under which it is counted."""
         words = self.command.split(" ")
-        return " ".join(words[:2]) if words[0] in ("sysext", "confext", "sysupdate") else words[0]
+        return " ".join(words[:2]) if words[0] in ("sysext", "confext", "sysupdate", "portable") else words[0]
 
     @property
     def title(self):
@@ -192,6 +195,12 @@ CHANGED = (*MARKED, "remove /own")
 LAYERS = b"".join(b"%b f 644 7 %b\n" % (layer, hashlib.sha256(content).hexdigest().encode()) for layer, content in ((b"image x", b"tool x\n"), (b"base", b"tool 1\n")))
 CHANGES = b"+ /usr/lib\n+ /usr/lib/extension-release.d\n+ /usr/lib/extension-release.d/extension-release.x\n* /usr/tool\n"
 NO_MARK = b"refused 37 no-mark 2\n"
+WITH_SERVICE = (*ON_HOST, "import-fs profile /usr/lib/systemd/portable/profile/default", "import-fs app /var/lib/portables/app_1")
+# With a second version elsewhere, and an extension.
+ELSEWHERE = (*WITH_SERVICE, "import-fs app /home/app_2", "import-fs x /var/lib/extensions/x")
+ATTACHED = (*ELSEWHERE, "portable attach app_1")
+UNITS = b"attached 2\napp.service\napp.socket\n"
+IS_ATTACHED, NOT_ATTACHED = b"refused 18 already-attached\n", b"refused 19 not-attached\n"
 EXISTS, IS_MERGED = b"refused 2 store-exists\n", b"refused 3 merged\n"
 ONE, BOTH, NONE = b"merged 1\nx\n", b"merged 2\nx\ny\n", b"unmerged\n"
 USES = [
@@ -244,6 +253,19 @@ USES = [
     Use("sysupdate vacuum", b"removed 0\n", TRANSFERS),
     Use("sysupdate features", b"beta on\n", TRANSFERS),
     Use("sysupdate components", b"components 0\n", TRANSFERS),
+    Use("portable list", b"app_1 image /var/lib/portables/app_1 attached\n", ATTACHED),
+    Use("portable inspect app_1", b"image /var/lib/portables/app_1\nid debian\nversion -\nunit app.service\nunit app.socket\n", WITH_SERVICE),
+    Use("portable is-attached app_1", b"attached\n", ATTACHED),
+    Use("portable attach app_1", UNITS, WITH_SERVICE, again=IS_ATTACHED),
+    Use("portable attach app_1", UNITS, (*WITH_SERVICE, left_overs), again=IS_ATTACHED),
+    Use("portable attach /home/app_2 --copy=mixed --runtime", UNITS, ELSEWHERE, again=IS_ATTACHED),
+    Use("portable attach --extension=x --copy=copy app_1", UNITS, (*ELSEWHERE, *ROOM_TO_MAKE), again=IS_ATTACHED, long=True),
+    Use("portable attach app_1 --profile=none", b"refused 16 no-profile\n", WITH_SERVICE),
+    Use("portable reattach /home/app_2", UNITS, ATTACHED),
+    Use("portable reattach /home/app_2 --runtime", UNITS, (*ATTACHED, *ROOM_TO_MAKE), long=True),
+    Use("portable reattach app_1", NOT_ATTACHED, WITH_SERVICE),
+    Use("portable detach app_1", b"detached\n", ATTACHED, again=NOT_ATTACHED),
+    Use("portable detach app_1", NOT_ATTACHED, WITH_SERVICE),
     Use("mark", b"marked 2\n", ON_HOST, again=b"marked 3\n"),
     Use("mark 1", b"marked 4\n", CHANGED, again=b"marked 5\n"),
     Use("history", b"2 5 3\n", CHANGED),
@@ -270,6 +292,7 @@ USES = [
         again=DONE + b"refused 8 no-entry /gone\nrefused 8 no-entry /own\nnew",
     ),
     batch(("mark", b"marked 2\n"), ("remove /own", DONE), ("rollback 2", DONE), before=ON_HOST, again=b"marked 5\ndone\ndone\n"),
+    batch(("portable attach app_1", UNITS), ("portable reattach /home/app_2", UNITS), ("portable detach app_2", b"detached\n"), before=ELSEWHERE, again=UNITS + UNITS + b"detached\n"),
     Use("compare 1.0 1", b"greater\n", ON_HOST, stored=False),
     Use("sample 1", SAMPLE, ON_HOST, stored=False),
     Use("layer", LAYERED, ON_HOST, source=LAYERED, stored=False),

@@ -108,6 +108,13 @@ USAGES = [
     ("sysupdate of a component without a verb", [b".", b".", b"sysupdate", b"--component=x"], 3),
     ("components of a component", [b".", b".", b"sysupdate", b"--component=x", b"components"], 3),
     ("a component whose name begins with a dash", [b".", b".", b"sysupdate", b"--component=-x", b"list"], 2),
+    ("portable without a verb", [b".", b".", b"portable"], 2),
+    ("portable and a verb of images", [b".", b".", b"portable", b"merge"], 2),
+    ("attach without an image", [b".", b".", b"portable", b"attach", b"--runtime"], 4),
+    ("a second --runtime", [b".", b".", b"portable", b"attach", b"app", b"--runtime", b"--runtime"], 5),
+    ("a copy mode that there isn't", [b".", b".", b"portable", b"reattach", b"app", b"--copy=links"], 4),
+    ("a prefix that begins with a dash", [b".", b".", b"portable", b"inspect", b"app", b"-x"], 4),
+    ("detach of two", [b".", b".", b"portable", b"detach", b"app", b"other"], 4),
     ("a lone argument that is no UTF-8", [b"\xff"], 1),
     ("a store that is no UTF-8", [b"\xff", b".", b"layer"], 1),
     ("a text that is no UTF-8", [*COMPARE, b"1", b"\xff"], 1),
@@ -135,7 +142,7 @@ def of_tables(program):
 def help_shows_each_command(program):
     written, told, status = run(program, [b"--help"])
     expect((b"", told, status), (b"", b"", 0))
-    commands = "init import-fs remove sysext confext sysupdate tree cat check migrate compare layer batch sample".split()
+    commands = "init import-fs remove sysext confext sysupdate portable tree cat check migrate compare layer batch sample".split()
     for said in (b"usage: hostext STORE DEPOT COMMAND ..\n", *(f"\n  {word}".encode() for word in commands)):
         if said not in written:
             raise Failed(f"{said!r} isn't in {written!r}")
