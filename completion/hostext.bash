@@ -168,6 +168,65 @@ _hostext_marks() {
     done < <(_hostext_run history)
 }
 
+# Replies the names of images of portable services in one of the states, with no path before them.
+_hostext_services() {
+    local line
+    while IFS= read -r line; do
+        [[ $line != [^-]*' image /'* || ${line##* } != $1 ]] || _hostext_reply "${line%% image /*}"
+    done < <(_hostext_run portable list)
+}
+
+# Replies such names, and where the word begins with a slash paths of directories.
+_hostext_service_or_path() {
+    [[ ${words[-1]} == /* ]] && _hostext_paths d || _hostext_services "$1"
+}
+
+_hostext_profiles() {
+    local folder line
+    for folder in etc run usr/lib; do
+        while IFS= read -r line; do
+            [[ $line != [dl]' '* ]] || _hostext_reply "--profile=${line#? }"
+        done < <(_hostext_entries "/$folder/systemd/portable/profile")
+    done
+}
+
+_hostext_extensions() {
+    local line
+    while IFS= read -r line; do
+        [[ $line != [^-]*' image /'* ]] || _hostext_reply "--extension=${line%% image /*}"
+    done < <(_hostext_run sysext list)
+}
+
+# Replies the image that is to be attached, where none stands there yet, and the options that may come.
+_hostext_attaching() {
+    local word image='' said=' '
+    for word in "${words[@]:5:${#words[@]}-6}"; do
+        [[ $word == -* ]] && said+="${word%%=*} " || image=yes
+    done
+    case ${words[-1]} in
+        --copy=*) _hostext_reply --copy={copy,symlink,auto,mixed} ;;
+        --profile=*) _hostext_profiles ;;
+        --extension=*) _hostext_extensions ;;
+        *)
+            [[ -n $image ]] || _hostext_service_or_path "$1"
+            for word in --runtime --profile= --copy= --extension=; do
+                [[ $word != --extension= && $said == *" ${word%=} "* ]] || _hostext_reply "$word"
+            done
+            [[ ${words[-1]} != -* || ${words[-1]} == --r* ]] || _hostext_option -o nospace
+            ;;
+    esac
+}
+
+_hostext_portable() {
+    case ${words[4]}:${#words[@]} in
+        inspect:6) _hostext_service_or_path '*' ;;
+        is-attached:6) _hostext_services '*' ;;
+        detach:6) _hostext_services 'attached*' ;;
+        attach:*) _hostext_attaching detached ;;
+        reattach:*) _hostext_attaching '*' ;;
+    esac
+}
+
 # What may stand after a command, by how many words there are.
 _hostext_arguments() {
     case ${words[3]}:${#words[@]} in
@@ -184,6 +243,8 @@ _hostext_arguments() {
         history:6) [[ ${words[4]} != --changes ]] || _hostext_marks ;;
         rollback:5 | forget:5) _hostext_marks ;;
         sysupdate:[567]) _hostext_updates ;;
+        portable:5) _hostext_reply list inspect is-attached attach detach reattach ;;
+        portable:*) _hostext_portable ;;
     esac
 }
 
@@ -196,7 +257,7 @@ _hostext() {
             _hostext_option -o filenames -o dirnames
             ((${#words[@]} == 3)) || [[ ${words[1]} != -* ]] || _hostext_reply --help --version
             ;;
-        4) _hostext_reply init import-fs remove sysext confext sysupdate mark history rollback forget tree cat check migrate compare layer batch sample ;;
+        4) _hostext_reply init import-fs remove sysext confext sysupdate portable mark history rollback forget tree cat check migrate compare layer batch sample ;;
         *) _hostext_arguments ;;
     esac
 }
