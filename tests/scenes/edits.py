@@ -1,5 +1,6 @@
-"""tools/try-edits, in a small repository whose `rt` is a script: that crates are tried side by side over libraries that were
-built before, and which edits it names as refused only at an answer file."""
+"""The edits of the crates: that each changes a text that stands once in its file. And tools/try-edits, in a small repository whose
+`rt` is a script: that crates are tried side by side over libraries that were built before, and which edits it names as refused only
+at an answer file."""
 import shutil
 import sys
 from pathlib import Path
@@ -72,5 +73,29 @@ def edits_that_only_an_answer_refuses_are_named(repository):
         raise Failed(f"it ends with {status} and writes {written}")
 
 
+def misses_of(edit):
+    """How often the texts stand in their files that an edit takes away, each after those before it, where that isn't once."""
+    texts, file, old = {}, None, None
+    for line in edit.read_text().splitlines():
+        word, _, rest = line.partition(": ")
+        if word == "file":
+            file = edit.parents[1] / rest
+            texts.setdefault(file, file.read_text())
+        elif word == "old":
+            old = rest
+            if texts[file].count(old) != 1:
+                yield f"{edit.relative_to(TOP)}: {texts[file].count(old)} times"
+        elif word == "new":
+            texts[file] = texts[file].replace(old, rest)
+
+
+def each_edit_changes_what_stands_once():
+    edits = sorted(path for folder in ("must-fail", "more-edits") for path in TOP.glob(f"crates/*/{folder}/*.edit"))
+    found = [miss for edit in edits for miss in misses_of(edit)]
+    if found or not edits:
+        raise Failed(f"edits whose texts don't stand once in their files: {'; '.join(found)}")
+
+
 def scenes(_program):
+    yield "each edit changes what stands once", each_edit_changes_what_stands_once
     yield from in_each(repository_of_edits, [edits_that_only_an_answer_refuses_are_named])

@@ -119,6 +119,17 @@ def a_failing_text_is_made_smaller_and_its_seed_fails_again(program, folder):
         raise Failed(f"tried again, with {status} is told {again}")
 
 
+@in_a_folder
+def a_batch_of_many_explanations_is_judged_in_time(program, folder):
+    """Where one explanation ends and the next begins isn't told, so that the judge has to go on from each line; one that is refused
+    between them ends before the next ones."""
+    many = b"sysext explain /usr/bin/tool\n" * 400
+    (folder / "lines").write_bytes(b"sysext list\n" + many + b"sysext explain /none\n" + many + b"sysext unmerge\n")
+    lines, status = mutations("--kind", "batches", "--input", folder / "lines", "--jobs", 1, "--program", program)
+    if status or not lines[-1].startswith("1 passed, 0 failed, 0 skipped: mutations "):
+        raise Failed(f"with {status} is told {lines}")
+
+
 def a_text_is_made_no_smaller_than_what_fails(_program):
     for text, needed in ((b"a\nb\nc\nd\n", b"c"), (b"x" * 1_000 + b"yz" + b"x" * 1_000, b"yz"), (b"one", b"one"), (b"", b"")):
         found = shrunk(lambda other: needed in other, text)
@@ -164,5 +175,5 @@ def each_change_changes_something(_program):
 
 scenes = named(
     *(each_program_that_does_wrong_is_told, a_failing_text_is_made_smaller_and_its_seed_fails_again, a_text_is_made_no_smaller_than_what_fails),
-    *(mutations_are_the_same_each_time_and_sound_and_faulty, each_change_changes_something),
+    *(a_batch_of_many_explanations_is_judged_in_time, mutations_are_the_same_each_time_and_sound_and_faulty, each_change_changes_something),
 )

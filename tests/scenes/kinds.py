@@ -773,11 +773,17 @@ class Batches(Worded):
 
     def ends_after(self, ends, words, written):
         """Where the reply to these words may end, by where those before it may, and whether a line was done then that changes the store."""
-        found, why = {}, None
-        for at, is_changed in ends.items():
+        found, passed, why, place = {}, {}, None, place_of(words, IN_A_LINE)
+        for at, is_changed in sorted(ends.items()):
+            goes_on = self.replies.may_go_on(words, place, written, at)
+            # Where the lines of a reply go on that began before, its ends were found with those of that one.
+            if goes_on and passed.get(at, -1) >= is_changed:
+                continue
             try:
-                for end, is_done in self.replies.ends_of(words, place_of(words, IN_A_LINE), written, at).items():
+                for end, is_done in self.replies.ends_of(words, place, written, at).items():
                     found[end] = found.get(end, False) or is_changed or is_done
+                    if goes_on:
+                        passed[end] = passed.get(end, False) or is_changed
             except Failed as failed:
                 why = failed
         if not found:

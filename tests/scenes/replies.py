@@ -87,10 +87,15 @@ class Replies:
         end = self.matched(form, words, written, at)
         return self.counted(end, written, at) if name in COUNTING else end, changes and not written.startswith(KEPT, at)
 
+    def may_go_on(self, words, place, written, at):
+        """Whether the reply to these words ends after any line of its form from there on: `explain` writes such lines alone, and the
+        next reply may have lines of the same form."""
+        return not place and form_name(words) == b"explain" and not written.startswith(b"refused ", at)
+
     def ends_of(self, words, place, written, at):
-        """Where the reply may end: that of `explain` after any of its lines, since the next reply may have lines of the same form."""
+        """Where the reply may end, and whether the store is another then."""
         end, is_done = self.end_of(words, place, written, at)
-        if place or form_name(words) != b"explain" or written.startswith(b"refused ", at):
+        if not self.may_go_on(words, place, written, at):
             return {end: is_done}
         return {line.end(): is_done for line in re.compile(EXPLAINED).finditer(written, at, end)}
 
