@@ -1,5 +1,6 @@
 """The rooms of the sources: that no name of a definition stands for two things where both may be met, that each definition and what
-a crate passes on to others has a comment, that no clause is wider than a reader's window, and that no line is a banner."""
+a crate passes on to others has a comment, that a crate cites no other lemmas of another, that no clause is wider than a reader's
+window, and that no line is a banner."""
 import re
 from pathlib import Path
 
@@ -11,6 +12,7 @@ DEFINITION = re.compile(r"\s*(?:abbrev pub|unfoldable pub|pub record|pub data)\s
 CLAUSE = re.compile(r"\s*(?:requires|ensures|ghost)\b(?! use)")
 BANNER = re.compile(r"\s*(?:--|//) ?-{3,}")
 PASSED_ON = re.compile(r"(?:pub use|(?:abbrev )?pub) ")
+CITED = re.compile(r"(?:pub )?use Rattle\.(ext_\w+)\.proofs\.(\w+)")
 
 
 def stands_on():
@@ -89,6 +91,15 @@ def what_is_passed_on_has_a_comment():
     refuse(bare, "lemmas for callers without a comment")
 
 
+def what_is_not_passed_on_is_not_cited():
+    taken = []
+    for path in files_of("proofs", ".antt"):
+        crate = path.relative_to(CRATES).parts[0]
+        cited = [CITED.match(line) for line in path.read_text().splitlines()]
+        taken += [f"{found.group(2)} of {found.group(1)} in {path.relative_to(TOP)}" for found in cited if found and found.group(1) != crate and found.group(2) != "ForCallers"]
+    refuse(taken, "lemmas of another crate that it doesn't pass on")
+
+
 def each_definition_has_a_comment():
     bare = []
     for path in files_of("specs", ".antt"):
@@ -106,6 +117,7 @@ SCENES = (
     each_definition_has_a_comment,
     no_clause_is_too_wide,
     no_line_is_a_banner,
+    what_is_not_passed_on_is_not_cited,
     what_is_passed_on_has_a_comment,
 )
 

@@ -8,7 +8,11 @@ use Rattle.ext_disk.specs.Fixed.{IsFixed, IsUnchangedAt, Spares, touches}
 use Rattle.ext_disk.specs.Through.{HoldsThrough, Through}
 use Rattle.ext_disk.proofs.Both.{both_map, both_and, both_then, both_itself, both_same}
 use Rattle.ext_disk.proofs.Outcomes.{ends_within}
-use Rattle.ext_disk.proofs.Sparing.{later_itself, later_then, since_later, since_earlier, call_spares, unchanged_itself, unchanged_then}
+use Rattle.ext_disk.proofs.Sparing.{since_later, since_earlier, call_spares}
+-- what is told of a disk is later than itself, and than what is earlier than an earlier one
+pub use Rattle.ext_disk.proofs.Sparing.{later_itself, later_then}
+-- a path is unchanged where nothing is done, and through two stretches through each of which it is
+pub use Rattle.ext_disk.proofs.Sparing.{unchanged_itself, unchanged_then}
 
 -- a disk follows itself
 pub follows_itself : (s : DiskState) → Follows s s

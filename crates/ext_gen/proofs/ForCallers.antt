@@ -4,6 +4,8 @@
 pub use Rattle.ext_gen.proofs.StatesLemmas.{stands_points}
 -- a tree that has the same at `current`, and where the state rests, stands for it too
 pub use Rattle.ext_gen.proofs.StatesLemmas.{stands_same}
+-- a tree stands for a state just where it does with what it has at `current` put there; and no mark is at `current` in a durable store
+pub use Rattle.ext_gen.proofs.StatesLemmas.{stands_with, stands_without, durably_marks}
 -- a store that is durable, or stands for one of two states, is sound; and what a sound one stands for now
 pub use Rattle.ext_gen.proofs.StatesLemmas.{durably_is_sound, either_is_sound, sound_now}
 -- what a stop leaves of a sound store, of one that stands for one of two states, and of a durable one
@@ -34,3 +36,5 @@ pub use Rattle.ext_gen.proofs.PreparingChangeLemmas.{needed_not_left}
 pub use Rattle.ext_gen.proofs.PreparingFilesLemmas.{before_needed}
 -- where the files of a host come from that was placed over another one: from a home that was listed before, or from a new one
 pub use Rattle.ext_gen.proofs.PreparingOpenedLemmas.{IsFrom, before, coming, host_from}
+-- the files of the first elements of a list and of one element more
+pub use Rattle.ext_gen.proofs.CheckingLemmas.{files_next}

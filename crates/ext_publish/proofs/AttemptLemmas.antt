@@ -5,8 +5,7 @@ use Rattle.std.proofs.lemmas.Option.{none-some}
 use Rattle.ext_disk.specs.Disk.{Tree, Places, Told, DiskState, BothTold, IsDisk, now}
 use Rattle.ext_disk.specs.Fixed.{IsUnchangedAt}
 use Rattle.ext_disk.specs.Since.{Follows, IsLater, Rests, Since}
-use Rattle.ext_disk.proofs.ForCallers.{follows_then, rests_follow, since_past}
-use Rattle.ext_disk.proofs.Sparing.{unchanged_itself}
+use Rattle.ext_disk.proofs.ForCallers.{follows_then, rests_follow, since_past, unchanged_itself}
 use Rattle.ext_tree.specs.Tree.{Entries, lookup}
 use Rattle.ext_tree.specs.declared.entry.Entry.TheVariants as entries
 use Rattle.ext_tree.proofs.ForCallers.{lookup_part, root_part}

@@ -13,8 +13,7 @@ use Rattle.ext_text.proofs.ForCallers.{prefix_self, prefix_trans, same_path, tie
 use Rattle.ext_disk.specs.Disk.{Tree, Places, Told, DiskState, IsDisk, IsTree, file, folder, at_prefixes, is_durable, is_folder, is_no_folder, is_synced, now}
 use Rattle.ext_disk.specs.Fixed.{IsUnchangedAt}
 use Rattle.ext_disk.specs.Since.{IsLater, Since}
-use Rattle.ext_disk.proofs.ForCallers.{fixed_now, since_past}
-use Rattle.ext_disk.proofs.Sparing.{later_then, unchanged_then}
+use Rattle.ext_disk.proofs.ForCallers.{fixed_now, since_past, later_then, unchanged_then}
 use Rattle.ext_host.specs.Held.{HeldFile}
 use Rattle.ext_host.specs.Shelf.{IsTold}
 use Rattle.ext_sums.specs.Manifest.{IsManifest}

@@ -7,7 +7,7 @@ use Rattle.ext_tree.specs.Tree.{Entries}
 use Rattle.ext_tree.specs.declared.entry.Entry.{Entry}
 use Rattle.ext_tree.specs.declared.entry.Entry.TheVariants as entries
 use Rattle.ext_host.specs.Held.{HeldFile}
-use Rattle.ext_gen.proofs.CheckingLemmas.{files_next}
+use Rattle.ext_gen.proofs.ForCallers.{files_next}
 use Rattle.ext_published.specs.Payload.{files_of_entry, files_of_tree}
 use Rattle.ext_published.specs.declared.payload.Payload.TheVariants.{Directory}
 use Rattle.ext_publish.specs.Attempting.{IsMadeOf, IsWithEntry}

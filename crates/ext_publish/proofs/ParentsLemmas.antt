@@ -15,8 +15,7 @@ use Rattle.ext_tree.specs.declared.entry.Entry.TheVariants as entries
 use Rattle.ext_tree.proofs.ForCallers.{parent_append}
 use Rattle.ext_host.specs.Held.{HeldFile}
 use Rattle.ext_store_files.specs.Writing.{SyncsIn, Works, WorksTold, nowhere}
-use Rattle.ext_store_files.proofs.ForCallers.{told_map}
-use Rattle.ext_store_files.proofs.WritingLemmas.{folder_synced}
+use Rattle.ext_store_files.proofs.ForCallers.{told_map, folder_synced}
 use Rattle.ext_published.specs.Payload.{HasHeldFileAt}
 use Rattle.ext_publish.specs.Filling.{AreNamed, HasFilesOf, StaySynced, held_of}
 use Rattle.ext_publish.specs.declared.stop.Stop.{Stop}

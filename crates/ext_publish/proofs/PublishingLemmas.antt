@@ -4,8 +4,7 @@ use Rattle.std.specs.Io.KnownBytes.{Appends, Keeps}
 use Rattle.ext_io.specs.SinkState.{SinkState}
 use Rattle.ext_io.specs.Whole.{AppendsProperPrefix}
 use Rattle.ext_disk.specs.Disk.{Tree, Told, BothTold, IsDisk, now}
-use Rattle.ext_disk.proofs.ForCallers.{follows_itself}
-use Rattle.ext_disk.proofs.Sparing.{unchanged_itself}
+use Rattle.ext_disk.proofs.ForCallers.{follows_itself, unchanged_itself}
 use Rattle.ext_gen.specs.Store.{State}
 use Rattle.ext_published.specs.Asked.{AskSomething, AskedOf, IsPublishAsk, asked_words}
 use Rattle.ext_published.specs.Payload.{payload_bytes, payload_files}

@@ -7,17 +7,16 @@ use Rattle.ext_disk.specs.Calls.{Does, sync_dir}
 use Rattle.ext_disk.specs.Disk.{Places, Told, DiskState, BothTold, IsDisk, folder, is_file, is_synced, now}
 use Rattle.ext_disk.specs.Fixed.{IsUnchangedAt, Spares, Stays}
 use Rattle.ext_disk.specs.Since.{Follows, IsLater, Rests}
-use Rattle.ext_disk.proofs.Sparing.{later_itself, unchanged_itself, unchanged_then}
+use Rattle.ext_disk.proofs.ForCallers.{later_itself, unchanged_itself, unchanged_then}
 use Rattle.ext_host.specs.Held.{HeldFile, IsStampOf}
 use Rattle.ext_host.specs.Shelf.{IsFound, stored}
 use Rattle.ext_host.proofs.ForCallers.{one_stamp}
 use Rattle.ext_store_files.specs.LeftOvers.{most_left_overs}
 use Rattle.ext_store_files.specs.Removal.{CleanCause, Removes, is_below_any}
 use Rattle.ext_store_files.specs.Writing.{SyncsIn, nowhere}
-use Rattle.ext_store_files.proofs.WritingLemmas.{folder_synced}
 use Rattle.ext_store_files.specs.declared.errors.CleanErr.{CleanErr}
 use Rattle.ext_store_files.specs.declared.errors.CleanErr.TheVariants as clean_errors
-use Rattle.ext_store_files.proofs.ForCallers.{rose_since, told_map}
+use Rattle.ext_store_files.proofs.ForCallers.{folder_synced, rose_since, told_map}
 use Rattle.ext_published.specs.Asked.{AskedOf, IsPublishAsk}
 use Rattle.ext_published.specs.Manifest.{with_listing}
 use Rattle.ext_published.specs.Payload.{listing_name}

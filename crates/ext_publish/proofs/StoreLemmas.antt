@@ -22,8 +22,7 @@ use Rattle.ext_gen.specs.Opening.{KeepsNow, OpenSays, OpensTold}
 use Rattle.ext_gen.specs.Sound.{IsDurably, IsGenerationPath, base_folder, base_index, base_home, IsMember, IsSound, MayHold, as_now, as_before, as_after, with_current}
 use Rattle.ext_gen.specs.Store.{State, none, at, Stands, generation_in}
 use Rattle.ext_gen.specs.declared.errors.StoreErr.{StoreErr}
-use Rattle.ext_gen.proofs.ForCallers.{current_is_opened, durably_is_sound, one_generation, one_state, opened_is_served, opened_is_valid_for, sound_left, sound_now, stands_points}
-use Rattle.ext_gen.proofs.StatesLemmas.{durably_marks, stands_with, stands_without}
+use Rattle.ext_gen.proofs.ForCallers.{current_is_opened, durably_is_sound, one_generation, one_state, opened_is_served, opened_is_valid_for, sound_left, sound_now, stands_points, durably_marks, stands_with, stands_without}
 use Rattle.ext_publish.specs.Attempting.{TellsHost, TellsOpened}
 use Rattle.ext_publish.specs.Store.{KeepsStore, StaysSound, body_bytes, bytes_in}
 

@@ -12,7 +12,7 @@ use Rattle.ext_disk.specs.Since.{IsLater, Since}
 use Rattle.ext_disk.proofs.ForCallers.{call_keeps_fixed, fixed_now, since_past, follows_then, call_follows}
 use Rattle.ext_host.specs.Held.{HeldFile}
 use Rattle.ext_store_files.specs.Writing.{Holds, IsWritten, SyncsIn}
-use Rattle.ext_store_files.proofs.WritingLemmas.{folder_synced}
+use Rattle.ext_store_files.proofs.ForCallers.{folder_synced}
 use Rattle.ext_published.specs.Asked.{AskedOf, IsPublishAsk}
 use Rattle.ext_published.specs.Names.{coming_manifest_name, manifest_name, tree_text_name}
 use Rattle.ext_published.specs.Places.{coming_manifest_path, published_manifest_path, published_resource_path, tree_text_path}

@@ -12,8 +12,7 @@ use Rattle.ext_tree.specs.TreeText.{HasText, IsTreeText}
 use Rattle.ext_tree.specs.declared.entry.Entry.{Entry}
 use Rattle.ext_tree.specs.declared.entry.Entry.TheVariants as entries
 use Rattle.ext_tree.specs.declared.stamp.Stamp.{Stamp}
-use Rattle.ext_tree.proofs.LawsLemmas.{tree_law}
-use Rattle.ext_tree.proofs.OneFaultLemmas.{no_fault_in_text}
+use Rattle.ext_tree.proofs.ForCallers.{tree_law, no_fault_in_text}
 use Rattle.ext_depot.specs.Depot.{Files}
 use Rattle.ext_depot.specs.DepotText.{text_of}
 use Rattle.ext_depot.specs.declared.depot_text.DepotText.{DepotText}
@@ -27,7 +26,7 @@ use Rattle.ext_host.specs.declared.host.Host.{Host}
 use Rattle.ext_host.proofs.ForCallers.{lookup_changed}
 use Rattle.ext_sums.specs.Manifest.{IsManifest}
 use Rattle.ext_sums.specs.Sums as listing
-use Rattle.ext_sums.proofs.LawsLemmas.{no_fault_in_manifest, one_manifest}
+use Rattle.ext_sums.proofs.ForCallers.{no_fault_in_manifest, one_manifest}
 use Rattle.ext_transfer.specs.declared.transfer.Transfer.{Transfer}
 use Rattle.ext_available.specs.Available.{IsOffered}
 use Rattle.ext_available.specs.Offers.{find_offer}

@@ -22,6 +22,12 @@ pub use Rattle.ext_store_files.proofs.WritingLemmas.{works_raise, raises_after, 
 pub use Rattle.ext_store_files.proofs.WritingLemmas.{holds_map, holds_both, holds_then}
 -- what is synced stays synced where a folder is synced
 pub use Rattle.ext_store_files.proofs.WritingLemmas.{still_synced}
+-- which places the calls that make a file, append, sync a file and sync a folder work at, done or failed
+pub use Rattle.ext_store_files.proofs.WritingLemmas.{make_file_works, append_call_works, sync_file_call_works, sync_dir_call_works}
+-- what those calls leave that are done: an empty file, one with more bytes, a synced one, and a synced folder
+pub use Rattle.ext_store_files.proofs.WritingLemmas.{file_made, append_more, file_synced, folder_synced}
+-- a file with its bytes that is synced is written
+pub use Rattle.ext_store_files.proofs.WritingLemmas.{synced_written}
 -- one of two lists has what is sought where both together do
 pub use Rattle.ext_store_files.proofs.ClearingLemmas.{any_append}
 -- where something stands, something stands at each prefix; a path below another as the other and the rest
@@ -30,3 +36,5 @@ pub use Rattle.ext_store_files.proofs.ClearingLemmas.{stands_above, rest_of, pre
 pub use Rattle.ext_store_files.proofs.CopyingLemmas.{kept_itself, kept_then, kept_told, kept_there}
 -- a count that rose lately rose since an earlier time
 pub use Rattle.ext_store_files.proofs.CopyingLemmas.{rose_since}
+-- a file begins with what was read of it, also with one piece more; and where that is as long as the file, it is all of it
+pub use Rattle.ext_store_files.proofs.ReadingLemmas.{begins_more, whole_read}

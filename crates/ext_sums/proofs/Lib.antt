@@ -7,3 +7,4 @@ pub mod KeyLemmas
 pub mod SortingLemmas
 pub mod ReadingLemmas
 pub mod LawsLemmas
+pub mod ForCallers

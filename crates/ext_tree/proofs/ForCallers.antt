@@ -60,6 +60,10 @@ pub use Rattle.ext_tree.proofs.TreeTextLemmas.{empty_text, prefix_text}
 pub use Rattle.ext_tree.proofs.TreeTextLemmas.{lines_of}
 -- a text is a sequence of one
 pub use Rattle.ext_tree.proofs.OneFaultLemmas.{one_text}
+-- the text of a tree has no fault
+pub use Rattle.ext_tree.proofs.OneFaultLemmas.{no_fault_in_text}
+-- two trees with one text are the same
+pub use Rattle.ext_tree.proofs.LawsLemmas.{tree_law}
 -- the lines of trees are read in one way
 pub use Rattle.ext_tree.proofs.SequenceLemmas.{one_tree, sequence_peeled}
 -- where the first or the second of two additions to a text stopped, a prefix of both was added

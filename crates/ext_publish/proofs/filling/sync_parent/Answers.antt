@@ -4,8 +4,7 @@ use Rattle.std.proofs.lemmas.Result.{err_from_is_err_and}
 use Rattle.std.specs.Result.{is_ok}
 use Rattle.ext_text.specs.Path.{parent}
 use Rattle.ext_store_files.specs.Writing.{nowhere}
-use Rattle.ext_store_files.proofs.ForCallers.{told_itself, works_itself}
-use Rattle.ext_store_files.proofs.WritingLemmas.{sync_dir_call_works}
+use Rattle.ext_store_files.proofs.ForCallers.{told_itself, works_itself, sync_dir_call_works}
 use Rattle.ext_publish.specs.Filling.{StaySynced}
 use Rattle.ext_publish.specs.Stopping.{OutCause}
 use Rattle.ext_publish.proofs.FoldersLemmas.{out_fault_since}

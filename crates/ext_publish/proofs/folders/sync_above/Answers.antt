@@ -1,7 +1,6 @@
 use Rattle.std.proofs.Common.{true, arith}
 use Rattle.ext_store_files.specs.Writing.{nowhere}
-use Rattle.ext_store_files.proofs.ForCallers.{rests_works, works_then}
-use Rattle.ext_store_files.proofs.WritingLemmas.{sync_dir_call_works}
+use Rattle.ext_store_files.proofs.ForCallers.{rests_works, works_then, sync_dir_call_works}
 use Rattle.ext_publish.proofs.folders.sync_above.Goals as goal
 
 pub returns-in_err-kind_at-clause-works : goal.returns-in_err-kind_at-clause-works

@@ -1,7 +1,6 @@
 use Rattle.std.proofs.Common.{◌+◌, true, arith}
 use Rattle.ext_store_files.specs.Writing.{nowhere}
-use Rattle.ext_store_files.proofs.ForCallers.{works_then}
-use Rattle.ext_store_files.proofs.WritingLemmas.{sync_dir_call_works}
+use Rattle.ext_store_files.proofs.ForCallers.{works_then, sync_dir_call_works}
 use Rattle.ext_publish.proofs.FoldersLemmas.{may_sync_prefix}
 use Rattle.ext_publish.proofs.folders.sync_to.Goals as goal
 
