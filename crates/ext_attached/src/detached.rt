@@ -7,6 +7,7 @@ ghost use Rattle.ext_attached.specs.Going.{AreCutPaths, detached};
 use crate::going::{By, staying};
 use ext_host::{Attachments, Host, copy_of_merged};
 use ext_text::{OutOfMemory, SortedPaths};
+use ext_updated::copy_without;
 use std::alloc::Global;
 
 // The host without the attachments that go, whose paths these are.
@@ -37,8 +38,7 @@ fn cut_host(
       kept = untouched_all cut.now host.now.kept;
     }) }
 {
-    let mut root = host.root.copy()?;
-    root.cut_all(cut);
+    let root = copy_without(alloc, &host.root, cut)?;
     let lower = host.lower.copy()?;
     let sysext = copy_of_merged(alloc, &host.sysext)?;
     let confext = copy_of_merged(alloc, &host.confext)?;

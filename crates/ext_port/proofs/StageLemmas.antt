@@ -1,7 +1,9 @@
 -- What is attached, one refusal after the other.
-use Rattle.std.proofs.Common.{◌≡◌, ℕ, Bool, List, [], Option, Some, None, Ok, Err, inl, inr, refl, sym, subst}
+use Rattle.std.proofs.Common.{◌≡◌, ◌||◌, ℕ, Bool, List, [], ◌++◌, Option, Some, None, Ok, Err, inl, inr, refl, sym, ap, ◌∙◌, subst}
 use Rattle.std.specs.Prelude.{IfOk, Result}
+use Rattle.std.specs.List.{list_any}
 use Rattle.std.specs.List.Sorted.{IsStrictlySortedBy}
+use Rattle.std.proofs.lemmas.List.Folds.{list_any-append}
 use Rattle.ext_text.specs.Path.{path_cmp}
 use Rattle.ext_text.specs.declared.which.Which.{Which}
 use Rattle.ext_tree.specs.Graft.{is_non_directory_at}
@@ -38,6 +40,11 @@ pub least_copied : {E : Type 0} (test : List (List ℕ) → Bool) (from to : Lis
     → (r : Result (Option (List (List ℕ))) E) → IfOk r (λ copy. copy ≡ o) → IfOk r (FindsLeast test to)
 least_copied test from to has o found (Ok copy) same = subst (FindsLeast test to) (sym same) (least_moved test from to o has found)
 least_copied test from to has o found (Err e) same = tt
+
+-- paths that are looked at after some others may stand in any order
+pub least_of_same : (test : List (List ℕ) → Bool) (cut from to : List (List (List ℕ))) → HasPaths to from → (o : Option (List (List ℕ))) → FindsLeast test (cut ++ from) o → FindsLeast test (cut ++ to) o
+least_of_same test cut from to has o found =
+    least_moved test (cut ++ from) (cut ++ to) o (λ t. list_any-append t cut from ∙ ap (λ b. list_any t cut || b) (has t) ∙ sym (list_any-append t cut to)) found
 
 module _ (start : Host) (ask : Ask) (made : Attaching) (image tree : Entries HeldFile) (sound : IsSoundMade start made image tree) where
   -- the pieces may be put where nothing but directories stands above

@@ -58,12 +58,8 @@ pub planned_through : (a b c : Host) → IsPlannedHost a b → IsPlannedHost b c
 planned_through a b c first second = record { valid = second.valid; drawn = drawn_through a b c first.drawn second.drawn }
 
 -- so is an equal host
-planned_itself : (a b : Host) → IsValidHost a → b ≡ a → IsPlannedHost a b
+pub planned_itself : (a b : Host) → IsValidHost a → b ≡ a → IsPlannedHost a b
 planned_itself a b valid same = subst (IsPlannedHost a) (sym same) (record { valid = valid; drawn = drawn_from_itself a })
-
-pub planned_copy : {E : Type 0} (a : Host) (r : Result Host E) → IsValidHost a → IfOk r (λ b. b ≡ a) → IfOk r (IsPlannedHost a)
-planned_copy a (Ok b) valid same = planned_itself a b valid same
-planned_copy a (Err e) valid same = tt
 
 pub attach_through : (a b : Host) (r : Result Attach PortErr) → IsPlannedHost a b → IfOk r (λ attach. IsPlannedHost b attach.plan.next) → IfOk r (λ attach. IsPlannedHost a attach.plan.next)
 attach_through a b (Ok attach) first second = planned_through a b attach.plan.next first second

@@ -75,5 +75,5 @@ pub record IsSoundMade (host : Host) (made : Attaching) (image tree : Entries He
 
 -- the host of a start is valid, and its base is that of the host
 pub record IsStart (start : Start) : Type 0 where
-  pub valid : IsValidHost start.host
-  pub base : IsBaseTree start.host start.base
+  pub valid : IsValidHost start.host.now
+  pub base : IsBaseTree start.host.now start.base

@@ -1,14 +1,15 @@
-ghost use Rattle.std.specs.Prelude.{IfOk};
+ghost use Rattle.std.specs.Prelude.{◌≡◌, None, IfOk};
 ghost use Rattle.ext_host.specs.Planning.{IsPlannedHost};
 ghost use Rattle.ext_host.specs.Valid.{IsValidHost};
 ghost use Rattle.ext_port.specs.Given.{AreFilesOf, IsAsked, IsBodyFor, IsBodyIn, IsStart};
-ghost use Rattle.ext_port.specs.Starting.{start_host};
+ghost use Rattle.ext_port.specs.Starting.{start_host, unfit};
 ghost use Rattle.ext_port.specs.Wants.{AttachesBody, BarMemory, UnitsWant};
 
 use crate::errors::PortErr;
 use crate::staging::attach_units;
 use crate::starting::{Start, start_of, unfit};
 use ext_added::Ask;
+use ext_attached::without;
 use ext_host::{Held, Host, Plan};
 use ext_text::Names;
 use ext_tree::Tree;
@@ -61,11 +62,58 @@ pub fn attach_body(
 {
     match unfit(host, &ask.image, again) {
         Some(refusal) => Err(refusal),
-        None => {
-            let start = start_of(alloc, host, &ask.image, again)?;
-            attach_from(alloc, &start, ask, body, tree, lines)
-        }
+        None => attach_fit_body(alloc, host, ask, body, tree, lines, again),
     }
+}
+
+// The same where nothing keeps the image from being attached.
+fn attach_fit_body(
+    alloc: Global,
+    host: &Host,
+    ask: &Ask,
+    body: &Body,
+    tree: &Tree<Held>,
+    lines: &[u8],
+    again: bool,
+) -> Result<Attach, PortErr>
+    requires fit { unfit again host.now ask.now.image ≡ None }
+    requires valid { IsValidHost host.now }
+    requires asked { IsAsked ask.now.image }
+    requires body { IsBodyFor (start_host again ask.now.image host.now) ask.now.image body.now }
+    requires files { AreFilesOf (start_host again ask.now.image host.now) tree.now }
+    ensures gives { BarMemory (AttachesBody again host.now ask.now body.now tree.now lines.now) result }
+    ensures next { IfOk result (λ attach. IsPlannedHost host.now attach.plan.next) }
+{
+    if again {
+        let next = without(alloc, host, &ask.image)?;
+        attach_next_body(alloc, host, &next, ask, body, tree, lines, true)
+    } else {
+        attach_next_body(alloc, host, host, ask, body, tree, lines, false)
+    }
+}
+
+// The same, to the host from which it is.
+fn attach_next_body(
+    alloc: Global,
+    host: &Host,
+    next: &Host,
+    ask: &Ask,
+    body: &Body,
+    tree: &Tree<Held>,
+    lines: &[u8],
+    again: bool,
+) -> Result<Attach, PortErr>
+    requires fit { unfit again host.now ask.now.image ≡ None }
+    requires next { next.now ≡ start_host again ask.now.image host.now }
+    requires planned { IsPlannedHost host.now next.now }
+    requires asked { IsAsked ask.now.image }
+    requires body { IsBodyFor (start_host again ask.now.image host.now) ask.now.image body.now }
+    requires files { AreFilesOf (start_host again ask.now.image host.now) tree.now }
+    ensures gives { BarMemory (AttachesBody again host.now ask.now body.now tree.now lines.now) result }
+    ensures next { IfOk result (λ attach. IsPlannedHost host.now attach.plan.next) }
+{
+    let start = start_of(alloc, host, next, &ask.image, again)?;
+    attach_from(alloc, &start, ask, body, tree, lines)
 }
 
 // What is attached from a start.
@@ -79,10 +127,10 @@ pub(crate) fn attach_from(
 ) -> Result<Attach, PortErr>
     requires start { IsStart start.now }
     requires asked { IsAsked ask.now.image }
-    requires body { IsBodyIn start.now.host start.now.base ask.now.image body.now }
-    requires files { AreFilesOf start.now.host tree.now }
-    ensures gives { BarMemory (UnitsWant start.now.host start.now.cut start.now.base ask.now body.now tree.now lines.now) result }
-    ensures next { IfOk result (λ attach. IsPlannedHost start.now.host attach.plan.next) }
+    requires body { IsBodyIn start.now.host.now start.now.base ask.now.image body.now }
+    requires files { AreFilesOf start.now.host.now tree.now }
+    ensures gives { BarMemory (UnitsWant start.now.host.now start.now.cut start.now.base ask.now body.now tree.now lines.now) result }
+    ensures next { IfOk result (λ attach. IsPlannedHost start.now.host.now attach.plan.next) }
 {
     match units_of(alloc, body, tree, &ask.prefixes) {
         Ok(units) => attach_units(alloc, start, ask, body, tree, units, lines),

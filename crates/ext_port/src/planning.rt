@@ -1,14 +1,16 @@
-ghost use Rattle.std.specs.Prelude.{◌≤◌, true, false, IfOk};
+ghost use Rattle.std.specs.Prelude.{◌≡◌, ◌≤◌, true, false, IfOk};
 ghost use Rattle.ext_host.specs.Planning.{IsPlannedHost, ServesAll, ServesHost};
 ghost use Rattle.ext_host.specs.Valid.{IsValidHost};
 ghost use Rattle.ext_units.specs.Image.{IsImageAt};
 ghost use Rattle.ext_port.specs.Given.{IsAsked, IsStart};
+ghost use Rattle.ext_port.specs.Starting.{start_host};
 ghost use Rattle.ext_port.specs.Wants.{Attaches, BarMemory, BodyWants, FitWants};
 
 use crate::attaching::{Attach, attach_from};
 use crate::errors::PortErr;
 use crate::starting::{Start, start_of, unfit};
 use ext_added::Ask;
+use ext_attached::without;
 use ext_host::{Host, Shelf};
 use ext_text::Path;
 use ext_units::{body_at, image_at};
@@ -87,7 +89,33 @@ fn attach_image<H: Shelf>(
     ensures stays { H.stays shelf.old shelf.new }
     ensures count { H.faults shelf.old ≤ H.faults shelf.new }
 {
-    let start = start_of(alloc, host, &ask.image, again)?;
+    if again {
+        let next = without(alloc, host, &ask.image)?;
+        attach_next(alloc, host, &next, ask, true, shelf)
+    } else {
+        attach_next(alloc, host, host, ask, false, shelf)
+    }
+}
+
+// The image attached, or attached anew, to the host from which it is.
+fn attach_next<H: Shelf>(
+    alloc: Global,
+    host: &Host,
+    next: &Host,
+    ask: &Ask,
+    again: bool,
+    shelf: &mut H,
+) -> Result<Attach, PortErr>
+    requires next { next.now ≡ start_host again ask.now.image host.now }
+    requires planned { IsPlannedHost host.now next.now }
+    requires asked { IsAsked ask.now.image }
+    requires serves { ServesHost (H.serves shelf.old) host.now }
+    ensures gives { BarMemory (Attaches (H.told shelf.old) (H.faults shelf.old) (H.faults shelf.new) again host.now ask.now) result }
+    ensures next { IfOk result (λ attach. IsPlannedHost host.now attach.plan.next) }
+    ensures stays { H.stays shelf.old shelf.new }
+    ensures count { H.faults shelf.old ≤ H.faults shelf.new }
+{
+    let start = start_of(alloc, host, next, &ask.image, again)?;
     match image_at(alloc, &start.base, start.host.arch, &ask.image)? {
         None => Err(PortErr::NoSuchImage),
         Some(place) => {
@@ -108,11 +136,11 @@ fn attach_fit<H: Shelf>(
 ) -> Result<Attach, PortErr>
     requires start { IsStart start.now }
     requires asked { IsAsked ask.now.image }
-    requires image { IsImageAt start.now.base start.now.host.arch ask.now.image place }
+    requires image { IsImageAt start.now.base start.now.host.now.arch ask.now.image place }
     requires serves { ServesAll (H.serves shelf.old) start.now.base }
     ensures gives { BarMemory (FitWants refusal (BodyWants (H.told shelf.old) (H.faults shelf.old) (H.faults shelf.new)
-        start.now.host start.now.cut start.now.base ask.now place)) result }
-    ensures next { IfOk result (λ attach. IsPlannedHost start.now.host attach.plan.next) }
+        start.now.host.now start.now.cut start.now.base ask.now place)) result }
+    ensures next { IfOk result (λ attach. IsPlannedHost start.now.host.now attach.plan.next) }
     ensures stays { H.stays shelf.old shelf.new }
     ensures count { H.faults shelf.old ≤ H.faults shelf.new }
 {
@@ -132,11 +160,11 @@ fn attach_place<H: Shelf>(
 ) -> Result<Attach, PortErr>
     requires start { IsStart start.now }
     requires asked { IsAsked ask.now.image }
-    requires image { IsImageAt start.now.base start.now.host.arch ask.now.image place }
+    requires image { IsImageAt start.now.base start.now.host.now.arch ask.now.image place }
     requires serves { ServesAll (H.serves shelf.old) start.now.base }
     ensures gives { BarMemory (BodyWants (H.told shelf.old) (H.faults shelf.old) (H.faults shelf.new)
-        start.now.host start.now.cut start.now.base ask.now place) result }
-    ensures next { IfOk result (λ attach. IsPlannedHost start.now.host attach.plan.next) }
+        start.now.host.now start.now.cut start.now.base ask.now place) result }
+    ensures next { IfOk result (λ attach. IsPlannedHost start.now.host.now attach.plan.next) }
     ensures stays { H.stays shelf.old shelf.new }
     ensures count { H.faults shelf.old ≤ H.faults shelf.new }
 {

@@ -43,11 +43,12 @@ pub(crate) fn attach_units(
 ) -> Result<Attach, PortErr>
     requires start { IsStart start.now }
     requires asked { IsAsked ask.now.image }
-    requires body { IsBodyIn start.now.host start.now.base ask.now.image body.now }
-    requires files { AreFilesOf start.now.host tree.now }
+    requires body { IsBodyIn start.now.host.now start.now.base ask.now.image body.now }
+    requires files { AreFilesOf start.now.host.now tree.now }
     requires units { AreUnitsIn tree.now units }
-    ensures gives { BarMemory (ProfileWants start.now.host start.now.cut start.now.base ask.now body.now tree.now lines.now units) result }
-    ensures next { IfOk result (λ attach. IsPlannedHost start.now.host attach.plan.next) }
+    ensures gives { BarMemory (ProfileWants start.now.host.now start.now.cut start.now.base ask.now body.now tree.now lines.now units)
+        result }
+    ensures next { IfOk result (λ attach. IsPlannedHost start.now.host.now attach.plan.next) }
 {
     match profile_of(alloc, &start.base, &ask.profile)? {
         None => Err(PortErr::NoProfile),
@@ -80,27 +81,41 @@ fn attach_made(
     tree: &Tree<Held>,
 ) -> Result<Attach, PortErr>
     requires start { IsStart start.now }
-    requires sound { IsSoundMade start.now.host made.now image.now tree.now }
-    ensures gives { BarMemory (LockedWants start.now.host ask.now image.now tree.now made.now start.now.cut) result }
-    ensures next { IfOk result (λ attach. IsPlannedHost start.now.host attach.plan.next) }
+    requires sound { IsSoundMade start.now.host.now made.now image.now tree.now }
+    ensures gives { BarMemory (LockedWants start.now.host.now ask.now image.now tree.now made.now start.now.cut) result }
+    ensures next { IfOk result (λ attach. IsPlannedHost start.now.host.now attach.plan.next) }
 {
-    let tops = tops_of(alloc, made)?;
-    match least_touched(alloc, start, tops.as_slice())? {
+    let tops = sorted_tops(alloc, made)?;
+    match least_touched(alloc, start, &tops)? {
         Some(path) => Err(PortErr::ReadOnly { path }),
-        None => {
-            let sorted = SortedPaths::of(tops);
-            attach_unlocked(alloc, start, ask, made, image, tree, sorted)
-        }
+        None => attach_unlocked(alloc, start, ask, made, image, tree, tops),
     }
 }
 
-// The least path that is cut or added and that is in, at or above a merged hierarchy.
-fn least_touched(alloc: Global, start: &Start, tops: &[Path]) -> Result<Option<Path>, OutOfMemory>
-    ensures { IfOk result (FindsLeast (is_read_only start.now.host) (start.now.cut ++ tops.now)) }
+// The paths at which something is put, in path order. They come in a few stretches that are in order, which a stable sort merges.
+fn sorted_tops(alloc: Global, made: &Attaching) -> Result<SortedPaths, OutOfMemory>
+    ensures has { IfOk result (HasPaths (tops_of made.now)) }
+    ensures order { IfOk result (IsStrictlySortedBy path_cmp) }
 {
-    let paths = both(alloc, start.cut.as_slice(), tops)?;
+    let mut tops = tops_of(alloc, made)?;
+    tops.sort()?;
+    Ok(SortedPaths::of(tops))
+}
+
+// The least path that is cut or added and that is in, at or above a merged hierarchy.
+fn least_touched(
+    alloc: Global,
+    start: &Start,
+    tops: &SortedPaths,
+) -> Result<Option<Path>, OutOfMemory>
+    ensures { IfOk result (FindsLeast (is_read_only start.now.host.now) (start.now.cut ++ tops.now)) }
+{
+    if start.cut.as_slice().is_empty() {
+        return copied(least_locked(start.host, tops));
+    }
+    let paths = both(alloc, start.cut.as_slice(), tops.as_slice())?;
     let touched = SortedPaths::of(paths);
-    copied(least_locked(&start.host, &touched))
+    copied(least_locked(start.host, &touched))
 }
 
 // The path, copied.
@@ -144,11 +159,11 @@ fn attach_unlocked(
     tops: SortedPaths,
 ) -> Result<Attach, PortErr>
     requires start { IsStart start.now }
-    requires sound { IsSoundMade start.now.host made.now image.now tree.now }
+    requires sound { IsSoundMade start.now.host.now made.now image.now tree.now }
     requires tops { HasPaths (tops_of made.now) tops }
     requires order { IsStrictlySortedBy path_cmp tops }
-    ensures gives { BarMemory (StandingWants start.now.host ask.now image.now tree.now made.now) result }
-    ensures next { IfOk result (λ attach. IsPlannedHost start.now.host attach.plan.next) }
+    ensures gives { BarMemory (StandingWants start.now.host.now ask.now image.now tree.now made.now) result }
+    ensures next { IfOk result (λ attach. IsPlannedHost start.now.host.now attach.plan.next) }
 {
     match least_standing(&start.host.root, &tops) {
         Some(path) => {
@@ -170,11 +185,11 @@ fn attach_free(
     tops: SortedPaths,
 ) -> Result<Attach, PortErr>
     requires start { IsStart start.now }
-    requires sound { IsSoundMade start.now.host made.now image.now tree.now }
+    requires sound { IsSoundMade start.now.host.now made.now image.now tree.now }
     requires tops { HasPaths (tops_of made.now) tops }
     requires order { IsStrictlySortedBy path_cmp tops }
-    ensures gives { BarMemory (BlockingWants start.now.host ask.now image.now tree.now made.now) result }
-    ensures next { IfOk result (λ attach. IsPlannedHost start.now.host attach.plan.next) }
+    ensures gives { BarMemory (BlockingWants start.now.host.now ask.now image.now tree.now made.now) result }
+    ensures next { IfOk result (λ attach. IsPlannedHost start.now.host.now attach.plan.next) }
 {
     let ways = ways_of(alloc, made)?;
     match least_blocking(&start.host.root, &ways) {
@@ -197,12 +212,12 @@ fn attach_open(
     tops: SortedPaths,
 ) -> Result<Attach, PortErr>
     requires start { IsStart start.now }
-    requires sound { IsSoundMade start.now.host made.now image.now tree.now }
+    requires sound { IsSoundMade start.now.host.now made.now image.now tree.now }
     requires tops { HasPaths (tops_of made.now) tops }
     requires order { IsStrictlySortedBy path_cmp tops }
-    requires open { NonePasses (λ path. is_non_directory_at (lookup start.now.host.root path)) (ways_of made.now) }
-    ensures gives { BarMemory (FittingWants start.now.host ask.now image.now tree.now made.now) result }
-    ensures next { IfOk result (λ attach. IsPlannedHost start.now.host attach.plan.next) }
+    requires open { NonePasses (λ path. is_non_directory_at (lookup start.now.host.now.root path)) (ways_of made.now) }
+    ensures gives { BarMemory (FittingWants start.now.host.now ask.now image.now tree.now made.now) result }
+    ensures next { IfOk result (λ attach. IsPlannedHost start.now.host.now attach.plan.next) }
 {
     // `pairs` says of what is seen that it is a tree.
     let _entries = start.host.root.pairs();
@@ -223,8 +238,8 @@ fn attach_pieces(
     pieces: Vec<Piece<Held>>,
     tops: SortedPaths,
 ) -> Result<Attach, PortErr>
-    requires { MayBePut start.now.host.root [] pieces.items }
-    ensures { BarMemory (PutWants start.now.host ask.now made.now pieces.items tops) result }
+    requires { MayBePut start.now.host.now.root [] pieces.items }
+    ensures { BarMemory (PutWants start.now.host.now ask.now made.now pieces.items tops) result }
 {
     let none = SortedPaths::of(Vec::new(alloc));
     match updated(alloc, &start.host.root, &none, pieces) {
@@ -247,15 +262,15 @@ fn attach_root(
     root: Tree<Held>,
     tops: SortedPaths,
 ) -> Result<Attach, PortErr>
-    ensures { BarMemory (RootWants start.now.host ask.now made.now tops root
-        (first_limit (new_bytes made.now) root start.now.host.lower)) result }
+    ensures { BarMemory (RootWants start.now.host.now ask.now made.now tops root
+        (first_limit (new_bytes made.now) root start.now.host.now.lower)) result }
 {
     let size = new_bytes(made);
     match first_limit(size, root.pairs(), start.host.lower.pairs()) {
         Some(which) => Err(PortErr::Limit { which }),
         None => {
             let units = names_of(alloc, made.units.as_slice())?;
-            let next = attached_host(alloc, &start.host, ask, &made.place, tops, root)?;
+            let next = attached_host(alloc, start.host, ask, &made.place, tops, root)?;
             Ok(Attach {
                 plan: Plan { next },
                 units,

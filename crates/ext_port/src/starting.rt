@@ -1,12 +1,11 @@
 // The host from which an image is attached.
 ghost use Rattle.std.specs.Prelude.{◌≡◌, IfOk};
 ghost use Rattle.ext_host.specs.Planning.{IsPlannedHost};
-ghost use Rattle.ext_host.specs.Valid.{IsValidHost};
 ghost use Rattle.ext_port.specs.Given.{IsStart};
 ghost use Rattle.ext_port.specs.Starting.{cut_of, start_host, unfit};
 
 use crate::errors::PortErr;
-use ext_attached::{has_earlier, is_attached, paths_without, without};
+use ext_attached::{has_earlier, is_attached, paths_without};
 use ext_host::{Held, Host};
 use ext_text::{OutOfMemory, Paths};
 use ext_tree::Tree;
@@ -15,29 +14,30 @@ use std::alloc::Global;
 
 // A host from which an image is attached.
 #[derive(Debug, Drop)]
-pub struct Start {
+pub struct Start<'a> {
     // The host.
-    pub host: Host,
+    pub host: &'a Host,
     // Its base.
     pub base: Tree<Held>,
     // The paths that were cut to make it.
     pub cut: Paths,
 }
 
-// The host from which the image is attached: as it is, or without the attachments that go.
-pub(crate) fn start_of(
+// The start at the host from which the image is attached: the given one, or that without the attachments that go.
+pub(crate) fn start_of<'a>(
     alloc: Global,
     host: &Host,
+    next: &'a Host,
     image: &Image,
     again: bool,
-) -> Result<Start, OutOfMemory>
-    requires { IsValidHost host.now }
-    ensures host { IfOk result (λ start. start.host ≡ start_host again image.now host.now) }
+) -> Result<Start<'a>, OutOfMemory>
+    requires next { next.now ≡ start_host again image.now host.now }
+    requires planned { IsPlannedHost host.now next.now }
+    ensures host { IfOk result (λ start. start.host.now ≡ start_host again image.now host.now) }
     ensures cut { IfOk result (λ start. start.cut ≡ cut_of again image.now host.now) }
     ensures start { IfOk result IsStart }
-    ensures planned { IfOk result (λ start. IsPlannedHost host.now start.host) }
+    ensures planned { IfOk result (λ start. IsPlannedHost host.now start.host.now) }
 {
-    let next = start_host(alloc, host, image, again)?;
     let base = next.base()?;
     // `pairs` says of the base that it is a tree.
     let _entries = base.pairs();
@@ -47,28 +47,6 @@ pub(crate) fn start_of(
         base,
         cut,
     })
-}
-
-// That host.
-fn start_host(alloc: Global, host: &Host, image: &Image, again: bool) -> Result<Host, OutOfMemory>
-    requires { IsValidHost host.now }
-    ensures same { IfOk result (λ start. start ≡ start_host again image.now host.now) }
-    ensures planned { IfOk result (IsPlannedHost host.now) }
-{
-    if again {
-        without(alloc, host, image)
-    } else {
-        copy_of(host)
-    }
-}
-
-// The host, copied.
-fn copy_of(host: &Host) -> Result<Host, OutOfMemory>
-    requires { IsValidHost host.now }
-    ensures same { IfOk result (λ copy. copy ≡ host.now) }
-    ensures planned { IfOk result (IsPlannedHost host.now) }
-{
-    host.copy()
 }
 
 // The paths that are cut.

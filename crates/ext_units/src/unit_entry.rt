@@ -35,10 +35,23 @@ pub(crate) fn entry_at<C>(
     if !is_unit_name(prefixes, next.name) {
         return Ok(None);
     }
-    match file_of(alloc, tree, &next.entry.0.names())? {
+    match file_at(alloc, tree, next)? {
         None => Ok(Some(UnitEntry::NoFile)),
         Some(file) => Ok(Some(UnitEntry::Leads(file))),
     }
+}
+
+// The path of the file to which the entry at a name leads. No link is on the way to what stands somewhere, so a file is its own.
+fn file_at<C>(alloc: Global, tree: &Tree<C>, next: &Next<C>) -> Result<Option<Path>, OutOfMemory>
+    requires { Stands tree.now next.now }
+    ensures { IfOk result (FileAt tree.now next.now.entry.now.0) }
+{
+    // `pairs` says of the tree that it is one.
+    let _entries = tree.pairs();
+    if next.entry.1.is_file() {
+        return Ok(Some(next.entry.0.copy()?));
+    }
+    file_of(alloc, tree, &next.entry.0.names())
 }
 
 // The path of the file to which the names lead from the tree's root.

@@ -1,5 +1,5 @@
 -- The directories above pieces, and which of them are missing.
-use Rattle.std.proofs.Common.{◌≡◌, ℕ, zero, suc, ◌+◌, ◌-◌, ◌<◌, ◌≤◌, Bool, true, false, cond, not, ◌||◌, ◌&&◌, List, [], ◌∷◌, length, take, Some, None, refl, sym, ap, ◌∙◌, arith, inl, inr, length-take}
+use Rattle.std.proofs.Common.{◌≡◌, ℕ, zero, suc, ◌+◌, ◌-◌, ◌<◌, ◌≤◌, Bool, true, false, cond, not, ◌||◌, ◌&&◌, List, [], ◌∷◌, length, take, Some, None, refl, sym, ap, ◌∙◌, ◌++◌, arith, inl, inr, length-take}
 use Rattle.std.specs.Cmp.{both_ways}
 use Rattle.std.specs.FinMap.{is_sorted}
 use Rattle.std.specs.FinMap.Entries.{below_all}
@@ -8,15 +8,16 @@ use Rattle.std.specs.List.Sorted.{IsStrictlySortedBy}
 use Rattle.std.specs.Ordering.{eq_by_cmp, is_lt}
 use Rattle.std.specs.declared.cmp.Ordering.TheVariants.{Less}
 use Rattle.std.proofs.lemmas.Bool.{and_from, and_parts, and_right, cases_lt, false≢true, or_cases, or_left, or_right}
+use Rattle.std.proofs.lemmas.List.{length-take-le, take-take}
 use Rattle.std.proofs.lemmas.List.Folds.{list_any-append}
-use Rattle.ext_text.specs.Path.{is_proper_prefix, path_cmp}
+use Rattle.ext_text.specs.Path.{is_proper_prefix, parent, path_cmp}
 use Rattle.ext_text.specs.SortedPaths.{is_among}
 use Rattle.ext_text.proofs.ForCallers.{proper_first, same_path, tied_path}
 use Rattle.ext_tree.specs.Graft.{made}
 use Rattle.ext_tree.specs.Refusals.{is_root}
 use Rattle.ext_tree.specs.Tree.{Entries, lookup}
 use Rattle.ext_updated.specs.Pieces.{is_above, paths_of}
-use Rattle.ext_updated.specs.Putting.{lacking_above, lacks, made_at, prefixes, prefixes_from}
+use Rattle.ext_updated.specs.Putting.{is_beside, lacking_above, lacking_last, lacking_once, lacks, made_at, prefixes, prefixes_from}
 use Rattle.ext_updated.specs.declared.piece.Piece.{Piece}
 use Rattle.ext_updated.proofs.ClashLemmas.{among_filter}
 
@@ -97,6 +98,51 @@ module _ {C : Type 0} where
       list_any-append (λ r. eq_by_cmp path_cmp q r) (filter (lacks es) (prefixes p.path)) (lacking_above es ps)
       ∙ (λ i. (among_filter (lacks es) q (prefixes p.path) ∙ ap (λ b. b && lacks es q) (among_prefixes p.path q)) i || among_lacking es ps q i)
       ∙ spread (not (is_root q)) (is_proper_prefix q p.path) (list_any (λ r. is_proper_prefix q r) (paths_of ps)) (lacks es q)
+
+-- the proper prefixes of paths in one directory
+
+prefixes_of_longer : (p : List (List ℕ)) (m names count : ℕ) → names + count ≤ suc m → prefixes_from (take m p) names count ≡ prefixes_from p names count
+prefixes_of_longer p m names zero within = refl
+prefixes_of_longer p m names (suc count) within = λ i. take-take names m p (omega arith) i ∷ prefixes_of_longer p m (suc names) count (omega arith) i
+
+prefixes_by_parent : (p : List (List ℕ)) → prefixes_from (parent p) 1 (length (parent p)) ≡ prefixes p
+prefixes_by_parent p =
+    let long : length (parent p) ≡ length p - 1 = length-take-le (length p - 1) p (omega arith) in
+    ap (λ n. prefixes_from (parent p) 1 n) long ∙ prefixes_of_longer p (length p - 1) 1 (length p - 1) (omega arith)
+
+same_prefixes : (p q : List (List ℕ)) → parent p ≡ parent q → prefixes p ≡ prefixes q
+same_prefixes p q same = sym (prefixes_by_parent p) ∙ ap (λ r. prefixes_from r 1 (length r)) same ∙ prefixes_by_parent q
+
+twice : (a b : Bool) → (a || (a || b)) ≡ (a || b)
+twice true b = refl
+twice false b = refl
+
+module _ {C : Type 0} where
+  -- a list of paths that is left out comes again
+  again : (es : Entries C) (piece next : Piece C) (pieces : List (Piece C)) (q : List (List ℕ)) → parent piece.path ≡ parent next.path
+      → is_among (lacking_above es (next ∷ pieces)) q ≡ is_among (lacking_above es (piece ∷ next ∷ pieces)) q
+  again es piece next pieces q same =
+      let own = filter (lacks es) (prefixes next.path) in
+      let rest = lacking_above es pieces in
+      let Test : List (List ℕ) → Bool = λ r. eq_by_cmp path_cmp q r in
+      let parts : is_among (own ++ rest) q ≡ (is_among own q || is_among rest q) = list_any-append Test own rest in
+      let both : is_among (own ++ (own ++ rest)) q ≡ (is_among own q || is_among (own ++ rest) q) = list_any-append Test own (own ++ rest) in
+      parts ∙ sym (twice (is_among own q) (is_among rest q)) ∙ sym (both ∙ ap (λ b. is_among own q || b) parts)
+      ∙ ap (λ ps. is_among (filter (lacks es) ps ++ (own ++ rest)) q) (sym (same_prefixes piece.path next.path same))
+
+  -- the same paths are among those of each directory once
+  pub among_once : (es : Entries C) (pieces : List (Piece C)) (q : List (List ℕ)) → is_among (lacking_once es pieces) q ≡ is_among (lacking_above es pieces) q
+  among_once es [] q = refl
+  among_once es (piece ∷ []) q = refl
+  among_once es (piece ∷ next ∷ pieces) q =
+      let own = filter (lacks es) (prefixes piece.path) in
+      let Test : List (List ℕ) → Bool = λ r. eq_by_cmp path_cmp q r in
+      let all = lacking_above es (next ∷ pieces) in
+      let once = lacking_once es (next ∷ pieces) in
+      elim (eq_by_cmp path_cmp (parent piece.path) (parent next.path)) as (λ b. eq_by_cmp path_cmp (parent piece.path) (parent next.path) ≡ b → is_among (cond b [] own ++ once) q ≡ is_among (own ++ all) q) [
+        | true ↦ λ beside. among_once es (next ∷ pieces) q ∙ again es piece next pieces q (same_path (parent piece.path) (parent next.path) beside)
+        | false ↦ λ apart. list_any-append Test own once ∙ ap (λ b. is_among own q || b) (among_once es (next ∷ pieces) q) ∙ sym (list_any-append Test own all)
+      ] refl
 
 -- the made directories
 

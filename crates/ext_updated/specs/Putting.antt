@@ -1,9 +1,9 @@
 -- How the tree after an update is made: what is left without all that stands at and below the paths of the pieces, the
 -- directories that are missing above them, and the entries of the pieces.
-use Rattle.std.specs.Prelude.{◌≡◌, ℕ, zero, suc, ◌-◌, Bool, not, if◌then◌else◌, List, [], ◌∷◌, ◌++◌, length, map, take, None, is_some, Contains}
+use Rattle.std.specs.Prelude.{◌≡◌, ℕ, zero, suc, ◌-◌, Bool, false, not, if◌then◌else◌, List, [], ◌∷◌, ◌++◌, length, map, take, None, is_some, Contains}
 use Rattle.std.specs.List.{AllByRecursion, filter}
-use Rattle.std.specs.Ordering.{is_lt}
-use Rattle.ext_text.specs.Path.{IsPath, path_cmp}
+use Rattle.std.specs.Ordering.{eq_by_cmp, is_lt}
+use Rattle.ext_text.specs.Path.{IsPath, parent, path_cmp}
 use Rattle.ext_text.specs.SortedPaths.{covers}
 use Rattle.ext_tree.specs.Graft.{made}
 use Rattle.ext_tree.specs.Grafting.{hung}
@@ -33,6 +33,20 @@ lacks es p = not (is_some (lookup es p))
 abbrev pub lacking_above : {C : Type 0} → Entries C → List (Piece C) → List (List (List ℕ))
 lacking_above es [] = []
 lacking_above es (piece ∷ pieces) = filter (lacks es) (prefixes piece.path) ++ lacking_above es pieces
+
+-- the first of the pieces stands in the directory of this one
+abbrev pub is_beside : {C : Type 0} → Piece C → List (Piece C) → Bool
+is_beside piece [] = false
+is_beside piece (next ∷ pieces) = eq_by_cmp path_cmp (parent piece.path) (parent next.path)
+
+-- those of a piece, unless the next one stands in its directory
+abbrev pub lacking_last : {C : Type 0} → Entries C → Piece C → List (Piece C) → List (List (List ℕ))
+lacking_last es piece pieces = if is_beside piece pieces then [] else filter (lacks es) (prefixes piece.path)
+
+-- those of pieces, of pieces in one directory that follow one another those of the last
+abbrev pub lacking_once : {C : Type 0} → Entries C → List (Piece C) → List (List (List ℕ))
+lacking_once es [] = []
+lacking_once es (piece ∷ pieces) = lacking_last es piece pieces ++ lacking_once es pieces
 
 -- made directories at the paths
 abbrev pub made_at : {C : Type 0} → List (List (List ℕ)) → Entries C

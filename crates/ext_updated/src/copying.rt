@@ -12,9 +12,12 @@ use ext_text::{OutOfMemory, Path, PathRef, SortedPaths};
 use ext_tree::{Entry, Held1, Tree, after};
 use std::alloc::Global;
 
-// A copy of the tree without these paths and all that is below them: two searches among the entries for each path, and one pass
-// over what is left.
-pub(crate) fn copy_without<C: Held1 + Drop>(
+/// A copy of the tree without these paths and all that is below them: two searches among the entries for each path, and one pass
+/// over what is left.
+///
+/// # Errors
+/// `OutOfMemory`.
+pub fn copy_without<C: Held1 + Drop>(
     alloc: Global,
     root: &Tree<C>,
     paths: &SortedPaths,

@@ -19,6 +19,7 @@ mod putting;
 mod updating;
 
 pub use clashing::clash;
+pub use copying::copy_without;
 pub use items::Items;
 pub use manifesting::manifest_at;
 pub use piece::Piece;

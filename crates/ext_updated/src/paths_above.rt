@@ -6,7 +6,7 @@ ghost use Rattle.ext_text.specs.Path.{path_cmp};
 ghost use Rattle.ext_tree.specs.Graft.{made};
 ghost use Rattle.ext_tree.specs.Tree.{lookup};
 ghost use Rattle.ext_updated.specs.Pieces.{is_above};
-ghost use Rattle.ext_updated.specs.Putting.{lacking_above, lacks, made_at, prefixes};
+ghost use Rattle.ext_updated.specs.Putting.{is_beside, lacking_last, lacking_once, lacks, made_at, prefixes};
 
 use crate::piece::Piece;
 use ext_text::{Mode, OutOfMemory, Path, PathRef, SortedPaths};
@@ -33,18 +33,50 @@ pub(crate) fn missing_above<C: Drop>(
     Ok(pairs)
 }
 
-// Appends the proper prefixes of the paths of pieces, the root aside, at which nothing stands.
+// Appends the proper prefixes of the paths of pieces, the root aside, at which nothing stands: of pieces in one directory that follow
+// one another, those of the last.
 fn append_above<C>(
     paths: &mut Vec<Path>,
     tree: &Tree<C>,
     pieces: &[Piece<C>],
 ) -> Result<(), OutOfMemory>
-    ensures { OnOk result (paths.new.items ≡ paths.old.items ++ lacking_above tree.now pieces.now) }
+    ensures { OnOk result (paths.new.items ≡ paths.old.items ++ lacking_once tree.now pieces.now) }
 {
-    'pieces: for piece in pieces {
-        append_prefixes(paths, tree, &piece.path)?;
+    let mut rest = pieces;
+    'pieces: loop {
+        match rest {
+            [] => return Ok(()),
+            [piece, more @ ..] => {
+                append_last(paths, tree, piece, more)?;
+                rest = more;
+            }
+        }
     }
-    Ok(())
+}
+
+// Appends those of a piece, unless the next one stands in its directory.
+fn append_last<C>(
+    paths: &mut Vec<Path>,
+    tree: &Tree<C>,
+    piece: &Piece<C>,
+    more: &[Piece<C>],
+) -> Result<(), OutOfMemory>
+    ensures { OnOk result (paths.new.items ≡ paths.old.items ++ lacking_last tree.now piece.now more.now) }
+{
+    if is_beside(piece, more) {
+        return Ok(());
+    }
+    append_prefixes(paths, tree, &piece.path)
+}
+
+// Whether the first of the pieces stands in the directory of this one.
+fn is_beside<C>(piece: &Piece<C>, pieces: &[Piece<C>]) -> bool
+    ensures { result ≡ is_beside piece.now pieces.now }
+{
+    match pieces.first() {
+        None => false,
+        Some(next) => piece.path.parent().cmp(&next.path.parent()).is_eq(),
+    }
 }
 
 // Appends the proper prefixes of the path, the root aside, at which nothing stands.

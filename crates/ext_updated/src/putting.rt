@@ -14,14 +14,14 @@ use std::alloc::Global;
 use std::cmp::Ordering;
 use std::collections::VecDeque;
 
-// The pieces in the order of their paths.
-pub(crate) fn in_order<C: Drop>(pieces: Vec<Piece<C>>) -> Vec<Piece<C>>
-    ensures same { IsPermutation pieces.items result.items }
-    ensures sorted { IsSortedByKey (λ piece. piece.path) path_cmp result.items }
+// The pieces in the order of their paths. They come in a few stretches that are in order, which a stable sort merges.
+pub(crate) fn in_order<C: Drop>(pieces: Vec<Piece<C>>) -> Result<Vec<Piece<C>>, OutOfMemory>
+    ensures same { IfOk result (λ sorted. IsPermutation pieces.items sorted.items) }
+    ensures sorted { IfOk result (λ sorted. IsSortedByKey (λ piece. piece.path) path_cmp sorted.items) }
 {
     let mut sorted = pieces;
-    sorted.sort_unstable_by(piece_cmp);
-    sorted
+    sorted.sort_by(piece_cmp)?;
+    Ok(sorted)
 }
 
 // How the paths of two pieces stand to each other.

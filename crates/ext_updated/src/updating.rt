@@ -39,7 +39,8 @@ pub fn updated<C: Held1 + Drop>(
     requires { MayBePut root.now removed.now pieces.items }
     ensures { AnswersUpdated root.now removed.now pieces.items result }
 {
-    put(alloc, root, removed, in_order(pieces))
+    let sorted = in_order(pieces)?;
+    put(alloc, root, removed, sorted)
 }
 
 // The tree after an update, by pieces in the order of their paths.

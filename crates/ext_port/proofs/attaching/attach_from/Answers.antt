@@ -12,12 +12,12 @@ attach_units-requires-clause-units c = (prefixes_of c.args.ask.now.prefixes c.ar
 pub returns-in-Ok-clause-gives : goal.returns-in-Ok-clause-gives
 returns-in-Ok-clause-gives c =
     let start = c.args.start.now in
-    bar_more (ProfileWants start.host start.cut start.base c.args.ask.now c.args.body.now c.args.tree.now c.args.lines.now c.in-Ok.units)
-    (UnitsWant start.host start.cut start.base c.args.ask.now c.args.body.now c.args.tree.now c.args.lines.now)
+    bar_more (ProfileWants start.host.now start.cut start.base c.args.ask.now c.args.body.now c.args.tree.now c.args.lines.now c.in-Ok.units)
+    (UnitsWant start.host.now start.cut start.base c.args.ask.now c.args.body.now c.args.tree.now c.args.lines.now)
     (λ r wants. inl (c.in-Ok.units, c.in-Ok.ensures, wants)) c.attach_units.result c.attach_units.ensures.gives
 
 pub returns-in-Err-clause-gives : goal.returns-in-Err-clause-gives
 returns-in-Err-clause-gives c =
     let start = c.args.start.now in
-    let wants = UnitsWant start.host start.cut start.base c.args.ask.now c.args.body.now c.args.tree.now c.args.lines.now in
+    let wants = UnitsWant start.host.now start.cut start.base c.args.ask.now c.args.body.now c.args.tree.now c.args.lines.now in
     subst (λ (e : PortErr). BarMemory wants (Err e)) (sym c.from.ensures) (bar_from wants (Err (port_err_of_units c.in-Err.failed)) (inr (c.in-Err.failed, c.in-Err.ensures, refl)))

@@ -13,24 +13,24 @@ attach_from-requires-clause-body g c =
     let start = c.args.start.now in
     let read = c.in-Ok.ensures.gives in
     record {
-      is_image = subst (IsImageAt start.base start.host.arch c.args.ask.now.image) (sym read.place_is) c.requires.image;
+      is_image = subst (IsImageAt start.base start.host.now.arch c.args.ask.now.image) (sym read.place_is) c.requires.image;
       is_tree = subst (λ place. IsTreeOf start.base place c.in-Ok.body.tree) (sym read.place_is) read.is_tree;
     }
 
 pub attach_from-requires-clause-files : goal.attach_from-requires-clause-files
 attach_from-requires-clause-files g c =
     let start = c.args.start.now in
-    tree_files start.host start.base c.requires.start.base c.args.place c.in-Ok.body.tree c.in-Ok.ensures.gives.is_tree
+    tree_files start.host.now start.base c.requires.start.base c.args.place c.in-Ok.body.tree c.in-Ok.ensures.gives.is_tree
 
 pub returns-in-Ok-clause-gives : goal.returns-in-Ok-clause-gives
 returns-in-Ok-clause-gives g c =
     let start = c.args.start.now in
-    bar_more (UnitsWant start.host start.cut start.base c.args.ask.now c.in-Ok.body c.in-Ok.body.tree [])
-    (BodyWants (g.H.Shelf.told c.args.shelf.now) (g.H.Shelf.faults c.args.shelf.now) (g.H.Shelf.faults c.body_at.new.shelf) start.host start.cut start.base c.args.ask.now c.args.place)
+    bar_more (UnitsWant start.host.now start.cut start.base c.args.ask.now c.in-Ok.body c.in-Ok.body.tree [])
+    (BodyWants (g.H.Shelf.told c.args.shelf.now) (g.H.Shelf.faults c.args.shelf.now) (g.H.Shelf.faults c.body_at.new.shelf) start.host.now start.cut start.base c.args.ask.now c.args.place)
     (λ r wants. inl (c.in-Ok.body, c.in-Ok.ensures.gives, wants)) c.attach_from.result c.attach_from.ensures.gives
 
 pub returns-in-Err-clause-gives : goal.returns-in-Err-clause-gives
 returns-in-Err-clause-gives g c =
     let start = c.args.start.now in
-    let wants = BodyWants (g.H.Shelf.told c.args.shelf.now) (g.H.Shelf.faults c.args.shelf.now) (g.H.Shelf.faults c.body_at.new.shelf) start.host start.cut start.base c.args.ask.now c.args.place in
+    let wants = BodyWants (g.H.Shelf.told c.args.shelf.now) (g.H.Shelf.faults c.args.shelf.now) (g.H.Shelf.faults c.body_at.new.shelf) start.host.now start.cut start.base c.args.ask.now c.args.place in
     subst (λ (e : PortErr). BarMemory wants (Err e)) (sym c.from.ensures) (bar_from wants (Err (port_err_of_body c.in-Err.failed)) (inr (c.in-Err.failed, c.in-Err.ensures.gives, refl)))

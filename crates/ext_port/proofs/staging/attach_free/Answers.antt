@@ -10,11 +10,11 @@ use Rattle.ext_port.proofs.staging.attach_free.Goals as goal
 
 pub attach_open-requires-clause-open : goal.attach_open-requires-clause-open
 attach_open-requires-clause-open c =
-    least_moved (λ path. is_non_directory_at (lookup c.args.start.now.host.root path)) c.in_ok-ways.ways (ways_of c.args.made.now) None c.in_ok-ways.ensures c.in-None.ensures
+    least_moved (λ path. is_non_directory_at (lookup c.args.start.now.host.now.root path)) c.in_ok-ways.ways (ways_of c.args.made.now) None c.in_ok-ways.ensures c.in-None.ensures
 
 pub returns-in_ok-path-in-Some-clause-gives : goal.returns-in_ok-path-in-Some-clause-gives
 returns-in_ok-path-in-Some-clause-gives c =
-    let root = c.args.start.now.host.root in
+    let root = c.args.start.now.host.now.root in
     inr (
       c.in_ok-path-in-Some.path,
       subst (IsLeastPassing (λ path. is_non_directory_at (lookup root path)) (ways_of c.args.made.now)) (sym c.in_ok-path-in-Some.ensures)
@@ -24,7 +24,7 @@ returns-in_ok-path-in-Some-clause-gives c =
 
 pub returns-in-None-clause-gives : goal.returns-in-None-clause-gives
 returns-in-None-clause-gives c =
-    let host = c.args.start.now.host in
+    let host = c.args.start.now.host.now in
     let none = least_moved (λ path. is_non_directory_at (lookup host.root path)) c.in_ok-ways.ways (ways_of c.args.made.now) None c.in_ok-ways.ensures c.in-None.ensures in
     bar_more (FittingWants host c.args.ask.now c.args.image.now c.args.tree.now c.args.made.now)
     (BlockingWants host c.args.ask.now c.args.image.now c.args.tree.now c.args.made.now)

@@ -7,7 +7,7 @@ use Rattle.ext_port.proofs.staging.attach_units.Goals as goal
 
 pub attach_made-requires-clause-sound : goal.attach_made-requires-clause-sound
 attach_made-requires-clause-sound c =
-    sound_made c.args.start.now.host c.args.start.now.base c.requires.start.valid c.requires.start.base c.args.ask.now c.args.body.now c.args.tree.now c.args.units c.in-Some.profile c.args.lines.now
+    sound_made c.args.start.now.host.now c.args.start.now.base c.requires.start.valid c.requires.start.base c.args.ask.now c.args.body.now c.args.tree.now c.args.units c.in-Some.profile c.args.lines.now
     c.in_ok-made-in-Some.made c.requires.asked c.requires.body c.requires.files c.requires.units c.units_ascend.ensures c.pairs-entries.ensures.tree.tree c.names-names.ensures.path
     (subst (ProfileAt c.args.start.now.base c.args.ask.now.profile) c.in-Some.is c.in_ok-profile_of.ensures) c.in_ok-made-in-Some.ensures c.look_at_digest.ensures
 
@@ -21,8 +21,8 @@ returns-in-None-clause-gives c =
 pub returns-in_ok-made-in-Some-clause-gives : goal.returns-in_ok-made-in-Some-clause-gives
 returns-in_ok-made-in-Some-clause-gives c =
     let start = c.args.start.now in
-    bar_more (LockedWants start.host c.args.ask.now c.args.body.now.tree c.args.tree.now c.in_ok-made-in-Some.made start.cut)
-    (ProfileWants start.host start.cut start.base c.args.ask.now c.args.body.now c.args.tree.now c.args.lines.now c.args.units)
+    bar_more (LockedWants start.host.now c.args.ask.now c.args.body.now.tree c.args.tree.now c.in_ok-made-in-Some.made start.cut)
+    (ProfileWants start.host.now start.cut start.base c.args.ask.now c.args.body.now c.args.tree.now c.args.lines.now c.args.units)
     (λ r wants. inl (
       c.in-Some.profile,
       subst (ProfileAt start.base c.args.ask.now.profile) c.in-Some.is c.in_ok-profile_of.ensures,

@@ -9,7 +9,7 @@ use Rattle.ext_port.proofs.staging.attach_unlocked.Goals as goal
 
 pub returns-in_ok-path-in-Some-clause-gives : goal.returns-in_ok-path-in-Some-clause-gives
 returns-in_ok-path-in-Some-clause-gives c =
-    let root = c.args.start.now.host.root in
+    let root = c.args.start.now.host.now.root in
     inr (
       c.in_ok-path-in-Some.path,
       subst (IsLeastPassing (λ path. is_some (lookup root path)) (tops_of c.args.made.now)) (sym c.in_ok-path-in-Some.ensures)
@@ -19,7 +19,7 @@ returns-in_ok-path-in-Some-clause-gives c =
 
 pub returns-in-None-clause-gives : goal.returns-in-None-clause-gives
 returns-in-None-clause-gives c =
-    let host = c.args.start.now.host in
+    let host = c.args.start.now.host.now in
     let none = least_moved (λ path. is_some (lookup host.root path)) c.args.tops (tops_of c.args.made.now) None c.requires.tops c.in-None.ensures in
     bar_more (BlockingWants host c.args.ask.now c.args.image.now c.args.tree.now c.args.made.now)
     (StandingWants host c.args.ask.now c.args.image.now c.args.tree.now c.args.made.now)

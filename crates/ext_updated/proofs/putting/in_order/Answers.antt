@@ -9,4 +9,4 @@ use Rattle.ext_updated.proofs.putting.in_order.Goals as goal
 
 pub returns-clause-sorted : goal.returns-clause-sorted
 returns-clause-sorted g c =
-    c.sort_unstable_by.ensures.sorted (λ x y. is_lt (path_cmp (path_of x) (path_of y))) (ranks_by paths_total path_of) (always_returns_same _ _ _ (λ a r f h. search rules))
+    c.in_ok-sort_by.ensures.sorted (λ x y. is_lt (path_cmp (path_of x) (path_of y))) (ranks_by paths_total path_of) (always_returns_same _ _ _ (λ a r f h. search rules))
