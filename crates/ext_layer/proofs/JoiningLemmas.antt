@@ -289,5 +289,9 @@ module _ {C : Type 0} where
   joins_both_at {xs = xs} {ys = ys} {us = us} {ls = ls} upper lower us-is ls-is is =
       subst (Joins (xs ++ ys)) (sym (is ∙ (λ i. over (all_seen (us-is i)) (all_seen (ls-is i))))) (joins_both xs ys (all_seen us) (all_seen ls) upper lower)
 
+  pub joins_host_at : {xs : List (Entries C)} {es pairs : Entries C} {us us-slice : List (Item C)} → Joins xs (all_seen us) → IsTreeWithin es → us-slice ≡ us → pairs ≡ es → Joins (xs ++ es ∷ []) (over (all_seen us-slice) (marked pairs))
+  joins_host_at {xs = xs} {es = es} {us = us} upper within us-is same =
+      subst (Joins (xs ++ es ∷ [])) (sym (λ i. over (all_seen (us-is i)) (marked (same i)))) (joins_both xs (es ∷ []) (all_seen us) (marked es) upper (joins_one es within.tree))
+
   pub joins_parts : (n : ℕ) (layers : List (Entries C)) {xs ys : List (Entries C)} {ms : MarkedEntries C} → xs ≡ take n layers → ys ≡ drop n layers → Joins (xs ++ ys) ms → Joins layers ms
   joins_parts n layers {ms = ms} prefix back joins = subst (λ l. Joins l ms) ((λ i. prefix i ++ back i) ∙ take-append-drop n layers) joins

@@ -2,7 +2,7 @@
 use Rattle.std.proofs.Common.{◌≡◌, ℕ, ◌<◌, ◌≤◌, Bool, true, false, cond, not, List, [], ◌∷◌, ◌++◌, length, map, take, drop, get_or, ◌+◌, Option, Some, None, is_some, refl, sym, ap, ◌∙◌, subst, arith, append_assoc}
 use mathlib.Core.Logic.{inl, inr}
 use Rattle.std.proofs.lemmas.Bool.{false≢true, and_parts, and_from, not-true, false_from_ne_true, not_from_false}
-use Rattle.std.proofs.lemmas.List.{length-map, map-append, take_more}
+use Rattle.std.proofs.lemmas.List.{drop_all, length-map, map-append, take_more}
 use Rattle.std.specs.Option.{option_map}
 use Rattle.std.specs.Borrow.{Bor}
 use Rattle.std.specs.List.{AllByRecursion, filter}
@@ -152,30 +152,44 @@ module _ {C : Type 0} where
         | false ↦ ap (λ l. (m.0, as_shown m.1.entry) ∷ l) rest
       ]
 
-  pub pushed : (olds : Entries C) (items : List (Item C)) (i : ℕ) (item : Item C) (pairs more : Entries C) → i < length items → item ≡ get_or items i item → pairs ≡ olds ++ visible_in (all_seen (take i items)) → more ≡ pairs ++ visible_in (seen item ∷ []) → more ≡ olds ++ visible_in (all_seen (take (i + 1) items))
-  pushed olds items i item pairs more lt item-is is more-is =
-      let longer : take (i + 1) items ≡ take i items ++ item ∷ [] = take_more items i item lt ∙ ap (λ x. take i items ++ x ∷ []) (sym item-is) in
-      more-is ∙ ap (λ l. l ++ visible_in (seen item ∷ [])) is ∙ append_assoc olds (visible_in (all_seen (take i items))) (visible_in (seen item ∷ []))
-      ∙ ap (λ l. olds ++ l) (sym (visible_append (all_seen (take i items)) (seen item ∷ [])) ∙ ap visible_in (sym (map-append seen (take i items) (item ∷ []))) ∙ ap (λ l. visible_in (all_seen l)) (sym longer))
+  pub pushed : (olds es : Entries C) (i : ℕ) (e : List (List ℕ) × Entry C) (pairs more : Entries C) → i < length es → e ≡ get_or es i e → pairs ≡ olds ++ visible_in (marked (take i es)) → more ≡ pairs ++ visible_in (marked (e ∷ [])) → more ≡ olds ++ visible_in (marked (take (i + 1) es))
+  pushed olds es i e pairs more lt e-is is more-is =
+      let longer : take (i + 1) es ≡ take i es ++ e ∷ [] = take_more es i e lt ∙ ap (λ x. take i es ++ x ∷ []) (sym e-is) in
+      more-is ∙ ap (λ l. l ++ visible_in (marked (e ∷ []))) is ∙ append_assoc olds (visible_in (marked (take i es))) (visible_in (marked (e ∷ [])))
+      ∙ ap (λ l. olds ++ l) (sym (visible_append (marked (take i es)) (marked (e ∷ []))) ∙ ap visible_in (sym (map-append (λ (f : List (List ℕ) × Entry C). (f.0, with_mark f.1)) (take i es) (e ∷ []))) ∙ ap (λ l. visible_in (marked l)) (sym longer))
+
+  -- a mark is of no matter to what shows
+  unmarked : (laid : Item C) → visible_in (marked (laid.pair.now ∷ [])) ≡ visible_in (seen laid ∷ [])
+  unmarked laid =
+      let Shown : MarkedEntries C → Entries C = map (λ m. (m.0, as_shown m.1.entry)) in
+      elim (is_hide laid.pair.now.1) as (λ b. Shown (cond (not b) ((laid.pair.now.0, with_mark laid.pair.now.1) ∷ []) []) ≡ Shown (cond (not b) (seen laid ∷ []) [])) [ true ↦ refl | false ↦ refl ]
+
+  -- where no upper item is left, what is left below is visible
+  pub shown_last : (upper : List (Item C)) (lower pairs : Entries C) (i from : ℕ) {rest new whole : Entries C} → length upper ≤ i → rest ≡ drop from lower → new ≡ pairs ++ visible_in (marked rest)
+      → pairs ++ visible_in (over (all_seen (drop i upper)) (marked (drop from lower))) ≡ whole → new ≡ whole
+  shown_last upper lower pairs i from none rest-is new-is invariant =
+      new-is ∙ ap (λ es. pairs ++ visible_in (marked es)) rest-is
+      ∙ ap (λ us. pairs ++ visible_in (over (all_seen us) (marked (drop from lower)))) (sym (drop_all i upper none)) ∙ invariant
 
   -- what is visible so far and of what is left still make the whole after a step
-  pub shown_calls : (upper lower : List (Item C)) (pairs : Entries C) (from : ℕ) (laid : Item C) {rest before after : List (Item C)} {grown longer : Entries C} {i n m : ℕ} {item : Item C} {whole : Entries C}
-      → is_sorted path_cmp (all_seen upper) ≡ true → is_sorted path_cmp (all_seen lower) ≡ true
+  pub shown_calls : (upper : List (Item C)) (lower pairs : Entries C) (from : ℕ) (laid : Item C) {rest before after grown longer : Entries C} {i n m : ℕ} {item : Item C} {whole : Entries C}
+      → is_sorted path_cmp (all_seen upper) ≡ true → is_sorted path_cmp (marked lower) ≡ true
       → i < length upper → item ≡ get_or upper i item
       → rest ≡ drop from lower → before ≡ take n rest → after ≡ drop n rest
-      → grown ≡ pairs ++ visible_in (all_seen before) → longer ≡ grown ++ visible_in (seen laid ∷ [])
-      → n ≡ insertion_point path_cmp (seen item).0 (all_seen rest)
-      → seen laid ≡ laid_first (seen item) (all_seen after)
-      → m ≡ count_hidden (seen item) (all_seen after)
-      → pairs ++ visible_in (over (all_seen (drop i upper)) (all_seen (drop from lower))) ≡ whole
-      → longer ++ visible_in (over (all_seen (drop (i + 1) upper)) (all_seen (drop (from + (n + m)) lower))) ≡ whole
+      → grown ≡ pairs ++ visible_in (marked before) → longer ≡ grown ++ visible_in (marked (laid.pair.now ∷ []))
+      → n ≡ insertion_point path_cmp (seen item).0 (marked rest)
+      → seen laid ≡ laid_first (seen item) (marked after)
+      → m ≡ count_hidden (seen item) (marked after)
+      → pairs ++ visible_in (over (all_seen (drop i upper)) (marked (drop from lower))) ≡ whole
+      → longer ++ visible_in (over (all_seen (drop (i + 1) upper)) (marked (drop (from + (n + m)) lower))) ≡ whole
   shown_calls upper lower pairs from laid {before = before} {i = i} {n = n} {m = m} sorted-upper sorted-lower lt item-is rest-is before-is after-is grown-is longer-is n-is laid-is m-is invariant =
-      let left = over (all_seen (drop (i + 1) upper)) (all_seen (drop (from + (n + m)) lower)) in
-      let stepped : all_seen (before ++ laid ∷ []) ++ left ≡ over (all_seen (drop i upper)) (all_seen (drop from lower)) =
-      advance_calls upper lower [] from laid {grown = before} {longer = before ++ laid ∷ []} sorted-upper sorted-lower lt item-is rest-is before-is after-is refl refl n-is laid-is m-is refl in
-      let parts : visible_in (all_seen (before ++ laid ∷ []) ++ left) ≡ (visible_in (all_seen before) ++ visible_in (seen laid ∷ [])) ++ visible_in left =
-      visible_append (all_seen (before ++ laid ∷ [])) left ∙ ap (λ l. visible_in l ++ visible_in left) (map-append seen before (laid ∷ [])) ∙ ap (λ l. l ++ visible_in left) (visible_append (all_seen before) (seen laid ∷ [])) in
-      ap (λ l. l ++ visible_in left) (longer-is ∙ ap (λ l. l ++ visible_in (seen laid ∷ [])) grown-is ∙ append_assoc pairs (visible_in (all_seen before)) (visible_in (seen laid ∷ [])))
-      ∙ append_assoc pairs (visible_in (all_seen before) ++ visible_in (seen laid ∷ [])) (visible_in left)
+      let left = over (all_seen (drop (i + 1) upper)) (marked (drop (from + (n + m)) lower)) in
+      let one : MarkedEntries C = seen laid ∷ [] in
+      let stepped : (marked before ++ one) ++ left ≡ over (all_seen (drop i upper)) (marked (drop from lower)) =
+      advance_calls (λ (e : List (List ℕ) × Entry C). (e.0, with_mark e.1)) upper lower [] from laid {longer = marked before ++ one} sorted-upper sorted-lower lt item-is rest-is before-is after-is refl n-is laid-is m-is refl in
+      let parts : visible_in ((marked before ++ one) ++ left) ≡ (visible_in (marked before) ++ visible_in one) ++ visible_in left =
+      visible_append (marked before ++ one) left ∙ ap (λ l. l ++ visible_in left) (visible_append (marked before) one) in
+      ap (λ l. l ++ visible_in left) (longer-is ∙ (λ i. grown-is i ++ unmarked laid i) ∙ append_assoc pairs (visible_in (marked before)) (visible_in one))
+      ∙ append_assoc pairs (visible_in (marked before) ++ visible_in one) (visible_in left)
       ∙ ap (λ l. pairs ++ l) (sym parts ∙ ap visible_in stepped)
       ∙ invariant

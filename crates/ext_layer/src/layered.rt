@@ -4,14 +4,14 @@ ghost use Rattle.std.specs.FinMap.{is_sorted};
 ghost use Rattle.ext_text.specs.Path.{path_cmp};
 ghost use Rattle.ext_tree.specs.Tree.{all_shown, as_shown, most_entries};
 ghost use Rattle.ext_layer.specs.Layered.{GivesLayered};
-ghost use Rattle.ext_layer.specs.Overlay.{over, visible_in};
+ghost use Rattle.ext_layer.specs.Overlay.{marked, over, visible_in};
 ghost use Rattle.ext_layer.specs.Joining.{Shows};
-ghost use Rattle.ext_layer.specs.Item.{all_seen, entries_seen, seen};
+ghost use Rattle.ext_layer.specs.Item.{all_seen, entries_seen};
 
 use crate::Layers;
 use crate::errors::LayerErr;
 use crate::item::Item;
-use crate::joining::{items_of_tree, joined};
+use crate::joining::joined;
 use crate::overlay::{count_hidden, insertion_point, laid_over};
 use ext_text::{OutOfMemory, Path};
 use ext_tree::{Entry, Held1, MOST_ENTRIES, Tree};
@@ -62,8 +62,7 @@ fn visible_of<'a, C>(
     ensures { IfOk result (λ pairs. Shows (layers.now ++ host.now ∷ []) (all_shown pairs.items)) }
 {
     let upper = joined(alloc, layers)?;
-    let lower = items_of_tree(alloc, host)?;
-    visible_merged(alloc, upper.as_slice(), lower.as_slice())
+    visible_merged(alloc, upper.as_slice(), host.pairs())
 }
 
 fn are_too_many<C>(pairs: &[&(Path, Entry<C>)]) -> bool
@@ -72,16 +71,16 @@ fn are_too_many<C>(pairs: &[&(Path, Entry<C>)]) -> bool
     pairs.len() > MOST_ENTRIES
 }
 
-// The entries that are visible of the upper list laid over the lower one: the last join makes no list of its own. Whiteouts
-// have hidden what they hide, and go.
+// The entries that are visible of the upper list laid over the lowest layer: the last join makes no list of its own, and neither of
+// that layer. Whiteouts have hidden what they hide, and go.
 fn visible_merged<'a, C>(
     alloc: Global,
     upper: &[Item<'a, C>],
-    lower: &[Item<'a, C>],
+    lower: &'a [(Path, Entry<C>)],
 ) -> Result<Vec<&'a (Path, Entry<C>)>, OutOfMemory>
     requires upper { IsTrue (is_sorted path_cmp (all_seen upper.now)) }
-    requires lower { IsTrue (is_sorted path_cmp (all_seen lower.now)) }
-    ensures { IfOk result (λ pairs. all_shown pairs.items ≡ visible_in (over (all_seen upper.now) (all_seen lower.now))) }
+    requires lower { IsTrue (is_sorted path_cmp (marked lower.now)) }
+    ensures { IfOk result (λ pairs. all_shown pairs.items ≡ visible_in (over (all_seen upper.now) (marked lower.now))) }
 {
     let mut pairs = Vec::with_capacity(alloc, upper.len().saturating_add(lower.len()))?;
     let mut from = 0;
@@ -91,7 +90,7 @@ fn visible_merged<'a, C>(
         let (before, after) = rest.split_at(index);
         append_visible(&mut pairs, before)?;
         let laid = laid_over(item, after);
-        push_visible(&mut pairs, &laid)?;
+        push_visible(&mut pairs, laid.pair)?;
         from += index + count_hidden(after, item);
     }
     let (_passed, rest) = lower.split_at(from);
@@ -99,28 +98,28 @@ fn visible_merged<'a, C>(
     Ok(pairs)
 }
 
-// Adds the entries of items at the end, but for whiteouts.
+// Adds entries at the end, but for whiteouts.
 fn append_visible<'a, C>(
     pairs: &mut Vec<&'a (Path, Entry<C>)>,
-    items: &[Item<'a, C>],
+    more: &'a [(Path, Entry<C>)],
 ) -> Result<(), OutOfMemory>
-    ensures { OnOk result (all_shown pairs.new.items ≡ all_shown pairs.old.items ++ visible_in (all_seen items.now)) }
+    ensures { OnOk result (all_shown pairs.new.items ≡ all_shown pairs.old.items ++ visible_in (marked more.now)) }
 {
-    for item in items {
-        push_visible(pairs, item)?;
+    for pair in more {
+        push_visible(pairs, pair)?;
     }
     Ok(())
 }
 
-// Adds an item's entry at the end, where it is no whiteout.
+// Adds an entry at the end, where it is no whiteout.
 fn push_visible<'a, C>(
     pairs: &mut Vec<&'a (Path, Entry<C>)>,
-    item: &Item<'a, C>,
+    pair: &'a (Path, Entry<C>),
 ) -> Result<(), OutOfMemory>
-    ensures { OnOk result (all_shown pairs.new.items ≡ all_shown pairs.old.items ++ visible_in (seen item.now ∷ [])) }
+    ensures { OnOk result (all_shown pairs.new.items ≡ all_shown pairs.old.items ++ visible_in (marked (pair.now ∷ []))) }
 {
-    if !item.pair.1.is_hide() {
-        pairs.push(item.pair)?;
+    if !pair.1.is_hide() {
+        pairs.push(pair)?;
     }
     Ok(())
 }

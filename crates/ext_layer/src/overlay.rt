@@ -1,12 +1,12 @@
 // One marked list laid over another, in one pass over both.
-ghost use Rattle.std.specs.Prelude.{◌≡◌, ◌+◌, ◌≤◌, ◌++◌, drop, length, IfOk, OnOk, IsTrue};
+ghost use Rattle.std.specs.Prelude.{◌≡◌, ◌+◌, ◌≤◌, ◌++◌, drop, length, map, IfOk, OnOk, IsTrue};
 ghost use Rattle.std.specs.FinMap.{is_sorted};
 ghost use Rattle.ext_text.specs.Path.{path_cmp};
 ghost use Rattle.ext_tree.specs.InsertionPoint.{insertion_point, is_past};
 ghost use Rattle.ext_layer.specs.Overlay.{count_hidden, cuts_at, first_at, hides, over, over_entry};
 ghost use Rattle.ext_layer.specs.Item.{all_seen, seen};
 
-use crate::item::Item;
+use crate::item::{Item, Lies};
 use ext_text::{OutOfMemory, Path};
 use std::alloc::Global;
 
@@ -48,9 +48,9 @@ fn append<'a, C>(items: &mut Vec<Item<'a, C>>, more: &[Item<'a, C>]) -> Result<(
 
 /// How many of the lower items stand before the upper one. Whole strides are passed by one comparison each, so that a
 /// few upper items in a large lower list cost little.
-pub(crate) fn insertion_point<C>(lower: &[Item<C>], upper: &Item<C>) -> usize
-    requires { IsTrue (is_sorted path_cmp (all_seen lower.now)) }
-    ensures count { result ≡ insertion_point path_cmp (seen upper.now).0 (all_seen lower.now) }
+pub(crate) fn insertion_point<C, L: Lies<C>>(lower: &[L], upper: &Item<C>) -> usize
+    requires { IsTrue (is_sorted path_cmp (map L.sees lower.now)) }
+    ensures count { result ≡ insertion_point path_cmp (seen upper.now).0 (map L.sees lower.now) }
     ensures within { result ≤ length lower.now }
 {
     let mut passed = 0;
@@ -65,11 +65,11 @@ pub(crate) fn insertion_point<C>(lower: &[Item<C>], upper: &Item<C>) -> usize
 }
 
 // Whether the upper item is past the last one of a whole stride, and so past all of the stride.
-fn passes_stride<C>(lower: &[Item<C>], upper: &Item<C>) -> bool
-    requires { IsTrue (is_sorted path_cmp (all_seen lower.now)) }
+fn passes_stride<C, L: Lies<C>>(lower: &[L], upper: &Item<C>) -> bool
+    requires { IsTrue (is_sorted path_cmp (map L.sees lower.now)) }
     ensures within { IsTrue result → STRIDE ≤ length lower.now }
-    ensures passed { IsTrue result → insertion_point path_cmp (seen upper.now).0 (all_seen lower.now)
-        ≡ STRIDE + insertion_point path_cmp (seen upper.now).0 (all_seen (drop STRIDE lower.now)) }
+    ensures passed { IsTrue result → insertion_point path_cmp (seen upper.now).0 (map L.sees lower.now)
+        ≡ STRIDE + insertion_point path_cmp (seen upper.now).0 (map L.sees (drop STRIDE lower.now)) }
 {
     match lower.get(STRIDE - 1) {
         Some(last) => is_past(upper, last),
@@ -78,8 +78,8 @@ fn passes_stride<C>(lower: &[Item<C>], upper: &Item<C>) -> bool
 }
 
 // How many of the lower items stand before the upper one, by a comparison for each.
-fn insertion_near<C>(lower: &[Item<C>], upper: &Item<C>) -> usize
-    ensures count { result ≡ insertion_point path_cmp (seen upper.now).0 (all_seen lower.now) }
+fn insertion_near<C, L: Lies<C>>(lower: &[L], upper: &Item<C>) -> usize
+    ensures count { result ≡ insertion_point path_cmp (seen upper.now).0 (map L.sees lower.now) }
     ensures within { result ≤ length lower.now }
 {
     'near: for (index, item) in lower.iter().enumerate() {
@@ -91,19 +91,19 @@ fn insertion_near<C>(lower: &[Item<C>], upper: &Item<C>) -> usize
 }
 
 // Whether the upper item stands past the lower one.
-fn is_past<C>(upper: &Item<C>, item: &Item<C>) -> bool
-    ensures { result ≡ is_past path_cmp (seen upper.now).0 (seen item.now) }
+fn is_past<C, L: Lies<C>>(upper: &Item<C>, item: &L) -> bool
+    ensures { result ≡ is_past path_cmp (seen upper.now).0 (L.sees item.now) }
 {
-    upper.pair.0.cmp(&item.pair.0).is_gt()
+    upper.pair.0.cmp(item.path()).is_gt()
 }
 
 /// How many lower items the upper one hides, of those that do not stand before it.
-pub(crate) fn count_hidden<C>(lower: &[Item<C>], upper: &Item<C>) -> usize
-    ensures count { result ≡ count_hidden (seen upper.now) (all_seen lower.now) }
+pub(crate) fn count_hidden<C, L: Lies<C>>(lower: &[L], upper: &Item<C>) -> usize
+    ensures count { result ≡ count_hidden (seen upper.now) (map L.sees lower.now) }
     ensures within { result ≤ length lower.now }
 {
     'hidden: for (count, item) in lower.iter().enumerate() {
-        if !hides(upper, &item.pair.0) {
+        if !hides(upper, item.path()) {
             return count;
         }
     }
@@ -122,9 +122,9 @@ fn hides<C>(upper: &Item<C>, path: &Path) -> bool
 }
 
 /// The upper item as it lies over the lower ones that do not stand before it.
-pub(crate) fn laid_over<'a, C>(upper: &Item<'a, C>, lower: &[Item<'a, C>]) -> Item<'a, C>
+pub(crate) fn laid_over<'a, C, L: Lies<C>>(upper: &Item<'a, C>, lower: &[L]) -> Item<'a, C>
     ensures path { (seen result).0 ≡ (seen upper.now).0 }
-    ensures mark { (seen result).1 ≡ over_entry (seen upper.now).1 (first_at (seen upper.now).0 (all_seen lower.now)) }
+    ensures mark { (seen result).1 ≡ over_entry (seen upper.now).1 (first_at (seen upper.now).0 (map L.sees lower.now)) }
 {
     Item {
         pair: upper.pair,
@@ -133,11 +133,11 @@ pub(crate) fn laid_over<'a, C>(upper: &Item<'a, C>, lower: &[Item<'a, C>]) -> It
 }
 
 // Whether the first item stands at the path and cuts.
-fn cuts_first<C>(items: &[Item<C>], path: &Path) -> bool
-    ensures { result ≡ cuts_at (first_at path.now (all_seen items.now)) }
+fn cuts_first<C, L: Lies<C>>(items: &[L], path: &Path) -> bool
+    ensures { result ≡ cuts_at (first_at path.now (map L.sees items.now)) }
 {
     match items {
         [] => false,
-        [first, ..] => first.cuts && first.pair.0.cmp(path).is_eq(),
+        [first, ..] => first.cuts() && first.path().cmp(path).is_eq(),
     }
 }

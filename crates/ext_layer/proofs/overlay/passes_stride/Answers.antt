@@ -5,4 +5,4 @@ use Rattle.ext_layer.proofs.overlay.passes_stride.Goals as goal
 pub returns-in-Some-clause-passed : goal.returns-in-Some-clause-passed
 returns-in-Some-clause-passed g c before =
     let found = c.in-Some.ensures.lookup in
-    stride_passed c.args.upper.now c.args.lower.now c.in-Some.last.now c.requires found.3.0 found.1 (sym c.is_past.ensures ∙ before)
+    stride_passed g.L.Lies.sees c.args.upper.now c.args.lower.now c.in-Some.last.now c.requires found.3.0 found.1 (sym c.is_past.ensures ∙ before)
