@@ -3,7 +3,6 @@ ghost use Rattle.std.specs.Prelude.{ℕ, IfOk};
 ghost use Rattle.ext_index_reader.specs.Reading.{LeadsTo};
 ghost use Rattle.ext_index_reader.specs.State.{at_part};
 ghost use Rattle.ext_index_reader.specs.declared.state.PartStage.TheVariants as parts;
-ghost use Rattle.ext_index_reader.specs.declared.state.SoFar.{SoFar};
 
 use crate::following::{follows_as_item, follows_as_manifest};
 use crate::next::{then_items, then_root};
@@ -60,12 +59,15 @@ pub(crate) fn item_line(
     }
 }
 
-/// After the line that tells how many entries are seen.
-pub(crate) fn root_line(line: &[u8]) -> Option<Stage>
-    ensures { (g : ℕ) (s : SoFar) → LeadsTo g (at_part s parts.Root) s line.now result }
+/// After the line that tells how many entries are seen. There is room for them then.
+pub(crate) fn root_line(so_far: &mut SoFar, line: &[u8]) -> Result<Option<Stage>, OutOfMemory>
+    ensures { (g : ℕ) → IfOk result (LeadsTo g (at_part so_far.old parts.Root) so_far.new line.now) }
 {
     match number_after(line, b"root", MOST_COUNT) {
-        None => None,
-        Some(count) => Some(then_root(count)),
+        None => Ok(None),
+        Some(count) => {
+            so_far.parts.root.make_room(count)?;
+            Ok(Some(then_root(count)))
+        }
     }
 }

@@ -6,7 +6,7 @@ ghost use Rattle.ext_tree.specs.declared.entry.Entry.{Entry};
 use ext_host::Held;
 use ext_lines::OutOfMemory;
 use ext_text::Path;
-use ext_tree::{Entry, Tree, may_follow};
+use ext_tree::{Entry, MOST_ENTRIES, Tree, may_follow};
 use std::alloc::Global;
 use std::marker::Model;
 
@@ -35,6 +35,17 @@ impl Rows {
         Rows {
             entries: Vec::new(alloc),
         }
+    }
+
+    /// Makes room for so many more, and for no more than a tree may have.
+    ///
+    /// # Errors
+    /// Out of memory alone.
+    pub(crate) fn make_room(&mut self, count: u64) -> Result<(), OutOfMemory>
+        ensures { self.new ≡ self.old }
+    {
+        self.entries.reserve(room_for(count))?;
+        Ok(())
     }
 
     /// How many there are.
@@ -68,5 +79,13 @@ impl Rows {
         ensures { result ≡ self }
     {
         Tree::from_pairs(self.entries)
+    }
+}
+
+// So many, and no more than a tree may have.
+fn room_for(count: u64) -> usize {
+    match usize::try_from(count) {
+        Ok(count) => count.min(MOST_ENTRIES),
+        Err(_) => MOST_ENTRIES,
     }
 }

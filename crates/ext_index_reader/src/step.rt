@@ -134,7 +134,7 @@ fn part_step(
             items,
             manifest,
         } => item_line(alloc, so_far, more, items, manifest, line),
-        PartStage::Root => Ok(root_line(line)),
+        PartStage::Root => root_line(so_far, line),
         PartStage::RootEntry { more } => root_entry_line(alloc, generation, so_far, more, line),
         PartStage::Lower => lower_line(alloc, so_far, line),
         PartStage::LowerEntry { more } => lower_entry_line(alloc, generation, so_far, more, line),

@@ -38,7 +38,7 @@ pub returns-in-Item : goal.returns-in-Item
 returns-in-Item c = in_part_ok c.args.generation c.args.so_far.now c.item_line.new.so_far c.args.part _ c.args.line.now c.item_line.result c.in-Item.is (c.item_line.ensures c.args.generation)
 
 pub returns-in-Root : goal.returns-in-Root
-returns-in-Root c = in_part c.args.generation c.args.so_far.now c.args.so_far.now c.args.part _ c.args.line.now c.root_line.result c.in-Root.is (c.root_line.ensures c.args.generation c.args.so_far.now)
+returns-in-Root c = in_part_ok c.args.generation c.args.so_far.now c.root_line.new.so_far c.args.part _ c.args.line.now c.root_line.result c.in-Root.is (c.root_line.ensures c.args.generation)
 
 pub returns-in-RootEntry : goal.returns-in-RootEntry
 returns-in-RootEntry c = in_part_ok c.args.generation c.args.so_far.now c.root_entry_line.new.so_far c.args.part _ c.args.line.now c.root_entry_line.result c.in-RootEntry.is c.root_entry_line.ensures
