@@ -1,7 +1,7 @@
 use ext_cmd::Command;
-use ext_folder::{FolderLock, Hold, Notice};
+use ext_folder::{FolderLock, Hold};
+use ext_reasons::lock;
 use ext_top::may_change;
-use std::env;
 use std::fs::File;
 
 /// How a command works on its store folder.
@@ -31,8 +31,8 @@ impl Access {
     /// The lock that it wants on the folder; none where the environment asks for none.
     pub(crate) fn lock(self, rt: &HostRuntime, store: &str) -> FolderLock {
         match self.hold() {
-            Some(hold) if !has(rt, "HOSTEXT_LOCK", "no") => FolderLock::of(rt, store, hold),
-            _ => FolderLock::unwanted(),
+            Some(hold) => lock(rt, store, hold),
+            None => FolderLock::unwanted(),
         }
     }
 
@@ -50,28 +50,5 @@ impl Access {
             Access::Reads => lock.handle(),
             Access::None | Access::Shows | Access::Changes => None,
         }
-    }
-}
-
-/// Whether a variable of the environment has this value.
-pub(crate) fn has(rt: &HostRuntime, variable: &str, value: &str) -> bool {
-    match env::var(rt, variable) {
-        Ok(found) => found.as_str() == value,
-        Err(_none) => false,
-    }
-}
-
-/// Tells on standard error that the lock is waited for.
-#[derive(Drop)]
-pub(crate) struct WaitingLine {
-    pub(crate) rt: HostRuntime,
-}
-
-impl Notice for WaitingLine {
-    // A fault in printing it is ignored: it waits all the same.
-    fn waiting(&mut self) {
-        let _ = self
-            .rt
-            .eprintln("hostext: waiting for another command on this store");
     }
 }

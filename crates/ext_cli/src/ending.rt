@@ -1,17 +1,11 @@
-use crate::access::has;
 use ext_reasons::Ending;
 use ext_top::Status;
-use std::io::IsTerminal;
 
-/// Prints the line of a status from 2 on, and the reason after it, where standard error is a terminal or the environment asks
-/// for it. A fault in printing is ignored: the number tells as much.
+/// Prints the line of a status from 2 on, and the reason after it where somebody reads it. A fault in printing is ignored: the
+/// number tells as much.
 pub(crate) fn report(rt: &HostRuntime, ending: &Ending<Status>) {
     print_status(rt, ending.status());
-    if let Some(reason) = ending.reason()
-        && (rt.stderr().is_terminal() || has(rt, "HOSTEXT_EXPLAIN", "yes"))
-    {
-        let _ = eprintln!(rt; "hostext: {reason}");
-    }
+    ending.print_reason(rt, &rt.stderr());
 }
 
 fn print_status(rt: &HostRuntime, status: &Status) {

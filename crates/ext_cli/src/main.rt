@@ -23,14 +23,14 @@ mod tally;
 mod usage;
 mod wiping_sink;
 
-use access::{Access, WaitingLine};
+use access::Access;
 use commands::nesting_for;
 use counted::Counted;
 use ending::report;
 use ext_cmd::{CmdErr, Command, read_words};
 use ext_folder::{FolderDepot, FolderDisk, LockedDisk, Nesting, ReleasingSink};
 use ext_io::{StdSink, StdSource};
-use ext_reasons::Ending;
+use ext_reasons::{Ending, WaitingLine, faulty};
 use ext_text::{OutOfMemory, Text, Words};
 use ext_top::{Devices, Status, run};
 use help::{HELP, VERSION};
@@ -108,8 +108,8 @@ fn run_command(
 ) -> Result<Ending<Status>, OutOfMemory> {
     match nesting_for(rt, command, store.as_str(), depot.as_str())? {
         Nesting::Within => usage::clashing_folders(rt.alloc()),
-        Nesting::Unseen(trouble) => reasons::faulty(rt.alloc(), Status::DepotFault, &trouble),
-        Nesting::OtherUnseen(trouble) => reasons::faulty(rt.alloc(), Status::DiskFault, &trouble),
+        Nesting::Unseen(trouble) => faulty(rt.alloc(), Status::DepotFault, &trouble),
+        Nesting::OtherUnseen(trouble) => faulty(rt.alloc(), Status::DiskFault, &trouble),
         Nesting::Apart => run_apart(rt, store, depot, command, words),
     }
 }
@@ -128,7 +128,7 @@ fn run_apart(
     let store_root = Text::from_bytes(rt.alloc(), store.as_bytes())?;
     let depot_root = Text::from_bytes(rt.alloc(), depot.as_bytes())?;
     let disk = FolderDisk::private(*rt, store_root);
-    let disk = LockedDisk::new(disk, lock, WaitingLine { rt: *rt });
+    let disk = LockedDisk::new(disk, lock, WaitingLine::for_store(*rt));
     let depot = FolderDepot::new(*rt, depot_root);
     let progress = Progress::new(*rt);
     let mut devices = Devices {

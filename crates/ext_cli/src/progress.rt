@@ -1,7 +1,7 @@
-use crate::access::has;
 use crate::pace::Pace;
 use crate::progress_line::progress_line;
 use crate::tally::Tally;
+use ext_reasons::has_value;
 use std::cell::Cell;
 use std::io::IsTerminal;
 use std::time::Instant;
@@ -31,7 +31,7 @@ pub(crate) struct Progress {
 impl Progress {
     /// That of a command that begins.
     pub(crate) fn new(rt: HostRuntime) -> Progress {
-        let is_wanted = rt.stderr().is_terminal() && !has(&rt, "HOSTEXT_PROGRESS", "no");
+        let is_wanted = rt.stderr().is_terminal() && !has_value(&rt, "HOSTEXT_PROGRESS", "no");
         Progress {
             rt,
             is_wanted,

@@ -48,13 +48,3 @@ fn of_bad_store(alloc: Global, store: &str, why: &BadStore) -> Result<String, Ou
         BadStore::Damaged(damage) => reason_of_damage(alloc, store, damage),
     }
 }
-
-/// The ending of a run with this status, where this went wrong before it began.
-pub(crate) fn faulty(
-    alloc: Global,
-    status: Status,
-    trouble: &Trouble,
-) -> Result<Ending<Status>, OutOfMemory> {
-    let reason = reason_of_trouble(alloc, Some(trouble))?;
-    Ok(Ending::with(status, reason))
-}

@@ -1,17 +1,11 @@
-use crate::folders::has;
 use ext_publish::PubStatus;
 use ext_reasons::Ending;
-use std::io::IsTerminal;
 
-/// Prints the line of a status from 2 on, and the reason after it, where standard error is a terminal or the environment asks
-/// for it. A fault in printing is ignored: the number tells as much.
+/// Prints the line of a status from 2 on, and the reason after it where somebody reads it. A fault in printing is ignored: the
+/// number tells as much.
 pub(crate) fn report(rt: &HostRuntime, ending: &Ending<PubStatus>) {
     print_status(rt, ending.status());
-    if let Some(reason) = ending.reason()
-        && (rt.stderr().is_terminal() || has(rt, "HOSTEXT_EXPLAIN", "yes"))
-    {
-        let _ = eprintln!(rt; "hostext: {reason}");
-    }
+    ending.print_reason(rt, &rt.stderr());
 }
 
 fn print_status(rt: &HostRuntime, status: &PubStatus) {

@@ -17,9 +17,9 @@ use ext_folder::{FolderDisk, Hold, LockedDisk, Nesting, ReleasingSink};
 use ext_io::StdSink;
 use ext_publish::{PubStatus, publish};
 use ext_published::{AskErr, read_words};
-use ext_reasons::Ending;
+use ext_reasons::{Ending, WaitingLine, faulty, lock};
 use ext_text::{OutOfMemory, Text, Words};
-use folders::{WaitingLine, lock, nesting_between};
+use folders::nesting_between;
 use std::process::ExitCode;
 use std::{env, io};
 
@@ -91,10 +91,8 @@ fn run_folders(
 ) -> Result<Ending<PubStatus>, OutOfMemory> {
     match nesting_between(rt, out.as_str(), store.as_str())? {
         Nesting::Within => reasons::clashing_folders(rt.alloc()),
-        Nesting::Unseen(trouble) => reasons::faulty(rt.alloc(), PubStatus::OutFault, &trouble),
-        Nesting::OtherUnseen(trouble) => {
-            reasons::faulty(rt.alloc(), PubStatus::DiskFault, &trouble)
-        }
+        Nesting::Unseen(trouble) => faulty(rt.alloc(), PubStatus::OutFault, &trouble),
+        Nesting::OtherUnseen(trouble) => { faulty(rt.alloc(), PubStatus::DiskFault, &trouble) }
         Nesting::Apart => run_apart(rt, store, out, words),
     }
 }
@@ -112,9 +110,9 @@ fn run_apart(
     let store_root = Text::from_bytes(rt.alloc(), store.as_bytes())?;
     let out_root = Text::from_bytes(rt.alloc(), out.as_bytes())?;
     let disk = FolderDisk::private(*rt, store_root);
-    let mut disk = LockedDisk::new(disk, of_store, WaitingLine::for_store(rt));
+    let mut disk = LockedDisk::new(disk, of_store, WaitingLine::for_store(*rt));
     let made = FolderDisk::new(*rt, out_root);
-    let mut made = LockedDisk::new(made, of_out, WaitingLine::for_out(rt));
+    let mut made = LockedDisk::new(made, of_out, WaitingLine::for_out(*rt));
     let status = publish(rt.alloc(), words, &mut sink, &mut disk, &mut made);
     reasons::ending_with(
         rt.alloc(),

@@ -72,13 +72,3 @@ pub(crate) fn ending_with(
     };
     Ok(Ending::with(status, reason))
 }
-
-/// The ending of a run with this status, where this went wrong before it began.
-pub(crate) fn faulty(
-    alloc: Global,
-    status: PubStatus,
-    trouble: &Trouble,
-) -> Result<Ending<PubStatus>, OutOfMemory> {
-    let reason = reason_of_trouble(alloc, Some(trouble))?;
-    Ok(Ending::with(status, reason))
-}
