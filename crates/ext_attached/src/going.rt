@@ -1,11 +1,12 @@
 // Which attachments go.
-ghost use Rattle.std.specs.Prelude.{◌≡◌, ◌++◌, IfOk, OnOk};
+ghost use Rattle.std.specs.Prelude.{◌≡◌, IfOk};
 ghost use Rattle.std.specs.List.{flat_map, list_any};
 ghost use Rattle.ext_attached.specs.Going.{compared, goes, gone, staying};
 
 use ext_host::{Attachment, Attachments, Listed};
-use ext_text::{OutOfMemory, Path, Paths};
+use ext_text::{OutOfMemory, Paths};
 use ext_units::first_part;
+use ext_updated::append_copies;
 use std::alloc::Global;
 
 // What of the name of an attachment is compared.
@@ -75,14 +76,4 @@ pub(crate) fn paths_of_gone(
         }
     }
     Ok(Paths::from_vec(paths))
-}
-
-// Appends copies of paths.
-fn append_copies(paths: &mut Vec<Path>, more: &[Path]) -> Result<(), OutOfMemory>
-    ensures { OnOk result (paths.new.items ≡ paths.old.items ++ more.now) }
-{
-    for path in more {
-        paths.push(path.copy()?)?;
-    }
-    Ok(())
 }

@@ -18,5 +18,5 @@ mod taking;
 pub use detaching::detach;
 pub use errors::DetachErr;
 pub use least::{least_blocking, least_locked, least_standing};
-pub use state::{State, is_attached, state_of};
+pub use state::{State, is_attached, state_of, state_with};
 pub use taking::{has_earlier, paths_without, without};

@@ -52,8 +52,8 @@ fn is_of_name(attachment: &Attachment, name: &[u8]) -> bool
     attachment.name.bytes().cmp(name).is_eq()
 }
 
-// The state of the image of an attachment, if there is one.
-fn state_with(attachment: Option<&Attachment>) -> State
+/// The state of the image of an attachment, if there is one: `Detached` exactly where there is none.
+pub fn state_with(attachment: Option<&Attachment>) -> State
     ensures { result ≡ state_with (option_copied attachment.entry) }
 {
     match attachment {

@@ -43,7 +43,7 @@ pub use asked::{ask_of, extensions_of};
 pub use command::{Chosen, Command, MOST_MARKS, UpdateVerb, ViewCommand, kept_marks};
 pub use line::read_line;
 pub use portable::{AttachOption, AttachOptions, AttachRest, AttachWord, AttachWords, PortCommand};
-pub use refusal::{Refusal, number, refusal_text};
+pub use refusal::{Refusal, number, refusal_text, transfer_fault_word};
 pub use replies::answer_text;
 pub use resource::Resource;
 pub use words::{CmdErr, read_words};

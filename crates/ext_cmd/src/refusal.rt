@@ -326,8 +326,8 @@ fn append_fault(
     Ok(())
 }
 
-// The word of what is wrong with a transfer file.
-fn transfer_fault_word(why: TransferFault) -> &'static str
+/// The word of what is wrong with a transfer file.
+pub fn transfer_fault_word(why: TransferFault) -> &'static str
     ensures { result.now ≡ transfer_fault_word why }
 {
     match why {

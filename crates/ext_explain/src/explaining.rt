@@ -14,11 +14,11 @@ ghost use Rattle.ext_explain.specs.Layers.{base_layer, origin_of, origin_where};
 use crate::errors::ExplainErr;
 use crate::searching::spot_at;
 use crate::seeing::{finding_from, finding_in};
-use ext_host::{Held, Host, Shelf};
+use ext_host::{Held, Host, Shelf, is_in};
 use ext_origin::{Finding, Layer, Origin, Origins};
 use ext_text::{Extension, OutOfMemory, Path, PathRef};
 use ext_tree::Tree;
-use ext_view::{SurveyItem, base_of, chosen, hierarchies_of, image_at, is_in, survey_of};
+use ext_view::{SurveyItem, base_of, chosen, hierarchies_of, image_at, survey_of};
 use std::alloc::Global;
 
 /// Where the path comes from in a view that [`refresh`](ext_view::refresh) with the same `force` would show: a line for each of

@@ -7,6 +7,7 @@
 //! this one.
 #![tactic(auto)]
 
+mod bad_store;
 mod checking;
 mod committing;
 mod errors;
@@ -18,6 +19,7 @@ mod preparing;
 mod syncing;
 mod verified;
 
+pub use bad_store::BadStore;
 pub use checking::check;
 pub use committing::commit;
 pub use errors::StoreErr;

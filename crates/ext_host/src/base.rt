@@ -12,7 +12,7 @@ ghost use Rattle.ext_host.specs.Host.{IsBase, hierarchies_in, merged_hierarchies
 use crate::held::Held;
 use crate::host::Host;
 use ext_text::{Name, Names, OutOfMemory, Path};
-use ext_tree::{Entry, Held1, Tree};
+use ext_tree::{Entry, Tree, append_pairs};
 use std::alloc::Global;
 use std::cmp::Ordering;
 
@@ -123,31 +123,13 @@ fn append_base(
     ensures { OnOk result (pairs.new.items ≡ pairs.old.items ++ base_entries names.now root.now lower.now) }
 {
     match names {
-        [] => append_copies(alloc, pairs, root),
+        [] => append_pairs(alloc, pairs, root),
         [name, more @ ..] => {
-            append_copies(alloc, pairs, before(root, name))?;
-            append_copies(alloc, pairs, at_name(lower, name))?;
+            append_pairs(alloc, pairs, before(root, name))?;
+            append_pairs(alloc, pairs, at_name(lower, name))?;
             append_base(alloc, pairs, more, after(root, name), after(lower, name))
         }
     }
-}
-
-// Adds copies of entries.
-fn append_copies(alloc: Global, copies: &mut Vec<Pair>, pairs: &[Pair]) -> Result<(), OutOfMemory>
-    ensures { OnOk result (copies.new.items ≡ copies.old.items ++ pairs.now) }
-{
-    for pair in pairs {
-        copies.push(copy_of(alloc, pair)?)?;
-    }
-    Ok(())
-}
-
-fn copy_of(alloc: Global, pair: &Pair) -> Result<Pair, OutOfMemory>
-    ensures { IfOk result (λ copy. copy ≡ pair.now) }
-{
-    let path = pair.0.copy()?;
-    let entry = pair.1.copy(alloc)?;
-    Ok((path, entry))
 }
 
 // The entries that come before the name.

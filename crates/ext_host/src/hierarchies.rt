@@ -1,10 +1,11 @@
 // The hierarchies of a host, and those of a host that chose none.
 ghost use Rattle.std.specs.Prelude.{◌≡◌, ◌++◌, ◌∷◌, [], IfOk, OnOk};
 ghost use Rattle.ext_text.specs.Name.{IsName};
-ghost use Rattle.ext_host.specs.Host.{default_hierarchies, hierarchies_in, hierarchies_of};
+ghost use Rattle.ext_text.specs.Path.{is_prefix};
+ghost use Rattle.ext_host.specs.Host.{default_hierarchies, hierarchies_in, hierarchies_of, is_in};
 
 use crate::host::Host;
-use ext_text::{Extension, Name, NameErr, Names, OutOfMemory};
+use ext_text::{Extension, Name, NameErr, Names, OutOfMemory, PathRef};
 use std::alloc::Global;
 
 /// The most hierarchies of a class.
@@ -39,6 +40,25 @@ pub fn default_hierarchies(alloc: Global, class: Extension) -> Result<Names, Out
         Extension::Confext => append_name(alloc, &mut names, b"etc")?,
     }
     Ok(names)
+}
+
+/// Whether the names of a path are at or below one of the hierarchies.
+pub fn is_in(hierarchies: &[Name], names: &PathRef) -> bool
+    ensures { result ≡ is_in hierarchies.now names.now }
+{
+    hierarchies
+        .iter()
+        .any(|hierarchy| stands_at(hierarchy, names))
+}
+
+// Whether the names of a path are at or below the hierarchy.
+fn stands_at(hierarchy: &Name, names: &PathRef) -> bool
+    ensures { result ≡ is_prefix (hierarchy.now ∷ []) names.now }
+{
+    match names.split_first() {
+        None => false,
+        Some((first, _below)) => hierarchy.bytes().cmp(first).is_eq(),
+    }
 }
 
 // Adds the name of these bytes.

@@ -40,7 +40,7 @@ pub use depot_path::DepotPath;
 pub use held::Held;
 pub use here_shelf::HereShelf;
 pub use here_text::HereText;
-pub use hierarchies::{MOST_HIERARCHIES, default_hierarchies};
+pub use hierarchies::{MOST_HIERARCHIES, default_hierarchies, is_in};
 pub use home::{Home, LAST_GENERATION, MOST_FILES};
 pub use host::{Host, Plan};
 pub use limits::passed_limit;

@@ -1,6 +1,5 @@
 // The lines of what is seen, and of what lies under it.
 ghost use Rattle.std.specs.Prelude.{◌≡◌, ◌↔◌, ◌∷◌, ◌++◌, [], ℕ, IfOk, IsTrue};
-ghost use Rattle.ext_text.specs.Path.{is_prefix};
 ghost use Rattle.ext_tree.specs.Tree.{IsTree};
 ghost use Rattle.ext_tree.specs.declared.entry.Entry.{Entry};
 ghost use Rattle.ext_host.specs.Held.{HeldFile};
@@ -13,9 +12,10 @@ ghost use Rattle.ext_index_reader.specs.declared.state.PartStage.TheVariants as 
 use crate::entry_lines::entered;
 use crate::next::{then_lower, then_root};
 use crate::state::{SoFar, Stage};
+use ext_host::is_in;
 use ext_index_lines::{MOST_COUNT, number_after};
 use ext_lines::OutOfMemory;
-use ext_text::{Name, Names, Path};
+use ext_text::{Names, Path};
 use std::alloc::Global;
 
 /// Adds the entry of a line to what is seen, and says whether it may stand there. Where it may not, or there was no memory,
@@ -130,23 +130,6 @@ pub fn is_in_class(merged: &Option<Names>, hierarchies: &Names, path: &Path) -> 
 {
     match merged {
         None => false,
-        Some(_) => is_in(hierarchies.as_slice(), path),
-    }
-}
-
-// Whether a path is at or below one of the names.
-fn is_in(names: &[Name], path: &Path) -> bool
-    ensures { result ≡ is_in names.now path.now }
-{
-    names.iter().any(|name| is_at_or_below(name, path))
-}
-
-// Whether a path is at or below the name.
-fn is_at_or_below(name: &Name, path: &Path) -> bool
-    ensures { result ≡ is_prefix (name.now ∷ []) path.now }
-{
-    match path.names().split_first() {
-        None => false,
-        Some((first, _below)) => name.bytes().cmp(first).is_eq(),
+        Some(_) => is_in(hierarchies.as_slice(), &path.names()),
     }
 }

@@ -15,8 +15,8 @@ use crate::plan_err::PlanErr;
 use ext_added::Ask;
 use ext_cmd::{Answer, AttachWords, Refusal, ask_of, extensions_of};
 use ext_host::{Host, Shelf};
-use ext_port::{Attach, PortErr, attach, reattach};
-use ext_portext::{Extensions, PortExtErr, attach_extended, reattach_extended};
+use ext_port::{Attach, PortErr, attach_image};
+use ext_portext::{Extensions, PortExtErr, attach_images};
 use ext_units::Image;
 use std::alloc::Global;
 
@@ -69,29 +69,6 @@ fn attach_alone<H: Shelf>(
     match attach_image(alloc, host, ask, again, shelf) {
         Ok(attach) => Ok(attached(attach)),
         Err(failed) => Ok(Intent::Refuses(not_attached(failed)?)),
-    }
-}
-
-// The image attached, or attached anew.
-fn attach_image<H: Shelf>(
-    alloc: Global,
-    host: &Host,
-    ask: &Ask,
-    again: bool,
-    shelf: &mut H,
-) -> Result<Attach, PortErr>
-    requires valid { IsValidHost host.now }
-    requires asked { IsAsked ask.now.image }
-    requires serves { ServesHost (H.serves shelf.old) host.now }
-    ensures gives { BarMemory (Attaches (H.told shelf.old) (H.faults shelf.old) (H.faults shelf.new) again host.now ask.now) result }
-    ensures next { IfOk result (λ attach. IsPlannedHost host.now attach.plan.next) }
-    ensures stays { H.stays shelf.old shelf.new }
-    ensures count { H.faults shelf.old ≤ H.faults shelf.new }
-{
-    if again {
-        reattach(alloc, host, ask, shelf)
-    } else {
-        attach(alloc, host, ask, shelf)
     }
 }
 
@@ -148,32 +125,6 @@ fn attach_with<H: Shelf>(
     match attach_images(alloc, host, ask, &extensions, again, shelf) {
         Ok(attach) => Ok(attached(attach)),
         Err(failed) => Ok(Intent::Refuses(not_extended(extensions, failed)?)),
-    }
-}
-
-// The image attached with extensions, or attached anew with them.
-fn attach_images<H: Shelf>(
-    alloc: Global,
-    host: &Host,
-    ask: &Ask,
-    extensions: &Extensions,
-    again: bool,
-    shelf: &mut H,
-) -> Result<Attach, PortExtErr>
-    requires valid { IsValidHost host.now }
-    requires asked { IsAsked ask.now.image }
-    requires all_asked { AllByRecursion IsAsked extensions.now }
-    requires serves { ServesHost (H.serves shelf.old) host.now }
-    ensures gives { UnlessMemory (AttachesExtended (H.told shelf.old) (H.faults shelf.old) (H.faults shelf.new) again
-        host.now ask.now extensions.now) result }
-    ensures next { IfOk result (λ attach. IsPlannedHost host.now attach.plan.next) }
-    ensures stays { H.stays shelf.old shelf.new }
-    ensures count { H.faults shelf.old ≤ H.faults shelf.new }
-{
-    if again {
-        reattach_extended(alloc, host, ask, extensions, shelf)
-    } else {
-        attach_extended(alloc, host, ask, extensions, shelf)
     }
 }
 

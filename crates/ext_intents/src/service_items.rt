@@ -5,11 +5,11 @@ ghost use Rattle.std.specs.Option.{option_copied};
 ghost use Rattle.ext_lines.specs.ByteOrder.{bytes_cmp};
 ghost use Rattle.ext_host.specs.Valid.{AreAscending};
 ghost use Rattle.ext_attached.specs.Going.{is_of_name};
-ghost use Rattle.ext_attached.specs.State.{state_of, state_with};
+ghost use Rattle.ext_attached.specs.State.{state_of};
 ghost use Rattle.ext_intents.specs.Portable.{service_item, service_kind};
 ghost use Rattle.ext_intents.specs.ServiceItems.{attachment_from, if_named, is_earlier_name};
 
-use ext_attached::State;
+use ext_attached::{State, state_with};
 use ext_cmd::{ServiceItem, ServiceItems, ServiceKind};
 use ext_find::{Found, FoundItem, FoundKind};
 use ext_host::Attachment;
@@ -68,22 +68,6 @@ fn state_of(attached: &[Attachment], name: &[u8]) -> State
     ensures { result ≡ state_of attached.now name.now }
 {
     state_with(attachment_of(attached, name))
-}
-
-// The state of the image of an attachment, if there is one.
-fn state_with(attachment: Option<&Attachment>) -> State
-    ensures { result ≡ state_with (option_copied attachment.entry) }
-{
-    match attachment {
-        None => State::Detached,
-        Some(attachment) => {
-            if attachment.runtime {
-                State::AttachedRuntime
-            } else {
-                State::Attached
-            }
-        }
-    }
 }
 
 // The attachment of this name, by a search by halves.

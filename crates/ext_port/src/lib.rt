@@ -18,5 +18,5 @@ mod starting;
 
 pub use attaching::{Attach, attach_body};
 pub use errors::PortErr;
-pub use planning::{attach, reattach};
+pub use planning::{attach, attach_image, reattach};
 pub use reading::body;

@@ -73,8 +73,13 @@ pub fn reattach<H: Shelf>(
     attach_image(alloc, host, ask, true, shelf)
 }
 
-// The image attached, or attached anew.
-fn attach_image<H: Shelf>(
+/// The plan of [`attach`] or, `again`, of [`reattach`].
+///
+/// # Errors
+/// As for these.
+///
+/// Whatever the answer, the shelf tells the same afterwards.
+pub fn attach_image<H: Shelf>(
     alloc: Global,
     host: &Host,
     ask: &Ask,

@@ -1,5 +1,5 @@
 // What is attached, one refusal after the other.
-ghost use Rattle.std.specs.Prelude.{◌≡◌, ◌++◌, [], IfOk, OnOk};
+ghost use Rattle.std.specs.Prelude.{◌≡◌, ◌++◌, [], IfOk};
 ghost use Rattle.std.specs.List.Sorted.{IsStrictlySortedBy};
 ghost use Rattle.std.specs.Option.{option_copied};
 ghost use Rattle.ext_text.specs.Digest.{IsDigest};
@@ -28,7 +28,7 @@ use ext_text::{OutOfMemory, Path, SortedPaths, Which};
 use ext_tree::{Tree, TreeErr};
 use ext_units::laws::units_ascend;
 use ext_units::{Body, Units, names_of};
-use ext_updated::{Piece, updated};
+use ext_updated::{Piece, both, updated};
 use std::alloc::Global;
 
 // What is attached of an image with these units.
@@ -126,26 +126,6 @@ fn copied(path: Option<&Path>) -> Result<Option<Path>, OutOfMemory>
         Some(path) => Ok(Some(path.copy()?)),
         None => Ok(None),
     }
-}
-
-// Both lists of paths, one after the other, copied.
-fn both(alloc: Global, first: &[Path], second: &[Path]) -> Result<Vec<Path>, OutOfMemory>
-    ensures { IfOk result (λ paths. paths.items ≡ first.now ++ second.now) }
-{
-    let mut paths = Vec::new(alloc);
-    append_copies(&mut paths, first)?;
-    append_copies(&mut paths, second)?;
-    Ok(paths)
-}
-
-// Appends copies of paths.
-fn append_copies(paths: &mut Vec<Path>, more: &[Path]) -> Result<(), OutOfMemory>
-    ensures { OnOk result (paths.new.items ≡ paths.old.items ++ more.now) }
-{
-    for path in more {
-        paths.push(path.copy()?)?;
-    }
-    Ok(())
 }
 
 // What is attached where no path is locked.

@@ -54,7 +54,7 @@ pub fn attach_extended<H: Shelf>(
     ensures stays { H.stays shelf.old shelf.new }
     ensures count { H.faults shelf.old ≤ H.faults shelf.new }
 {
-    attach_from(alloc, host, host, ask, extensions, false, shelf)
+    attach_images(alloc, host, ask, extensions, false, shelf)
 }
 
 /// The plan of the host with the image attached anew that is asked for, with extensions: all that [`without`] takes away goes, and
@@ -82,8 +82,39 @@ pub fn reattach_extended<H: Shelf>(
     ensures stays { H.stays shelf.old shelf.new }
     ensures count { H.faults shelf.old ≤ H.faults shelf.new }
 {
-    let start = without(alloc, host, &ask.image)?;
-    attach_from(alloc, host, &start, ask, extensions, true, shelf)
+    attach_images(alloc, host, ask, extensions, true, shelf)
+}
+
+/// The plan of [`attach_extended`] or, `again`, of [`reattach_extended`].
+///
+/// # Errors
+/// As for these.
+///
+/// Whatever the answer, the shelf tells the same afterwards.
+pub fn attach_images<H: Shelf>(
+    alloc: Global,
+    host: &Host,
+    ask: &Ask,
+    extensions: &Extensions,
+    again: bool,
+    shelf: &mut H,
+) -> Result<Attach, PortExtErr>
+    requires valid { IsValidHost host.now }
+    requires asked { IsAsked ask.now.image }
+    requires all_asked { AllByRecursion IsAsked extensions.now }
+    requires serves { ServesHost (H.serves shelf.old) host.now }
+    ensures gives { UnlessMemory (AttachesExtended (H.told shelf.old) (H.faults shelf.old) (H.faults shelf.new) again
+        host.now ask.now extensions.now) result }
+    ensures next { IfOk result (λ attach. IsPlannedHost host.now attach.plan.next) }
+    ensures stays { H.stays shelf.old shelf.new }
+    ensures count { H.faults shelf.old ≤ H.faults shelf.new }
+{
+    if again {
+        let start = without(alloc, host, &ask.image)?;
+        attach_from(alloc, host, &start, ask, extensions, true, shelf)
+    } else {
+        attach_from(alloc, host, host, ask, extensions, false, shelf)
+    }
 }
 
 // The image attached, or attached anew, which is looked for with its extensions in the start.

@@ -17,6 +17,6 @@ mod lines;
 mod reading;
 mod unit_tree;
 
-pub use attaching::{attach_extended, reattach_extended};
+pub use attaching::{attach_extended, attach_images, reattach_extended};
 pub use errors::{ExtWhy, PortExtErr};
 pub use extending::Extensions;

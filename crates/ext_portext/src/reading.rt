@@ -1,9 +1,6 @@
 // The extensions of a service, one after the other.
 ghost use Rattle.std.specs.Prelude.{◌≡◌, ◌≤◌, None, IfOk, IsTrue};
 ghost use Rattle.std.specs.List.{AllByRecursion};
-ghost use Rattle.ext_text.specs.Path.{IsPath};
-ghost use Rattle.ext_tree.specs.Part.{part};
-ghost use Rattle.ext_tree.specs.Tree.{is_directory_or_root};
 ghost use Rattle.ext_walk.specs.Leads.{LeadsToDirectory};
 ghost use Rattle.ext_host.specs.Planning.{ServesAll};
 ghost use Rattle.ext_units.specs.Body.{IsTreeOf};
@@ -20,10 +17,9 @@ use ext_find::BreakWhy;
 use ext_host::{Held, Host, Shelf};
 use ext_lines::allocated;
 use ext_release::Release;
-use ext_text::{OutOfMemory, Path, PathRef};
-use ext_tree::{Tree, TreeErr};
-use ext_units::Image;
-use ext_walk::directory_at;
+use ext_text::{OutOfMemory, Path};
+use ext_tree::Tree;
+use ext_units::{Image, tree_at};
 use std::alloc::Global;
 
 // What extensions are looked for in, and judged by.
@@ -143,30 +139,8 @@ fn tree_of(alloc: Global, base: &Tree<Held>, place: &Path) -> Result<Tree<Held>,
     requires { LeadsToDirectory base.now place.now }
     ensures { IfOk result (IsTreeOf base.now place.now) }
 {
-    // `pairs` says of the base that it is a tree.
-    let _entries = base.pairs();
-    match directory_at(alloc, base, &place.names())? {
+    match tree_at(alloc, base, place)? {
         None => unreachable!(),
-        Some(directory) => Ok(part_below(alloc, base, &directory)?),
-    }
-}
-
-// What the base has below the directory of these names, copied.
-fn part_below(
-    alloc: Global,
-    base: &Tree<Held>,
-    directory: &PathRef,
-) -> Result<Tree<Held>, OutOfMemory>
-    requires path { IsPath directory.now }
-    requires directory { IsTrue (is_directory_or_root base.now directory.now) }
-    ensures { IfOk result (λ tree. tree ≡ part directory.now base.now) }
-{
-    let path = Path::of_names(alloc, directory)?;
-    match base.part(&path) {
-        Ok(tree) => Ok(tree),
-        Err(TreeErr::OutOfMemory) => Err(OutOfMemory),
-        Err(TreeErr::Exists | TreeErr::NotDirectory | TreeErr::Limit | TreeErr::Path) => {
-            unreachable!()
-        }
+        Some(tree) => Ok(tree),
     }
 }

@@ -1,8 +1,8 @@
 // The tree in which the units of a service with extensions are looked for.
-ghost use Rattle.std.specs.Prelude.{◌≡◌, ◌≢◌, ◌≤◌, ◌∷◌, [], length, map, reverse, IfOk, IsTrue, None, OnOk};
+ghost use Rattle.std.specs.Prelude.{◌≡◌, ◌≢◌, ◌≤◌, [], length, map, reverse, IfOk, IsTrue, None, OnOk};
 ghost use Rattle.std.specs.FinMap.{is_sorted};
 ghost use Rattle.std.specs.List.{AllByRecursion};
-ghost use Rattle.ext_text.specs.Path.{is_prefix, path_cmp};
+ghost use Rattle.ext_text.specs.Path.{path_cmp};
 ghost use Rattle.ext_tree.specs.Joining.{put_all};
 ghost use Rattle.ext_tree.specs.Tree.{IsTree, lookup, most_entries};
 ghost use Rattle.ext_host.specs.Host.{is_in};
@@ -11,9 +11,9 @@ ghost use Rattle.ext_portext.specs.UnitTree.{inside_tree, outside_tree};
 
 use crate::errors::PortExtErr;
 use crate::extending::Extending;
-use ext_host::Held;
+use ext_host::{Held, is_in};
 use ext_layer::{Layers, layer};
-use ext_text::{Name, OutOfMemory, Path, PathRef, Which};
+use ext_text::{Name, OutOfMemory, Path, Which};
 use ext_tree::{Entry, MOST_ENTRIES, Tree, joined};
 use std::alloc::Global;
 
@@ -139,23 +139,4 @@ fn is_inside(hierarchies: &[Name], pair: &Pair) -> bool
     ensures { result ≡ is_in hierarchies.now pair.now.0 }
 {
     is_in(hierarchies, &pair.0.names())
-}
-
-// Whether the names of a path are at or below one of the hierarchies.
-fn is_in(hierarchies: &[Name], names: &PathRef) -> bool
-    ensures { result ≡ is_in hierarchies.now names.now }
-{
-    hierarchies
-        .iter()
-        .any(|hierarchy| stands_at(hierarchy, names))
-}
-
-// Whether the names of a path are at or below the hierarchy.
-fn stands_at(hierarchy: &Name, names: &PathRef) -> bool
-    ensures { result ≡ is_prefix (hierarchy.now ∷ []) names.now }
-{
-    match names.split_first() {
-        None => false,
-        Some((first, _below)) => hierarchy.bytes().cmp(first).is_eq(),
-    }
 }

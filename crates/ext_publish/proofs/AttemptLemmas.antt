@@ -24,6 +24,7 @@ use Rattle.ext_gen.specs.Sound.{IsSound}
 use Rattle.ext_gen.specs.Store.{State, Stands}
 use Rattle.ext_gen.specs.declared.errors.StoreErr.{StoreErr}
 use Rattle.ext_gen.specs.declared.errors.StoreErr.TheVariants as store_errors
+use Rattle.ext_gen.specs.declared.bad_store.BadStore.TheVariants as bad_stores
 use Rattle.ext_gen.proofs.ForCallers.{sound_is_not_broken}
 use Rattle.ext_published.specs.Asked.{AskedOf}
 use Rattle.ext_published.specs.Payload.{GivesPayload, HasNoneAt, HasOtherAt}
@@ -41,7 +42,6 @@ use Rattle.ext_publish.specs.Stopping.{OutCause, stop_of_store}
 use Rattle.ext_publish.specs.Stops.{StopsWell}
 use Rattle.ext_publish.specs.Store.{bytes_in, host_of_state}
 use Rattle.ext_publish.specs.declared.counting.Made.{Made}
-use Rattle.ext_publish.specs.declared.status.BadStore.TheVariants as bad_stores
 use Rattle.ext_publish.specs.declared.stop.Stop.{Stop}
 use Rattle.ext_publish.specs.declared.stop.Stop.TheVariants as stops
 use Rattle.ext_publish.proofs.StoreLemmas.{keeps_store, opened_tells}

@@ -21,9 +21,9 @@ use Rattle.ext_store_files.specs.Copying.{BeginsTold}
 use Rattle.ext_store_files.specs.HeldFiles.{EndsBy, IsNextPiece, PieceCause, body_told, told_at}
 use Rattle.ext_store_files.specs.Writing.{Appends, Holds, IsFileWith, Works, WorksTold, is_at, nowhere}
 use Rattle.ext_store_files.proofs.ForCallers.{holds_then, rose_since, told_itself, told_map, told_then, begins_more, whole_read, append_call_works, append_more, file_made, file_synced, make_file_works, sync_file_call_works, synced_written}
+use Rattle.ext_gen.specs.declared.bad_store.BadStore.TheVariants as bad_stores
 use Rattle.ext_publish.specs.Copying.{OnlyChangesAt, HeldCause, HasListedSize, ReadHomeCause, IsCopyOf, IsHashed, KeptDiffers, WorksAt}
 use Rattle.ext_publish.specs.Stopping.{pub_stop_of_shelf}
-use Rattle.ext_publish.specs.declared.status.BadStore.TheVariants as bad_stores
 use Rattle.ext_publish.specs.declared.stop.Stop.{Stop}
 use Rattle.ext_publish.specs.declared.stop.Stop.TheVariants as stops
 

@@ -20,6 +20,7 @@ use Rattle.ext_host.specs.Held.{HeldFile}
 use Rattle.ext_host.specs.Shelf.{IsFound, IsTold}
 use Rattle.ext_store_files.specs.HeldFiles.{is_served}
 use Rattle.ext_store_files.proofs.ForCallers.{prefix_append, rose_since}
+use Rattle.ext_gen.specs.declared.bad_store.BadStore.TheVariants as bad_stores
 use Rattle.ext_published.specs.Payload.{HasHeldFileAt}
 use Rattle.ext_published.specs.declared.payload.Payload.TheVariants as payloads
 use Rattle.ext_publook.specs.Out.{first_file}
@@ -27,7 +28,6 @@ use Rattle.ext_publish.specs.Copying.{HeldCause, WorksAt}
 use Rattle.ext_publish.specs.Filling.{WrittenEntryCause, FilesCause, IsAboveFile, IsFilledWith, IsFilling, IsOneMore, IsReadable, MayWriteOne, WritesEntry, held_of}
 use Rattle.ext_publish.specs.Folders.{MakesDown}
 use Rattle.ext_publish.specs.Stopping.{OutCause}
-use Rattle.ext_publish.specs.declared.status.BadStore.TheVariants as bad_stores
 use Rattle.ext_publish.specs.declared.stop.Stop.{Stop}
 use Rattle.ext_publish.specs.declared.stop.Stop.TheVariants as stops
 use Rattle.ext_publish.proofs.CopyingLemmas.{told_rests}

@@ -13,6 +13,7 @@ use Rattle.ext_host.specs.Held.{HeldFile}
 use Rattle.ext_store_files.specs.HeldFiles.{body_told}
 use Rattle.ext_store_files.specs.Writing.{Holds, IsWritten, Works, is_at, nowhere}
 use Rattle.ext_store_files.proofs.ForCallers.{rose_since}
+use Rattle.ext_gen.specs.declared.bad_store.BadStore.TheVariants as bad_stores
 use Rattle.ext_published.specs.Asked.{AskedOf}
 use Rattle.ext_published.specs.Names.{coming_manifest_name, tree_text_name}
 use Rattle.ext_published.specs.Places.{published_resource_path, tree_text_path}
@@ -23,7 +24,6 @@ use Rattle.ext_publook.specs.Out.{is_left_at}
 use Rattle.ext_publish.specs.Copying.{OnlyChangesAt, HeldCause, IsCopyOf, WorksAt}
 use Rattle.ext_publish.specs.Filling.{AreNamed, EndsFilled, FilesCause, HasFilesOf, IsFilledWith, IsFilling, IsOpenFor, is_filled_at}
 use Rattle.ext_publish.specs.Stopping.{OutCause}
-use Rattle.ext_publish.specs.declared.status.BadStore.TheVariants as bad_stores
 use Rattle.ext_publish.specs.declared.stop.Stop.{Stop}
 use Rattle.ext_publish.specs.declared.stop.Stop.TheVariants as stops
 use Rattle.ext_publish.proofs.FilesLemmas.{filling_first}

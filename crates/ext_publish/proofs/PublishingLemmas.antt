@@ -17,8 +17,8 @@ use Rattle.ext_publish.specs.Attempting.{AttemptCause, Attempts, AttemptsOn, Att
 use Rattle.ext_publish.specs.Publishing.{EndsFor, EndsQuiet, EndsWith, FitsWords, IsBrokenSo, IsNoUsage, PubDevices, Publishes, PublishesFor, SaysNothing, StopsFor, StopsQuiet, TellsDone, TellsRefused, TellsStop, counts_of, status_of_words}
 use Rattle.ext_publish.specs.Status.{PubCause}
 use Rattle.ext_publish.specs.declared.counting.Made.{Made}
-use Rattle.ext_publish.specs.declared.status.BadStore.{BadStore as BadStores}
-use Rattle.ext_publish.specs.declared.status.BadStore.TheVariants as bad_stores
+use Rattle.ext_gen.specs.declared.bad_store.BadStore.{BadStore as BadStores}
+use Rattle.ext_gen.specs.declared.bad_store.BadStore.TheVariants as bad_stores
 use Rattle.ext_publish.specs.declared.status.PubStatus.{PubStatus}
 use Rattle.ext_publish.specs.declared.status.PubStatus.TheVariants.{Done, Refused, Usage, WriteFault, DiskFault, OutFault, OutOfMemory, BadStore, Unfinished}
 use Rattle.ext_publish.specs.declared.stop.Stop.{Stop}

@@ -17,6 +17,7 @@ use Rattle.ext_store_files.specs.Writing.{SyncsIn, nowhere}
 use Rattle.ext_store_files.specs.declared.errors.CleanErr.{CleanErr}
 use Rattle.ext_store_files.specs.declared.errors.CleanErr.TheVariants as clean_errors
 use Rattle.ext_store_files.proofs.ForCallers.{folder_synced, rose_since, told_map}
+use Rattle.ext_gen.specs.declared.bad_store.BadStore.TheVariants as bad_stores
 use Rattle.ext_published.specs.Asked.{AskedOf, IsPublishAsk}
 use Rattle.ext_published.specs.Manifest.{with_listing}
 use Rattle.ext_published.specs.Payload.{listing_name}
@@ -34,7 +35,6 @@ use Rattle.ext_publish.specs.Filling.{FilesCause, IsResourceFilled, IsFilledWith
 use Rattle.ext_publish.specs.Folders.{MakesDown, MakesDownTold, MayMakeDown}
 use Rattle.ext_publish.specs.Stopping.{OutCause, stop_of_clean}
 use Rattle.ext_publish.specs.Switching.{IsSwitchable, Switches}
-use Rattle.ext_publish.specs.declared.status.BadStore.TheVariants as bad_stores
 use Rattle.ext_publish.specs.declared.stop.Stop.{Stop}
 use Rattle.ext_publish.specs.declared.stop.Stop.TheVariants as stops
 use Rattle.ext_publish.proofs.CarryingLemmas.{IsWrittenOut, SparedBySwitch, carries_old, carries_switched, made_cleared, made_open, made_out, may_switch, same_file, written_out}

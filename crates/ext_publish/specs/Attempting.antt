@@ -17,6 +17,7 @@ use Rattle.ext_host.specs.declared.host.Host.{Host}
 use Rattle.ext_store_files.specs.HeldFiles.{body_told}
 use Rattle.ext_store_files.specs.LeftOvers.{most_left_overs}
 use Rattle.ext_store_files.specs.Removal.{AtMost, MoreThan}
+use Rattle.ext_gen.specs.declared.bad_store.BadStore.TheVariants as bad_stores
 use Rattle.ext_published.specs.Asked.{AskedOf}
 use Rattle.ext_published.specs.Payload.{HasNoneAt, HasOtherAt, payload_bytes, payload_files}
 use Rattle.ext_published.specs.Published.{IsPublished}
@@ -28,7 +29,6 @@ use Rattle.ext_publish.specs.Carrying.{AreDurable, ChangesThere}
 use Rattle.ext_publish.specs.Stops.{StopsWell}
 use Rattle.ext_publish.specs.Store.{KeepsStore, bytes_in, host_of_state}
 use Rattle.ext_publish.specs.declared.counting.Made.{Made}
-use Rattle.ext_publish.specs.declared.status.BadStore.TheVariants as bad_stores
 use Rattle.ext_publish.specs.declared.stop.Stop.{Stop}
 use Rattle.ext_publish.specs.declared.stop.Stop.TheVariants.{OutOfMemory, Refused, DiskFault, OutFault, BadStore, Unfinished}
 

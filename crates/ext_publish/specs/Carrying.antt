@@ -11,6 +11,7 @@ use Rattle.ext_sums.specs.Manifest.{IsFirstFault}
 use Rattle.ext_store_files.specs.HeldFiles.{body_told}
 use Rattle.ext_store_files.specs.LeftOvers.{most_left_overs}
 use Rattle.ext_store_files.specs.Removal.{AtMost, IsClear, MoreThan}
+use Rattle.ext_gen.specs.declared.bad_store.BadStore.TheVariants as bad_stores
 use Rattle.ext_published.specs.Asked.{AskedOf}
 use Rattle.ext_published.specs.Manifest.{ListsNeither, ListsOne}
 use Rattle.ext_published.specs.Places.{published_manifest_path, published_resource_path, tree_text_path}
@@ -26,7 +27,6 @@ use Rattle.ext_publish.specs.Filling.{IsResourceFilled, IsPublishedFileOf}
 use Rattle.ext_publish.specs.Folders.{IsCalmAt}
 use Rattle.ext_publish.specs.Stops.{HasNewManifest, IsLeftElsewhere}
 use Rattle.ext_publish.specs.Switching.{IsResourceDurable}
-use Rattle.ext_publish.specs.declared.status.BadStore.TheVariants as bad_stores
 use Rattle.ext_publish.specs.declared.stop.Stop.{Stop}
 use Rattle.ext_publish.specs.declared.stop.Stop.TheVariants.{OutOfMemory, Refused, DiskFault, OutFault, BadStore, Unfinished}
 

@@ -13,7 +13,7 @@ use Rattle.ext_host.specs.Shelf.{IsTold, IsFound, IsKeptAs}
 use Rattle.ext_host.specs.declared.home.Home.{Home}
 use Rattle.ext_store_files.specs.HeldFiles.{body_told}
 use Rattle.ext_store_files.specs.Writing.{Holds, IsFileWith, IsWritten, is_at}
-use Rattle.ext_publish.specs.declared.status.BadStore.TheVariants as bad_stores
+use Rattle.ext_gen.specs.declared.bad_store.BadStore.TheVariants as bad_stores
 use Rattle.ext_publish.specs.declared.stop.Stop.{Stop}
 use Rattle.ext_publish.specs.declared.stop.Stop.TheVariants.{OutOfMemory, Refused, DiskFault, OutFault, BadStore, Unfinished}
 

@@ -12,6 +12,7 @@ use Rattle.ext_host.specs.Shelf.{IsTold, IsFound, IsKeptAs}
 use Rattle.ext_store_files.specs.HeldFiles.{body_told, is_served}
 use Rattle.ext_store_files.specs.Removal.{IsClear}
 use Rattle.ext_store_files.specs.Writing.{IsWritten}
+use Rattle.ext_gen.specs.declared.bad_store.BadStore.TheVariants as bad_stores
 use Rattle.ext_published.specs.Asked.{AskedOf}
 use Rattle.ext_published.specs.Payload.{HasHeldFileAt}
 use Rattle.ext_published.specs.Places.{published_resource_path, tree_text_path}
@@ -21,7 +22,6 @@ use Rattle.ext_published.specs.declared.payload.Payload.TheVariants.{Directory, 
 use Rattle.ext_publook.specs.Out.{first_file, is_left_at}
 use Rattle.ext_publish.specs.Copying.{HeldCause}
 use Rattle.ext_publish.specs.Folders.{IsCalmAt}
-use Rattle.ext_publish.specs.declared.status.BadStore.TheVariants as bad_stores
 use Rattle.ext_publish.specs.declared.stop.Stop.{Stop}
 use Rattle.ext_publish.specs.declared.stop.Stop.TheVariants.{OutOfMemory, Refused, DiskFault, OutFault, BadStore, Unfinished}
 

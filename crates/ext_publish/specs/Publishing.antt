@@ -12,6 +12,7 @@ use Rattle.ext_gen.specs.Sound.{IsSound}
 use Rattle.ext_gen.specs.Store.{State, Stands}
 use Rattle.ext_store_files.specs.LeftOvers.{most_left_overs}
 use Rattle.ext_store_files.specs.Removal.{MoreThan}
+use Rattle.ext_gen.specs.declared.bad_store.BadStore.TheVariants as bad_stores
 use Rattle.ext_published.specs.Asked.{AskSomething, AskedOf, IsPublishAsk, IsAskWrongAt, asked_words}
 use Rattle.ext_published.specs.Payload.{payload_bytes, payload_files}
 use Rattle.ext_published.specs.Replies.{pub_refusal_line, published_line}
@@ -26,7 +27,6 @@ use Rattle.ext_publish.specs.Status.{PubCounts, PubCause}
 use Rattle.ext_publish.specs.Stops.{StopsWell}
 use Rattle.ext_publish.specs.Store.{KeepsStore, host_of_state}
 use Rattle.ext_publish.specs.declared.counting.Made.{Made}
-use Rattle.ext_publish.specs.declared.status.BadStore.TheVariants as bad_stores
 use Rattle.ext_publish.specs.declared.status.PubStatus.{PubStatus}
 use Rattle.ext_publish.specs.declared.stop.Stop.{Stop}
 use Rattle.ext_publish.specs.declared.stop.Stop.TheVariants as stops

@@ -8,7 +8,7 @@ use Rattle.ext_host.specs.declared.shelf.ShelfErr.TheVariants as shelf_errors
 use Rattle.ext_store_files.specs.declared.errors.CleanErr.{CleanErr}
 use Rattle.ext_store_files.specs.declared.errors.CleanErr.TheVariants as clean_errors
 use Rattle.ext_store_files.specs.declared.fault.StoreFault.TheVariants as faults
-use Rattle.ext_publish.specs.declared.status.BadStore.TheVariants as bad_stores
+use Rattle.ext_gen.specs.declared.bad_store.BadStore.TheVariants as bad_stores
 use Rattle.ext_publish.specs.declared.stop.Stop.{Stop}
 use Rattle.ext_publish.specs.declared.stop.Stop.TheVariants.{OutOfMemory, Refused, DiskFault, OutFault, BadStore, Unfinished}
 

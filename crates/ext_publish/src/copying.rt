@@ -13,13 +13,13 @@ ghost use Rattle.ext_host.specs.declared.body.Body.TheVariants as bodies;
 ghost use Rattle.ext_store_files.specs.HeldFiles.{IsNextPiece, body_told, is_served};
 ghost use Rattle.ext_store_files.specs.Reading.{IsFileAt};
 ghost use Rattle.ext_store_files.specs.Writing.{Holds, IsFileWith, IsWritten, is_at};
+ghost use Rattle.ext_gen.specs.declared.bad_store.BadStore.TheVariants as bad_stores;
 ghost use Rattle.ext_publish.specs.Copying.{HeldCause, HasListedSize, ReadHomeCause, IsCopyOf, IsHashed, KeptDiffers, WorksAt};
-ghost use Rattle.ext_publish.specs.declared.status.BadStore.TheVariants as bad_stores;
 ghost use Rattle.ext_publish.specs.declared.stop.Stop.TheVariants as stops;
 
-use crate::status::BadStore;
 use crate::stop::Stop;
 use ext_disk::{Disk, Kind};
+use ext_gen::BadStore;
 use ext_host::{Body, Damage, Held, Home};
 use ext_io::{PIECE, zeros};
 use ext_store_files::{home_path, next_piece, write_file};

@@ -17,5 +17,6 @@ mod status;
 mod stop;
 mod switching;
 
+pub use ext_gen::BadStore;
 pub use publishing::publish;
-pub use status::{BadStore, PubStatus};
+pub use status::PubStatus;

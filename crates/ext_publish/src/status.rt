@@ -1,20 +1,8 @@
 ghost use Rattle.std.specs.Prelude.{◌≡◌};
 ghost use Rattle.ext_publish.specs.Status.{pub_status_number};
 
-use ext_host::Damage;
+use ext_gen::BadStore;
 use ext_published::PubRefusal;
-
-/// Why what is in the store folder is no store.
-#[derive(Clone, Copy, Debug, PartialEq, Eq)]
-pub enum BadStore {
-    /// `current`, or the index that it names, is none.
-    Broken {
-        /// 0 where `current` names no generation, else the first line of the index that breaks a rule.
-        line: u64,
-    },
-    /// A kept file is another than the one that is listed.
-    Damaged(Damage),
-}
 
 /// How a run ended.
 #[derive(Debug, Drop, PartialEq, Eq)]

@@ -2,8 +2,7 @@
 ghost use Rattle.std.specs.Prelude.{◌≡◌};
 ghost use Rattle.ext_publish.specs.Stopping.{stop_of_store, stop_of_clean};
 
-use crate::status::BadStore;
-use ext_gen::StoreErr;
+use ext_gen::{BadStore, StoreErr};
 use ext_host::ShelfErr;
 use ext_published::PubRefusal;
 use ext_store_files::{CleanErr, StoreFault};

@@ -74,11 +74,12 @@ pub fn next_piece<D: Disk>(
     ensures cause { IfErr result (PieceCause (D.state disk.old).faults (D.state disk.new).faults
         (body_told (D.state disk.old) held.now.body) held.now at) }
 {
-    let room = room_at(held.stamp(), at, buf.len());
     match held.body() {
-        Body::Here(text) => Ok(read_at(text.bytes(), at, &mut buf[..room])),
-        Body::Kept(home) => next_kept_piece(alloc, disk, home, held.stamp(), at, &mut buf[..room]),
-        Body::Depot(_) => unreachable!(),
+        Body::Kept(home) => {
+            let room = room_at(held.stamp(), at, buf.len());
+            next_kept_piece(alloc, disk, home, held.stamp(), at, &mut buf[..room])
+        }
+        Body::Here(_) | Body::Depot(_) => piece(alloc, disk, held, at, buf),
     }
 }
 

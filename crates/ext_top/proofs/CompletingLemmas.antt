@@ -13,6 +13,7 @@ use Rattle.ext_disk.specs.Disk.{BothTold, Told}
 use Rattle.ext_gen.specs.Opened.{Generation}
 use Rattle.ext_gen.specs.Sound.{IsSound}
 use Rattle.ext_gen.specs.Store.{State}
+use Rattle.ext_gen.specs.declared.bad_store.BadStore as reasons
 use Rattle.ext_cmd.specs.Words.{IsCommand}
 use Rattle.ext_cmd.specs.declared.command.Command.{Command}
 use Rattle.ext_cmd.specs.declared.refusal.Refusal.{Refusal}
@@ -25,7 +26,6 @@ use Rattle.ext_top.specs.Devices.{DeviceStates, StoreSide, store_side_of, stream
 use Rattle.ext_top.specs.Exits.{EndsLines, Line, Standing, StopsWith, does, unread, wrong}
 use Rattle.ext_top.specs.Machine.{refusal_of, state_after}
 use Rattle.ext_top.specs.Running.{EndsAlone, Kind, Runs, RunsBatch, RunsClosed, RunsCommand, RunsKind, RunsLines, RunsOpened, RunsSound, TakesSome, alone, run_kind, one_line, source_lines, status_of_read}
-use Rattle.ext_top.specs.declared.bad_store.BadStore as reasons
 use Rattle.ext_top.specs.declared.status.Status.{Status}
 use Rattle.ext_top.specs.declared.status.Status.TheVariants.{Done, Refused, Usage, ReadFault, WriteFault, DiskFault, DepotFault, OutOfMemory, BadStore, Unfinished, TooLong}
 use Rattle.ext_top.specs.declared.stop.Stop.{Stop}

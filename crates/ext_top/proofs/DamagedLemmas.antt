@@ -13,6 +13,7 @@ use Rattle.ext_host.specs.declared.shelf.ShelfErr.TheVariants as shelf_errors
 use Rattle.ext_store_files.specs.declared.fault.StoreFault.TheVariants as store_faults
 use Rattle.ext_gen.specs.Opened.{Generation}
 use Rattle.ext_gen.specs.Opening.{KeepsNow}
+use Rattle.ext_gen.specs.declared.bad_store.BadStore.TheVariants as bad
 use Rattle.ext_cmd.specs.declared.command.Command.{Command}
 use Rattle.ext_cmd.specs.declared.refusal.Refusal.{Refusal}
 use Rattle.ext_intents.specs.Causes.{IsStepFile, StepCause}
@@ -29,7 +30,6 @@ use Rattle.ext_top.specs.declared.applied.Reply.{Reply}
 use Rattle.ext_top.specs.declared.applied.Reply.TheVariants.{Text, File, Refused}
 use Rattle.ext_top.specs.declared.apply_err.ApplyErr.{ApplyErr}
 use Rattle.ext_top.specs.declared.apply_err.ApplyErr.TheVariants as apply_errors
-use Rattle.ext_top.specs.declared.bad_store.BadStore.TheVariants as bad
 use Rattle.ext_top.specs.declared.stop.Stop.{Stop}
 use Rattle.ext_top.specs.declared.stop.Stop.TheVariants as stops
 use Rattle.ext_top.proofs.WorkingLemmas.{reads_since}

@@ -21,6 +21,7 @@ use Rattle.ext_gen.specs.Opened.{Generation}
 use Rattle.ext_gen.specs.Preparing.{host_before}
 use Rattle.ext_gen.specs.Store.{State, none, at, Stands, generation_in}
 use Rattle.ext_gen.specs.Sound.{IsDurably, StandsSince}
+use Rattle.ext_gen.specs.declared.bad_store.BadStore.TheVariants.{Broken, Damaged}
 use Rattle.ext_gen.proofs.ForCallers.{current_is_opened, opened_is_valid_for, stands_since_wider}
 use Rattle.ext_cmd.specs.declared.command.Command.{Command}
 use Rattle.ext_cmd.specs.declared.refusal.Refusal.{Refusal}
@@ -33,7 +34,6 @@ use Rattle.ext_top.specs.declared.applied.Reply.{Reply}
 use Rattle.ext_top.specs.declared.applied.Reply.TheVariants.{Text, File, Refused}
 use Rattle.ext_top.specs.declared.apply_err.ApplyErr.{ApplyErr}
 use Rattle.ext_top.specs.declared.apply_err.ApplyErr.TheVariants as apply_errors
-use Rattle.ext_top.specs.declared.bad_store.BadStore.TheVariants.{Broken, Damaged}
 use Rattle.ext_top.specs.declared.lines.Written.{Written}
 use Rattle.ext_top.specs.declared.stop.Stop.{Stop}
 use Rattle.ext_top.specs.declared.stop.Stop.TheVariants.{WriteFault, DiskFault, DepotFault, OutOfMemory, BadStore, Unfinished}

@@ -14,8 +14,8 @@ use Rattle.ext_host.specs.declared.shelf.ShelfErr.{ShelfErr}
 use Rattle.ext_host.specs.declared.shelf.ShelfErr.TheVariants as shelf_errors
 use Rattle.ext_store_files.specs.HeldFiles.{EndsBy, IsNextPiece, PieceCause, body_told, told_at}
 use Rattle.ext_store_files.specs.Names.{home_path}
+use Rattle.ext_gen.specs.declared.bad_store.BadStore.TheVariants.{Broken, Damaged}
 use Rattle.ext_top.specs.Replying.{FileCause, WritesBytes, WritesPiece, stop_of_shelf}
-use Rattle.ext_top.specs.declared.bad_store.BadStore.TheVariants.{Broken, Damaged}
 use Rattle.ext_top.specs.declared.stop.Stop.{Stop}
 use Rattle.ext_top.specs.declared.stop.Stop.TheVariants.{WriteFault, DiskFault, DepotFault, OutOfMemory, BadStore, Unfinished}
 

@@ -11,6 +11,7 @@ use Rattle.ext_gen.specs.Opening.{KeepsNow, OpensTold}
 use Rattle.ext_gen.specs.declared.errors.StoreErr.{StoreErr}
 use Rattle.ext_gen.specs.declared.errors.StoreErr.TheVariants as store_errors
 use Rattle.ext_store_files.specs.declared.fault.StoreFault.TheVariants as store_faults
+use Rattle.ext_gen.specs.declared.bad_store.BadStore.TheVariants as bad
 use Rattle.ext_cmd.specs.Line.{counts_for_nothing}
 use Rattle.ext_cmd.specs.declared.command.Command.{Command}
 use Rattle.ext_cmd.specs.declared.refusal.Refusal.{Refusal}
@@ -22,7 +23,6 @@ use Rattle.ext_top.specs.Exits.{Line, does, unread, wrong}
 use Rattle.ext_top.specs.Lines.{LineCause, LineLeavesCurrent, LineTold, WhereLineDamaged, WhereLineUnfinished}
 use Rattle.ext_top.specs.Replying.{WritesUsage}
 use Rattle.ext_top.specs.Working.{FindsDamage, HasMet, WantsOn, WantsWithin, WorksFor}
-use Rattle.ext_top.specs.declared.bad_store.BadStore.TheVariants as bad
 use Rattle.ext_top.specs.declared.lines.Written.{Written}
 use Rattle.ext_intents.specs.declared.intent.Intent.{Intent}
 use Rattle.ext_top.specs.declared.status.Status.{Status}

@@ -9,13 +9,13 @@ use Rattle.ext_host.specs.declared.damage.Damage.{Damage}
 use Rattle.ext_gen.specs.Opened.{Generation}
 use Rattle.ext_gen.specs.Store.{State, generation_in}
 use Rattle.ext_gen.specs.Sound.{IsDurably, StandsSince}
+use Rattle.ext_gen.specs.declared.bad_store.BadStore.TheVariants.{Broken, Damaged}
 use Rattle.ext_top.specs.Applying.{HasTooManyLeftOvers, IsDamage}
 use Rattle.ext_top.specs.Exits.{Line, LineComes, Standing, StandsAs, StopsWith, IsOnTheWay}
 use Rattle.ext_top.specs.Machine.{Outcome, refusal_of, reply_of, state_after}
 use Rattle.ext_top.specs.Working.{KeepsCurrent}
 use Rattle.ext_top.specs.declared.apply_err.ApplyErr.{ApplyErr}
 use Rattle.ext_top.specs.declared.apply_err.ApplyErr.TheVariants as apply_errors
-use Rattle.ext_top.specs.declared.bad_store.BadStore.TheVariants.{Broken, Damaged}
 use Rattle.ext_top.specs.declared.lines.Written.{Written}
 use Rattle.ext_top.specs.declared.stop.Stop.{Stop}
 use Rattle.ext_top.specs.declared.stop.Stop.TheVariants.{WriteFault, DiskFault, DepotFault, OutOfMemory, BadStore, Unfinished}

@@ -13,12 +13,12 @@ use Rattle.ext_host.specs.declared.shelf.ShelfErr.{ShelfErr}
 use Rattle.ext_host.specs.declared.damage.Damage.{Damage}
 use Rattle.ext_store_files.specs.HeldFiles.{body_told}
 use Rattle.ext_store_files.specs.Fault.{fault_of_shelf}
+use Rattle.ext_gen.specs.declared.bad_store.BadStore.TheVariants.{Broken, Damaged}
 use Rattle.ext_cmd.specs.Refusals.{refusal_line}
 use Rattle.ext_cmd.specs.declared.refusal.Refusal.{Refusal}
 use Rattle.ext_top.specs.Exits.{usage_line}
 use Rattle.ext_top.specs.declared.applied.Reply.{Reply}
 use Rattle.ext_top.specs.declared.applied.Reply.TheVariants.{Text, File, Refused}
-use Rattle.ext_top.specs.declared.bad_store.BadStore.TheVariants.{Broken, Damaged}
 use Rattle.ext_top.specs.declared.stop.Stop.{Stop}
 use Rattle.ext_top.specs.declared.stop.Stop.TheVariants.{WriteFault, DiskFault, DepotFault, OutOfMemory, BadStore, Unfinished}
 use Rattle.ext_top.specs.Stop.{stop_of_fault}

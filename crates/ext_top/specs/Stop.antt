@@ -1,7 +1,7 @@
 -- Which stop of a run a fault is.
 use Rattle.ext_store_files.specs.declared.fault.StoreFault.{StoreFault}
 use Rattle.ext_store_files.specs.declared.fault.StoreFault.TheVariants as store_faults
-use Rattle.ext_top.specs.declared.bad_store.BadStore.TheVariants.{Damaged}
+use Rattle.ext_gen.specs.declared.bad_store.BadStore.TheVariants.{Damaged}
 use Rattle.ext_top.specs.declared.stop.Stop.{Stop}
 use Rattle.ext_top.specs.declared.stop.Stop.TheVariants.{DiskFault, DepotFault, OutOfMemory, BadStore}
 

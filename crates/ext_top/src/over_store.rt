@@ -9,14 +9,13 @@ ghost use Rattle.ext_top.specs.Devices.{store_side};
 ghost use Rattle.ext_top.specs.Exits.{does};
 ghost use Rattle.ext_top.specs.Running.{RunsBegun, RunsLines};
 
-use crate::bad_store::BadStore;
 use crate::lines::{Written, do_line, run_lines};
 use crate::status::Status;
 use crate::stop::Stop;
 use ext_cmd::{Command, Refusal};
 use ext_depot::Depot;
 use ext_disk::Disk;
-use ext_gen::{StoreErr, open};
+use ext_gen::{BadStore, StoreErr, open};
 use ext_io::Sink;
 use std::alloc::Global;
 

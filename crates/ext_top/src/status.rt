@@ -1,8 +1,8 @@
 ghost use Rattle.std.specs.Prelude.{◌≡◌};
 ghost use Rattle.ext_top.specs.Status.{status_number};
 
-use crate::bad_store::BadStore;
 use ext_cmd::Refusal;
+use ext_gen::BadStore;
 
 /// How a run ended.
 #[derive(Debug, Drop)]

@@ -1,5 +1,5 @@
 use crate::apply_err::ApplyErr;
-use crate::bad_store::BadStore;
+use ext_gen::BadStore;
 use ext_host::ShelfErr;
 use ext_store_files::StoreFault;
 use ext_text::OutOfMemory;

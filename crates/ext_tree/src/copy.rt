@@ -1,5 +1,5 @@
 // Equal trees.
-ghost use Rattle.std.specs.Prelude.{◌≡◌, IfOk};
+ghost use Rattle.std.specs.Prelude.{◌≡◌, ◌++◌, IfOk, OnOk};
 
 use crate::entry::{Entry, Held1};
 use crate::tree::Tree;
@@ -28,10 +28,25 @@ pub(crate) fn copies_of<C: Held1 + Drop>(
     ensures { IfOk result (λ copies. copies.items ≡ pairs.now) }
 {
     let mut copies = Vec::with_capacity(alloc, pairs.len())?;
+    append_pairs(alloc, &mut copies, pairs)?;
+    Ok(copies)
+}
+
+/// Appends copies of entries, with equal paths.
+///
+/// # Errors
+/// Out of memory alone.
+pub fn append_pairs<C: Held1 + Drop>(
+    alloc: Global,
+    copies: &mut Vec<(Path, Entry<C>)>,
+    pairs: &[(Path, Entry<C>)],
+) -> Result<(), OutOfMemory>
+    ensures { OnOk result (copies.new.items ≡ copies.old.items ++ pairs.now) }
+{
     for pair in pairs {
         copies.push(copy_of(alloc, pair)?)?;
     }
-    Ok(copies)
+    Ok(())
 }
 
 // An equal entry with an equal path.

@@ -23,6 +23,7 @@ mod stamp;
 mod tree;
 mod writing;
 
+pub use copy::append_pairs;
 pub use entry::{Entry, Held1};
 pub use entry_line::{LineContent, append_fields, append_line, entry_of_line, fields_of, path_of};
 pub use fields::{

@@ -18,6 +18,6 @@ pub use depot_words::{read_text, size_text};
 pub use disk_calls::call_text;
 pub use kept_words::{compare, copy, give, give_piece};
 pub use looking::{calls_text, file_text, kind_text, most_bytes, sizes_text, whole_text};
-pub use outcome::{Outcome, append_damage, append_field};
+pub use outcome::{Outcome, append_bad_store, append_field};
 pub use placing::{put_file, put_files, put_folder, sync};
 pub use store_words::{clean, current_text, left_over_text, paths_text};

@@ -1,5 +1,6 @@
 // How a command or a change ended.
 use ext_case::{Trouble, append_number, append_str};
+use ext_gen::BadStore;
 use ext_host::Damage;
 use ext_text::Text;
 use ext_tree::Stamp;
@@ -26,11 +27,32 @@ impl Outcome {
     }
 }
 
+/// Adds why what is in a store folder is no store: ` broken` and the line, or a space and what is damaged.
+///
+/// # Errors
+/// `OutOfMemory`.
+pub fn append_bad_store(alloc: Global, text: &mut Text, bad: &BadStore) -> Result<(), Trouble> {
+    match bad {
+        BadStore::Broken { line } => {
+            append_str(text, " broken")?;
+            append_field(alloc, text, *line)
+        }
+        BadStore::Damaged(damage) => {
+            append_str(text, " ")?;
+            append_damage(alloc, text, damage)
+        }
+    }
+}
+
 /// Adds where a damaged file is kept, its stamp, and that of what stands there, or `-`.
 ///
 /// # Errors
 /// `OutOfMemory`.
-pub fn append_damage(alloc: Global, text: &mut Text, damage: &Damage) -> Result<(), Trouble> {
+pub(crate) fn append_damage(
+    alloc: Global,
+    text: &mut Text,
+    damage: &Damage,
+) -> Result<(), Trouble> {
     append_str(text, "damaged")?;
     append_field(alloc, text, u64::from(damage.home.generation))?;
     append_field(alloc, text, u64::from(damage.home.file))?;

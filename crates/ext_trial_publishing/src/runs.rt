@@ -2,9 +2,9 @@
 use ext_case::{Trouble, append_number, append_str};
 use ext_disk::MemoryDisk;
 use ext_io::{Calls, MemorySink};
-use ext_publish::{BadStore, PubStatus, publish};
+use ext_publish::{PubStatus, publish};
 use ext_text::{Text, Words};
-use ext_trial_disks::{append_damage, append_field};
+use ext_trial_disks::{append_bad_store, append_field};
 use ext_trial_scenes::Outcome;
 use std::alloc::Global;
 
@@ -43,17 +43,4 @@ fn status_text(alloc: Global, status: &PubStatus) -> Result<Text, Trouble> {
         _ => {}
     }
     Ok(text)
-}
-
-fn append_bad_store(alloc: Global, text: &mut Text, bad: &BadStore) -> Result<(), Trouble> {
-    match bad {
-        BadStore::Broken { line } => {
-            append_str(text, " broken")?;
-            append_field(alloc, text, *line)
-        }
-        BadStore::Damaged(damage) => {
-            append_str(text, " ")?;
-            append_damage(alloc, text, damage)
-        }
-    }
 }

@@ -2,6 +2,7 @@
 use ext_case::{
     Trouble, append_line, append_number, append_path, append_str, line_of, none, one, three,
 };
+use ext_cmd::transfer_fault_word;
 use ext_lines::append_octal;
 use ext_pattern::Pattern;
 use ext_release::{Release, ReleaseErr, read_release};
@@ -143,28 +144,8 @@ fn fault(alloc: Global, line: u64, why: TransferFault) -> Result<Text, Trouble> 
     let mut text = Text::from_bytes(alloc, b"fault ")?;
     append_number(alloc, &mut text, line)?;
     text.append(b" ")?;
-    append_line(&mut text, fault_word(why).as_bytes())?;
+    append_line(&mut text, transfer_fault_word(why).as_bytes())?;
     Ok(text)
-}
-
-fn fault_word(why: TransferFault) -> &'static str {
-    match why {
-        TransferFault::Syntax => "syntax",
-        TransferFault::Specifier => "specifier",
-        TransferFault::Verify => "verify",
-        TransferFault::SourceType => "source-type",
-        TransferFault::SourcePath => "source-path",
-        TransferFault::SourcePattern => "source-pattern",
-        TransferFault::TargetType => "target-type",
-        TransferFault::TargetPath => "target-path",
-        TransferFault::TargetPattern => "target-pattern",
-        TransferFault::Mode => "mode",
-        TransferFault::Instances => "instances",
-        TransferFault::Link => "link",
-        TransferFault::Relative => "relative",
-        TransferFault::MinVersion => "min-version",
-        TransferFault::ProtectVersion => "protect-version",
-    }
 }
 
 // `transfer laws`: each law of transfer files is called, and writes nothing.

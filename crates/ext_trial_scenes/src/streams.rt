@@ -5,8 +5,8 @@ use ext_depot::Depot;
 use ext_disk::Disk;
 use ext_io::{Calls, MemorySink, MemorySource};
 use ext_text::{Text, Words};
-use ext_top::{BadStore, Devices, Status, run};
-use ext_trial_disks::{Outcome, append_damage, append_field};
+use ext_top::{Devices, Status, run};
+use ext_trial_disks::{Outcome, append_bad_store, append_field};
 use std::alloc::Global;
 
 /// A disk and a depot, beside streams in memory.
@@ -113,17 +113,4 @@ fn status_text(alloc: Global, status: &Status) -> Result<Text, Trouble> {
         _ => {}
     }
     Ok(text)
-}
-
-fn append_bad_store(alloc: Global, text: &mut Text, bad: &BadStore) -> Result<(), Trouble> {
-    match bad {
-        BadStore::Broken { line } => {
-            append_str(text, " broken")?;
-            append_field(alloc, text, *line)
-        }
-        BadStore::Damaged(damage) => {
-            append_str(text, " ")?;
-            append_damage(alloc, text, damage)
-        }
-    }
 }

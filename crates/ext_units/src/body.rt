@@ -107,8 +107,11 @@ fn body_in<H: Shelf>(
     }
 }
 
-// The tree of the image at the place; `None` exactly where this leads to no directory.
-fn tree_at(
+/// The tree of the image at the place, copied; `None` exactly where this leads to no directory.
+///
+/// # Errors
+/// `OutOfMemory`.
+pub fn tree_at(
     alloc: Global,
     base: &Tree<Held>,
     place: &Path,

@@ -22,7 +22,7 @@ mod unit_entry;
 mod unit_file;
 mod unit_names;
 
-pub use body::{Body, body_at, body_of};
+pub use body::{Body, body_at, body_of, tree_at};
 pub use choosing::units_of;
 pub use errors::{BodyErr, InspectErr, UnitsErr};
 pub use image::{Image, image_at};

@@ -1,5 +1,5 @@
 // The items of what is written, and the paths that they touch.
-ghost use Rattle.std.specs.Prelude.{◌≡◌, ◌++◌, map, IfOk, OnOk};
+ghost use Rattle.std.specs.Prelude.{◌≡◌, map, IfOk};
 ghost use Rattle.std.specs.List.{filter};
 ghost use Rattle.ext_update.specs.Drafts.{AreItems, IsPathWithin, Touches, arrives_at};
 ghost use Rattle.ext_update.specs.Stages.{is_within_limits};
@@ -7,7 +7,7 @@ ghost use Rattle.ext_update.specs.Stages.{is_within_limits};
 use crate::draft::{Arrival, CurrentLink, Draft};
 use ext_choice::Division;
 use ext_text::{OutOfMemory, Path, PathErr, Paths, SortedPaths};
-use ext_updated::Items;
+use ext_updated::{Items, append_copies};
 use std::alloc::Global;
 
 // The items: what is written, and the instances that go and those that stay.
@@ -73,14 +73,4 @@ pub(crate) fn touched_by(alloc: Global, items: &Items) -> Result<SortedPaths, Ou
     append_copies(&mut paths, items.links.as_slice())?;
     append_copies(&mut paths, items.removed.as_slice())?;
     Ok(SortedPaths::of(paths))
-}
-
-// Appends copies of paths.
-fn append_copies(paths: &mut Vec<Path>, more: &[Path]) -> Result<(), OutOfMemory>
-    ensures { OnOk result (paths.new.items ≡ paths.old.items ++ more.now) }
-{
-    'more: for path in more {
-        paths.push(path.copy()?)?;
-    }
-    Ok(())
 }

@@ -9,7 +9,7 @@ ghost use Rattle.ext_tree.specs.Cut.{cut_all};
 ghost use Rattle.ext_updated.specs.Putting.{is_earlier};
 
 use ext_text::{OutOfMemory, Path, PathRef, SortedPaths};
-use ext_tree::{Entry, Held1, Tree, after};
+use ext_tree::{Entry, Held1, Tree, after, append_pairs};
 use std::alloc::Global;
 
 /// A copy of the tree without these paths and all that is below them: two searches among the entries for each path, and one pass
@@ -44,9 +44,9 @@ fn append_left<C: Held1 + Drop>(
     let mut more = paths;
     'paths: loop {
         match more {
-            [] => return append_copies(alloc, left, rest),
+            [] => return append_pairs(alloc, left, rest),
             [path, others @ ..] => {
-                append_copies(alloc, left, before(rest, &path.names()))?;
+                append_pairs(alloc, left, before(rest, &path.names()))?;
                 rest = after(rest, &path.names());
                 more = others;
             }
@@ -69,30 +69,4 @@ fn is_earlier<C>(names: &PathRef, pair: &(Path, Entry<C>)) -> bool
     ensures { result ≡ is_earlier names.now pair.now.0 }
 {
     pair.0.names().cmp(names).is_lt()
-}
-
-// Appends copies of entries.
-fn append_copies<C: Held1 + Drop>(
-    alloc: Global,
-    copies: &mut Vec<(Path, Entry<C>)>,
-    pairs: &[(Path, Entry<C>)],
-) -> Result<(), OutOfMemory>
-    ensures { OnOk result (copies.new.items ≡ copies.old.items ++ pairs.now) }
-{
-    for pair in pairs {
-        copies.push(copy_of(alloc, pair)?)?;
-    }
-    Ok(())
-}
-
-// An equal entry with an equal path.
-fn copy_of<C: Held1 + Drop>(
-    alloc: Global,
-    pair: &(Path, Entry<C>),
-) -> Result<(Path, Entry<C>), OutOfMemory>
-    ensures { IfOk result (λ copy. copy ≡ pair.now) }
-{
-    let path = pair.0.copy()?;
-    let entry = pair.1.copy(alloc)?;
-    Ok((path, entry))
 }

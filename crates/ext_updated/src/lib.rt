@@ -20,6 +20,7 @@ mod updating;
 
 pub use clashing::clash;
 pub use copying::copy_without;
+pub use gathering::{append_copies, both};
 pub use items::Items;
 pub use manifesting::manifest_at;
 pub use piece::Piece;

@@ -1,34 +1,14 @@
 // What entries stand at and below some hierarchies.
 ghost use Rattle.std.specs.Prelude.{◌≡◌, ◌++◌, ◌∷◌, [], IfOk, OnOk, map};
-ghost use Rattle.ext_text.specs.Path.{is_prefix};
 ghost use Rattle.ext_host.specs.Host.{is_in};
 ghost use Rattle.ext_view.specs.Inside.{inside, seen_below};
 
-use ext_host::Held;
-use ext_text::{Name, OutOfMemory, Path, PathRef};
+use ext_host::{Held, is_in};
+use ext_text::{Name, OutOfMemory, Path};
 use ext_tree::{Entry, Held1, Tree};
 use std::alloc::Global;
 
 pub(crate) type Pair = (Path, Entry<Held>);
-
-/// Whether the names of a path are at or below one of the hierarchies.
-pub fn is_in(hierarchies: &[Name], names: &PathRef) -> bool
-    ensures { result ≡ is_in hierarchies.now names.now }
-{
-    hierarchies
-        .iter()
-        .any(|hierarchy| stands_at(hierarchy, names))
-}
-
-// Whether the names of a path are at or below the hierarchy.
-fn stands_at(hierarchy: &Name, names: &PathRef) -> bool
-    ensures { result ≡ is_prefix (hierarchy.now ∷ []) names.now }
-{
-    match names.split_first() {
-        None => false,
-        Some((first, _below)) => hierarchy.bytes().cmp(first).is_eq(),
-    }
-}
 
 /// The entries of the tree at and below the hierarchies, which are not copied.
 pub fn entries_inside(tree: Tree<Held>, hierarchies: &[Name]) -> Tree<Held>

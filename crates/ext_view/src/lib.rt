@@ -27,7 +27,7 @@ mod view;
 pub use errors::ViewErr;
 pub use hierarchies::hierarchies_of;
 pub use image::image_at;
-pub use inside::{entries_inside, is_in};
+pub use inside::entries_inside;
 pub use merging::{chosen, merge, refresh};
 pub use outcome::Merge;
 pub use surveyed::{SurveyItem, SurveyKind};

@@ -7,7 +7,8 @@ ghost use Rattle.ext_host.specs.Host.{is_in};
 ghost use Rattle.ext_view.specs.Inside.{outside};
 ghost use Rattle.ext_view.specs.Replaced.{replaced};
 
-use crate::inside::{Pair, copy_below, is_in};
+use crate::inside::{Pair, copy_below};
+use ext_host::is_in;
 use ext_text::{Name, OutOfMemory};
 use ext_tree::joined;
 use std::alloc::Global;

@@ -3,7 +3,7 @@ use Rattle.std.specs.Ordering.{eq_by_cmp, is_eq}
 use Rattle.std.proofs.Math.Bool.{and-true}
 use Rattle.ext_lines.specs.ByteOrder.{bytes_cmp}
 use Rattle.ext_text.specs.Path.{is_prefix}
-use Rattle.ext_view.proofs.inside.stands_at.Goals as goal
+use Rattle.ext_host.proofs.hierarchies.stands_at.Goals as goal
 
 pub returns-in-None : goal.returns-in-None
 returns-in-None c = ap (is_prefix (c.args.hierarchy.now ∷ [])) (sym c.in-None.ensures)
