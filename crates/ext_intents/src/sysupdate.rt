@@ -114,8 +114,8 @@ fn check_new_step<P: Depot, H: Shelf>(
     depot: &mut P,
     shelf: &mut H,
 ) -> Result<Intent, PlanErr>
-    requires base { IsBaseTree host.now base.now }
     requires serves { ServesAll (H.serves shelf.old) base.now }
+    requires base { IsBaseTree host.now base.now }
     ensures wants { IfOk result (VerbWantsOf (H.told shelf.old) (P.state depot.old).contents host.now base.now
         (option_copied component.entry) verbs.CheckNew) }
     ensures kept { IsKept (P.state depot.old) (P.state depot.new) }

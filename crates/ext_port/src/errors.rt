@@ -27,6 +27,9 @@ pub enum PortErr {
         /// The first line that is, counted from 1.
         line: u64,
     },
+    /// The shelf did not give the image's release file; never where memory ran out.
+    #[error("the image's release file is not given")]
+    Shelf(ShelfErr),
     /// The image does not allow a prefix.
     #[error("the image does not allow a prefix")]
     PrefixForbidden {
@@ -63,9 +66,6 @@ pub enum PortErr {
         /// The first limit that would be passed, of `Path`, `Entries`, `File` and `Bytes`.
         which: Which,
     },
-    /// The shelf did not give the image's release file; never where memory ran out.
-    #[error("the image's release file is not given")]
-    Shelf(ShelfErr),
 }
 
 impl From<OutOfMemory> for PortErr {

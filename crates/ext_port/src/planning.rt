@@ -1,4 +1,4 @@
-ghost use Rattle.std.specs.Prelude.{◌≡◌, ◌≤◌, true, false, IfOk};
+ghost use Rattle.std.specs.Prelude.{◌≡◌, ◌≤◌, IfOk};
 ghost use Rattle.ext_host.specs.Planning.{IsPlannedHost, ServesAll, ServesHost};
 ghost use Rattle.ext_host.specs.Valid.{IsValidHost};
 ghost use Rattle.ext_units.specs.Image.{IsImageAt};
@@ -16,67 +16,18 @@ use ext_text::Path;
 use ext_units::{body_at, image_at};
 use std::alloc::Global;
 
-/// The plan of the host with the image attached that is asked for. After portablectl(1), command `attach`.
+/// The plan of the host with the image attached that is asked for. After portablectl(1), command `attach`. Or, `again`, with the
+/// image attached anew: all that [`without`](ext_attached::without) takes away goes, and then it is attached, and all is looked for
+/// in the host without that. After command `reattach`.
 ///
 /// # Errors
 /// The first of these:
 ///
-/// - `NoSuchImage` exactly where there is no such image.
-/// - `AlreadyAttached` exactly where an attachment has its name.
+/// - `NoSuchImage` exactly where there is no such image, `again` in the host without those attachments.
+/// - `AlreadyAttached` exactly where not `again` and an attachment has its name.
+/// - `NotAttached` exactly where `again` and no attachment goes.
 /// - `NotPortable`, `BadRelease` and `Shelf` as [`body_at`] answers.
 /// - What [`attach_body`](crate::attach_body) answers after these.
-///
-/// Whatever the answer, the shelf tells the same afterwards.
-pub fn attach<H: Shelf>(
-    alloc: Global,
-    host: &Host,
-    ask: &Ask,
-    shelf: &mut H,
-) -> Result<Attach, PortErr>
-    requires valid { IsValidHost host.now }
-    requires asked { IsAsked ask.now.image }
-    requires serves { ServesHost (H.serves shelf.old) host.now }
-    ensures gives { BarMemory (Attaches (H.told shelf.old) (H.faults shelf.old) (H.faults shelf.new) false host.now ask.now) result }
-    ensures next { IfOk result (λ attach. IsPlannedHost host.now attach.plan.next) }
-    ensures stays { H.stays shelf.old shelf.new }
-    ensures count { H.faults shelf.old ≤ H.faults shelf.new }
-{
-    attach_image(alloc, host, ask, false, shelf)
-}
-
-/// The plan of the host with the image attached anew that is asked for: all that [`without`](ext_attached::without) takes away goes,
-/// and then it is attached. All is looked for in the host without that. After portablectl(1), command `reattach`.
-///
-/// # Errors
-/// The first of these:
-///
-/// - `NoSuchImage` exactly where there is no such image in the host without those attachments.
-/// - `NotAttached` exactly where no attachment goes.
-/// - `NotPortable`, `BadRelease` and `Shelf` as [`body_at`] answers.
-/// - What [`attach_body`](crate::attach_body) answers after these.
-///
-/// Whatever the answer, the shelf tells the same afterwards.
-pub fn reattach<H: Shelf>(
-    alloc: Global,
-    host: &Host,
-    ask: &Ask,
-    shelf: &mut H,
-) -> Result<Attach, PortErr>
-    requires valid { IsValidHost host.now }
-    requires asked { IsAsked ask.now.image }
-    requires serves { ServesHost (H.serves shelf.old) host.now }
-    ensures gives { BarMemory (Attaches (H.told shelf.old) (H.faults shelf.old) (H.faults shelf.new) true host.now ask.now) result }
-    ensures next { IfOk result (λ attach. IsPlannedHost host.now attach.plan.next) }
-    ensures stays { H.stays shelf.old shelf.new }
-    ensures count { H.faults shelf.old ≤ H.faults shelf.new }
-{
-    attach_image(alloc, host, ask, true, shelf)
-}
-
-/// The plan of [`attach`] or, `again`, of [`reattach`].
-///
-/// # Errors
-/// As for these.
 ///
 /// Whatever the answer, the shelf tells the same afterwards.
 pub fn attach_image<H: Shelf>(

@@ -31,6 +31,16 @@ use ext_units::{Body, Units, names_of};
 use ext_updated::{Piece, both, updated};
 use std::alloc::Global;
 
+// What is made of an image that is asked for, and the host to which it goes.
+pub(crate) struct Staged<'a> {
+    pub(crate) start: &'a Start<'a>,
+    pub(crate) ask: &'a Ask,
+    pub(crate) made: &'a Attaching,
+    // The tree of the image, and the tree in which its units were looked for.
+    pub(crate) image: &'a Tree<Held>,
+    pub(crate) tree: &'a Tree<Held>,
+}
+
 // What is attached of an image with these units.
 pub(crate) fn attach_units(
     alloc: Global,
@@ -59,7 +69,14 @@ pub(crate) fn attach_units(
             let _names = body.place.names();
             let made = attaching_of(alloc, &start.base, ask, body, units, profile, lines)?;
             look_at_digest(&made.own);
-            attach_made(alloc, start, ask, &made, &body.tree, tree)
+            let staged = Staged {
+                start,
+                ask,
+                made: &made,
+                image: &body.tree,
+                tree,
+            };
+            attach_made(alloc, &staged)
         }
     }
 }
@@ -72,23 +89,17 @@ fn look_at_digest(held: &Held)
 }
 
 // What is attached of what is made.
-fn attach_made(
-    alloc: Global,
-    start: &Start,
-    ask: &Ask,
-    made: &Attaching,
-    image: &Tree<Held>,
-    tree: &Tree<Held>,
-) -> Result<Attach, PortErr>
-    requires start { IsStart start.now }
-    requires sound { IsSoundMade start.now.host.now made.now image.now tree.now }
-    ensures gives { BarMemory (LockedWants start.now.host.now ask.now image.now tree.now made.now start.now.cut) result }
-    ensures next { IfOk result (λ attach. IsPlannedHost start.now.host.now attach.plan.next) }
+fn attach_made(alloc: Global, staged: &Staged) -> Result<Attach, PortErr>
+    requires start { IsStart staged.now.start.now }
+    requires sound { IsSoundMade staged.now.start.now.host.now staged.now.made.now staged.now.image.now staged.now.tree.now }
+    ensures gives { BarMemory (LockedWants staged.now.start.now.host.now staged.now.ask.now staged.now.image.now staged.now.tree.now
+        staged.now.made.now staged.now.start.now.cut) result }
+    ensures next { IfOk result (λ attach. IsPlannedHost staged.now.start.now.host.now attach.plan.next) }
 {
-    let tops = sorted_tops(alloc, made)?;
-    match least_touched(alloc, start, &tops)? {
+    let tops = sorted_tops(alloc, staged.made)?;
+    match least_touched(alloc, staged.start, &tops)? {
         Some(path) => Err(PortErr::ReadOnly { path }),
-        None => attach_unlocked(alloc, start, ask, made, image, tree, tops),
+        None => attach_unlocked(alloc, staged, tops),
     }
 }
 
@@ -129,80 +140,60 @@ fn copied(path: Option<&Path>) -> Result<Option<Path>, OutOfMemory>
 }
 
 // What is attached where no path is locked.
-fn attach_unlocked(
-    alloc: Global,
-    start: &Start,
-    ask: &Ask,
-    made: &Attaching,
-    image: &Tree<Held>,
-    tree: &Tree<Held>,
-    tops: SortedPaths,
-) -> Result<Attach, PortErr>
-    requires start { IsStart start.now }
-    requires sound { IsSoundMade start.now.host.now made.now image.now tree.now }
-    requires tops { HasPaths (tops_of made.now) tops }
+fn attach_unlocked(alloc: Global, staged: &Staged, tops: SortedPaths) -> Result<Attach, PortErr>
+    requires start { IsStart staged.now.start.now }
+    requires sound { IsSoundMade staged.now.start.now.host.now staged.now.made.now staged.now.image.now staged.now.tree.now }
+    requires tops { HasPaths (tops_of staged.now.made.now) tops }
     requires order { IsStrictlySortedBy path_cmp tops }
-    ensures gives { BarMemory (StandingWants start.now.host.now ask.now image.now tree.now made.now) result }
-    ensures next { IfOk result (λ attach. IsPlannedHost start.now.host.now attach.plan.next) }
+    ensures gives { BarMemory (StandingWants staged.now.start.now.host.now staged.now.ask.now staged.now.image.now staged.now.tree.now
+        staged.now.made.now) result }
+    ensures next { IfOk result (λ attach. IsPlannedHost staged.now.start.now.host.now attach.plan.next) }
 {
-    match least_standing(&start.host.root, &tops) {
+    match least_standing(&staged.start.host.root, &tops) {
         Some(path) => {
             let path = path.copy()?;
             Err(PortErr::UnitExists { path })
         }
-        None => attach_free(alloc, start, ask, made, image, tree, tops),
+        None => attach_free(alloc, staged, tops),
     }
 }
 
 // What is attached where nothing stands at a path that is added.
-fn attach_free(
-    alloc: Global,
-    start: &Start,
-    ask: &Ask,
-    made: &Attaching,
-    image: &Tree<Held>,
-    tree: &Tree<Held>,
-    tops: SortedPaths,
-) -> Result<Attach, PortErr>
-    requires start { IsStart start.now }
-    requires sound { IsSoundMade start.now.host.now made.now image.now tree.now }
-    requires tops { HasPaths (tops_of made.now) tops }
+fn attach_free(alloc: Global, staged: &Staged, tops: SortedPaths) -> Result<Attach, PortErr>
+    requires start { IsStart staged.now.start.now }
+    requires sound { IsSoundMade staged.now.start.now.host.now staged.now.made.now staged.now.image.now staged.now.tree.now }
+    requires tops { HasPaths (tops_of staged.now.made.now) tops }
     requires order { IsStrictlySortedBy path_cmp tops }
-    ensures gives { BarMemory (BlockingWants start.now.host.now ask.now image.now tree.now made.now) result }
-    ensures next { IfOk result (λ attach. IsPlannedHost start.now.host.now attach.plan.next) }
+    ensures gives { BarMemory (BlockingWants staged.now.start.now.host.now staged.now.ask.now staged.now.image.now staged.now.tree.now
+        staged.now.made.now) result }
+    ensures next { IfOk result (λ attach. IsPlannedHost staged.now.start.now.host.now attach.plan.next) }
 {
-    let ways = ways_of(alloc, made)?;
-    match least_blocking(&start.host.root, &ways) {
+    let ways = ways_of(alloc, staged.made)?;
+    match least_blocking(&staged.start.host.root, &ways) {
         Some(path) => {
             let path = path.copy()?;
             Err(PortErr::NotDirectory { path })
         }
-        None => attach_open(alloc, start, ask, made, image, tree, tops),
+        None => attach_open(alloc, staged, tops),
     }
 }
 
 // What is attached where nothing but directories stands above.
-fn attach_open(
-    alloc: Global,
-    start: &Start,
-    ask: &Ask,
-    made: &Attaching,
-    image: &Tree<Held>,
-    tree: &Tree<Held>,
-    tops: SortedPaths,
-) -> Result<Attach, PortErr>
-    requires start { IsStart start.now }
-    requires sound { IsSoundMade start.now.host.now made.now image.now tree.now }
-    requires tops { HasPaths (tops_of made.now) tops }
+fn attach_open(alloc: Global, staged: &Staged, tops: SortedPaths) -> Result<Attach, PortErr>
+    requires start { IsStart staged.now.start.now }
+    requires sound { IsSoundMade staged.now.start.now.host.now staged.now.made.now staged.now.image.now staged.now.tree.now }
+    requires tops { HasPaths (tops_of staged.now.made.now) tops }
     requires order { IsStrictlySortedBy path_cmp tops }
-    requires open { NonePasses (λ path. is_non_directory_at (lookup start.now.host.now.root path)) (ways_of made.now) }
-    ensures gives { BarMemory (FittingWants start.now.host.now ask.now image.now tree.now made.now) result }
-    ensures next { IfOk result (λ attach. IsPlannedHost start.now.host.now attach.plan.next) }
+    requires open { NonePasses (λ path. is_non_directory_at (lookup staged.now.start.now.host.now.root path))
+        (ways_of staged.now.made.now) }
+    ensures gives { BarMemory (FittingWants staged.now.start.now.host.now staged.now.ask.now staged.now.image.now staged.now.tree.now
+        staged.now.made.now) result }
+    ensures next { IfOk result (λ attach. IsPlannedHost staged.now.start.now.host.now attach.plan.next) }
 {
     // `pairs` says of what is seen that it is a tree.
-    let _entries = start.host.root.pairs();
-    match pieces_of(alloc, made, image, tree) {
-        Ok(pieces) => attach_pieces(alloc, start, ask, made, pieces, tops),
+    let _entries = staged.start.host.root.pairs();
+    match pieces_of(alloc, staged.made, staged.image, staged.tree) {
+        Ok(pieces) => attach_pieces(alloc, staged.start, staged.ask, staged.made, pieces, tops),
         Err(TreeErr::OutOfMemory) => Err(PortErr::OutOfMemory),
         Err(TreeErr::Path) => Err(PortErr::Limit { which: Which::Path }),
         Err(TreeErr::NotDirectory | TreeErr::Exists | TreeErr::Limit) => unreachable!(),

@@ -1,4 +1,4 @@
-ghost use Rattle.std.specs.Prelude.{◌≡◌, ◌≤◌, true, false, IfOk};
+ghost use Rattle.std.specs.Prelude.{◌≡◌, ◌≤◌, IfOk};
 ghost use Rattle.std.specs.List.{AllByRecursion};
 ghost use Rattle.ext_host.specs.Planning.{IsBaseTree, IsPlannedHost, ServesAll, ServesHost};
 ghost use Rattle.ext_host.specs.Valid.{IsValidHost};
@@ -21,7 +21,9 @@ use std::alloc::Global;
 
 /// The plan of the host with the image attached that is asked for, with extensions: its units are looked for in the image and in the
 /// extensions over it, the last on top, and each drop-in that tells a service its image names the extensions too. After
-/// portablectl(1), command `attach` with the option `--extension=`.
+/// portablectl(1), command `attach` with the option `--extension=`. Or, `again`, with the image attached anew: all that [`without`]
+/// takes away goes, and then it is attached, and the image and its extensions are looked for in the host without that. After command
+/// `reattach`.
 ///
 /// A named extension is a system extension of the host. One at a path is the directory to which the path leads. Each has to fit the
 /// image as a system extension of scope `portable` fits a host.
@@ -35,60 +37,6 @@ use std::alloc::Global;
 /// - `Limit` with `Entries`, where the tree of the units would have more than 262,144 entries.
 /// - `Port` with what [`attach_body`] answers.
 /// - `OutOfMemory`.
-///
-/// Whatever the answer, the shelf tells the same afterwards.
-pub fn attach_extended<H: Shelf>(
-    alloc: Global,
-    host: &Host,
-    ask: &Ask,
-    extensions: &Extensions,
-    shelf: &mut H,
-) -> Result<Attach, PortExtErr>
-    requires valid { IsValidHost host.now }
-    requires asked { IsAsked ask.now.image }
-    requires all_asked { AllByRecursion IsAsked extensions.now }
-    requires serves { ServesHost (H.serves shelf.old) host.now }
-    ensures gives { UnlessMemory (AttachesExtended (H.told shelf.old) (H.faults shelf.old) (H.faults shelf.new) false
-        host.now ask.now extensions.now) result }
-    ensures next { IfOk result (λ attach. IsPlannedHost host.now attach.plan.next) }
-    ensures stays { H.stays shelf.old shelf.new }
-    ensures count { H.faults shelf.old ≤ H.faults shelf.new }
-{
-    attach_images(alloc, host, ask, extensions, false, shelf)
-}
-
-/// The plan of the host with the image attached anew that is asked for, with extensions: all that [`without`] takes away goes, and
-/// then it is attached. The image and its extensions are looked for in the host without that. After portablectl(1), command
-/// `reattach` with the option `--extension=`.
-///
-/// # Errors
-/// As for [`attach_extended`].
-///
-/// Whatever the answer, the shelf tells the same afterwards.
-pub fn reattach_extended<H: Shelf>(
-    alloc: Global,
-    host: &Host,
-    ask: &Ask,
-    extensions: &Extensions,
-    shelf: &mut H,
-) -> Result<Attach, PortExtErr>
-    requires valid { IsValidHost host.now }
-    requires asked { IsAsked ask.now.image }
-    requires all_asked { AllByRecursion IsAsked extensions.now }
-    requires serves { ServesHost (H.serves shelf.old) host.now }
-    ensures gives { UnlessMemory (AttachesExtended (H.told shelf.old) (H.faults shelf.old) (H.faults shelf.new) true
-        host.now ask.now extensions.now) result }
-    ensures next { IfOk result (λ attach. IsPlannedHost host.now attach.plan.next) }
-    ensures stays { H.stays shelf.old shelf.new }
-    ensures count { H.faults shelf.old ≤ H.faults shelf.new }
-{
-    attach_images(alloc, host, ask, extensions, true, shelf)
-}
-
-/// The plan of [`attach_extended`] or, `again`, of [`reattach_extended`].
-///
-/// # Errors
-/// As for these.
 ///
 /// Whatever the answer, the shelf tells the same afterwards.
 pub fn attach_images<H: Shelf>(

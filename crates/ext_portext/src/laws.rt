@@ -8,7 +8,7 @@ use ext_match::one_verdict;
 use ext_release::{a_file_has_a_release_or_a_faulty_line, a_file_has_one_release};
 use ext_units::laws::{there_is_one_choice_of_units, there_is_one_image};
 
-/// What is attached with no extensions is what [`attach`](ext_port::attach) gives, and [`reattach`](ext_port::reattach).
+/// What is attached with no extensions, or attached anew, is what [`attach_image`](ext_port::attach_image) gives.
 pub fn without_extensions_it_is_attaching()
     ensures { WithoutExtensionsIsAttach }
 {}

@@ -67,9 +67,9 @@ fn copy_there<D: Disk, P: Depot>(
     from: &Path,
     listed: &Stamp,
 ) -> Result<(), CopyErr>
+    requires there { IsThere (P.state depot.old) from.now }
     requires free { MayCall (make_file path.now) (D.state disk.old) }
     requires size { listed.now.size < 2 ^ 63 }
-    requires there { IsThere (P.state depot.old) from.now }
     ensures keeps { CopyKeeps path.now listed.now.size (D.state disk.old) (D.state disk.new) (P.state depot.old) (P.state depot.new) }
     ensures copied { OnOk result (IsCopied (depot_told (P.state depot.old) from.now) listed.now path.now (D.state disk.old)
         (D.state disk.new)) }

@@ -64,10 +64,10 @@ pub fn next_piece<D: Disk>(
     at: u64,
     buf: &mut [u8],
 ) -> Result<usize, ShelfErr>
+    requires stands { body_told (D.state disk.old) held.now.body ≢ missing }
     requires served { IsTrue (is_served held.now.body) }
     requires room { 0 < length buf.old }
     requires place { at < held.now.stamp.size }
-    requires stands { body_told (D.state disk.old) held.now.body ≢ missing }
     ensures within { IfOk result (λ n. (0 < n) × (n ≤ length buf.new) × (at + n ≤ held.now.stamp.size)) }
     ensures next { IfOk result (λ n. IsNextPiece (body_told (D.state disk.old) held.now.body) at (take n buf.new)) }
     ensures rests { Rests (D.state disk.old) (D.state disk.new) }
@@ -130,9 +130,9 @@ fn next_kept_piece<D: Disk>(
     at: u64,
     buf: &mut [u8],
 ) -> Result<usize, ShelfErr>
+    requires stands { path_told (D.state disk.old) (home_path home.now.generation home.now.file) ≢ missing }
     requires number { IsFileNumber home.now.file }
     requires room { 0 < length buf.old }
-    requires stands { path_told (D.state disk.old) (home_path home.now.generation home.now.file) ≢ missing }
     ensures within { IfOk result (λ n. (0 < n) × (n ≤ length buf.new)) }
     ensures next { IfOk result (λ n. IsNextPiece (path_told (D.state disk.old) (home_path home.now.generation home.now.file)) at
         (take n buf.new)) }

@@ -71,10 +71,10 @@ fn switch<D: Disk, P: Depot>(
     requires planned { IsPlanned (coming_number opened) (host_before opened) next }
     requires opened { IfSome opened IsOpened }
     requires points { PointsAs (D.state disk.old) opened }
-    ensures follows { Follows (D.state disk.old) (D.state disk.new) }
-    ensures kept { IsKept (P.state depot.old) (P.state depot.new) }
     ensures applies { BothTold (AppliesTold (λ s. Replaces s (P.state depot.old).contents next reply) opened result)
         (D.state disk.old).told (D.state disk.new).told }
+    ensures follows { Follows (D.state disk.old) (D.state disk.new) }
+    ensures kept { IsKept (P.state depot.old) (P.state depot.new) }
     ensures works { BothTold (ReplacesTold opened next) (D.state disk.old).told (D.state disk.new).told }
     ensures met { (answer : Answer) → IfOk result (λ applied. Met (Changes next answer) opened (D.state disk.old)
         (D.state disk.new) (P.state depot.old) (refused_by applied.reply) applied.opened) }

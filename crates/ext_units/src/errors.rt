@@ -89,6 +89,9 @@ pub enum InspectErr {
     /// There is no such image; a mask, and an image in a file, is none.
     #[error("there is no such image")]
     NoSuchImage,
+    /// The shelf did not give its release file; never where memory ran out.
+    #[error("the image's release file is not given")]
+    Shelf(ShelfErr),
     /// The image has no release file.
     #[error("the image has no release file")]
     NotPortable,
@@ -107,9 +110,6 @@ pub enum InspectErr {
     /// No unit has one of the prefixes.
     #[error("no unit has one of the prefixes")]
     NoUnits,
-    /// The shelf did not give its release file; never where memory ran out.
-    #[error("the image's release file is not given")]
-    Shelf(ShelfErr),
 }
 
 impl From<OutOfMemory> for InspectErr {

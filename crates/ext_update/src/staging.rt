@@ -55,11 +55,11 @@ fn plan_unlocked(
     touched: &SortedPaths,
     draft: Draft,
 ) -> Result<Planned, OutOfMemory>
+    requires unlocked { (path : List (List ℕ)) → ¬ IsLocked host.now (draft_writes draft items.now) path }
     requires valid { IsValidHost host.now }
     requires items { AreDraftItems draft items.now }
     requires sound { IsSoundDraft draft }
     requires touched { Touches items.now touched.now }
-    requires unlocked { (path : List (List ℕ)) → ¬ IsLocked host.now (draft_writes draft items.now) path }
     ensures wants { IfOk result (ClashWants host.now (draft_writes draft items.now)) }
     ensures planned { IfOk result (IfNext (IsPlannedHost host.now)) }
 {
@@ -77,12 +77,12 @@ fn plan_apart(
     touched: &SortedPaths,
     draft: Draft,
 ) -> Result<Planned, OutOfMemory>
+    requires apart { NoClash host.now.root items.now }
+    requires unlocked { (path : List (List ℕ)) → ¬ IsLocked host.now (draft_writes draft items.now) path }
     requires valid { IsValidHost host.now }
     requires items { AreDraftItems draft items.now }
     requires sound { IsSoundDraft draft }
     requires touched { Touches items.now touched.now }
-    requires unlocked { (path : List (List ℕ)) → ¬ IsLocked host.now (draft_writes draft items.now) path }
-    requires apart { NoClash host.now.root items.now }
     ensures wants { IfOk result (OpenWants host.now (draft_writes draft items.now)) }
     ensures planned { IfOk result (IfNext (IsPlannedHost host.now)) }
 {
@@ -100,13 +100,13 @@ fn plan_open(
     touched: &SortedPaths,
     draft: Draft,
 ) -> Result<Planned, OutOfMemory>
+    requires open { (path : List (List ℕ)) → ¬ IsBlocking host.now (draft_writes draft items.now) path }
+    requires apart { NoClash host.now.root items.now }
+    requires unlocked { (path : List (List ℕ)) → ¬ IsLocked host.now (draft_writes draft items.now) path }
     requires valid { IsValidHost host.now }
     requires items { AreDraftItems draft items.now }
     requires sound { IsSoundDraft draft }
     requires touched { Touches items.now touched.now }
-    requires unlocked { (path : List (List ℕ)) → ¬ IsLocked host.now (draft_writes draft items.now) path }
-    requires apart { NoClash host.now.root items.now }
-    requires open { (path : List (List ℕ)) → ¬ IsBlocking host.now (draft_writes draft items.now) path }
     ensures wants { IfOk result (FittingWants host.now (draft_writes draft items.now)) }
     ensures planned { IfOk result (IfNext (IsPlannedHost host.now)) }
 {

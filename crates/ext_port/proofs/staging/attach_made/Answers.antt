@@ -9,20 +9,20 @@ use Rattle.ext_port.proofs.staging.attach_made.Goals as goal
 
 pub returns-in-Some-clause-gives : goal.returns-in-Some-clause-gives
 returns-in-Some-clause-gives c =
-    let start = c.args.start.now in
+    let start = c.args.staged.now.start.now in
     let locked = is_read_only start.host.now in
     let tops = c.in_ok-tops.tops in
     let least = subst (FindsLeast locked (start.cut ++ tops)) c.in-Some.is c.in_ok-path.ensures in
-    inr (c.in-Some.path, least_of_same locked start.cut tops (tops_of c.args.made.now) c.in_ok-tops.ensures.has (Some c.in-Some.path) least, refl)
+    inr (c.in-Some.path, least_of_same locked start.cut tops (tops_of c.args.staged.now.made.now) c.in_ok-tops.ensures.has (Some c.in-Some.path) least, refl)
 
 pub returns-in-None-clause-gives : goal.returns-in-None-clause-gives
 returns-in-None-clause-gives c =
-    let start = c.args.start.now in
-    let made = c.args.made.now in
+    let start = c.args.staged.now.start.now in
+    let made = c.args.staged.now.made.now in
     let locked = is_read_only start.host.now in
     let tops = c.in_ok-tops.tops in
     let least = subst (FindsLeast locked (start.cut ++ tops)) c.in-None.is c.in_ok-path.ensures in
     let none = least_of_same locked start.cut tops (tops_of made) c.in_ok-tops.ensures.has None least in
-    bar_more (StandingWants start.host.now c.args.ask.now c.args.image.now c.args.tree.now made)
-    (LockedWants start.host.now c.args.ask.now c.args.image.now c.args.tree.now made start.cut)
+    bar_more (StandingWants start.host.now c.args.staged.now.ask.now c.args.staged.now.image.now c.args.staged.now.tree.now made)
+    (LockedWants start.host.now c.args.staged.now.ask.now c.args.staged.now.image.now c.args.staged.now.tree.now made start.cut)
     (λ r wants. inl (none, wants)) c.attach_unlocked.result c.attach_unlocked.ensures.gives
