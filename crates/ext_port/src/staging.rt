@@ -32,6 +32,7 @@ use ext_updated::{Piece, both, updated};
 use std::alloc::Global;
 
 // What is made of an image that is asked for, and the host to which it goes.
+#[derive(Drop)]
 pub(crate) struct Staged<'a> {
     pub(crate) start: &'a Start<'a>,
     pub(crate) ask: &'a Ask,
