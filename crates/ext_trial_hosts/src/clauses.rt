@@ -35,20 +35,20 @@ impl Clause {
     ///
     /// # Errors
     /// `Unreadable` where there is none.
-    pub(crate) fn read(word: &[u8]) -> Result<Clause, Trouble> {
+    pub(crate) fn read(word: &str) -> Result<Clause, Trouble> {
         match word {
-            b"here" => Ok(Clause::Here),
-            b"depot" => Ok(Clause::Depot),
-            b"seen" => Ok(Clause::Seen),
-            b"under" => Ok(Clause::Under),
-            b"sysext" => Ok(Clause::Sysext),
-            b"confext" => Ok(Clause::Confext),
-            b"sysext-hierarchies" => Ok(Clause::SysextHierarchies),
-            b"confext-hierarchies" => Ok(Clause::ConfextHierarchies),
-            b"attached" => Ok(Clause::Attached),
-            b"attached-run" => Ok(Clause::AttachedRun),
-            b"kept" => Ok(Clause::Kept),
-            b"past" => Ok(Clause::Past),
+            "here" => Ok(Clause::Here),
+            "depot" => Ok(Clause::Depot),
+            "seen" => Ok(Clause::Seen),
+            "under" => Ok(Clause::Under),
+            "sysext" => Ok(Clause::Sysext),
+            "confext" => Ok(Clause::Confext),
+            "sysext-hierarchies" => Ok(Clause::SysextHierarchies),
+            "confext-hierarchies" => Ok(Clause::ConfextHierarchies),
+            "attached" => Ok(Clause::Attached),
+            "attached-run" => Ok(Clause::AttachedRun),
+            "kept" => Ok(Clause::Kept),
+            "past" => Ok(Clause::Past),
             _ => Err(Trouble::Unreadable("no clause of a host has this word")),
         }
     }

@@ -3,7 +3,7 @@ use crate::bodies::Bodies;
 use crate::clauses::Clause;
 use crate::parts::{first_part, name, names, path_and_paths};
 use crate::samples::empty_host;
-use ext_case::{Trouble, path, small};
+use ext_case::{Trouble, path, small, string};
 use ext_host::{Attachment, Host, Item, Items, Manifest, Past};
 use ext_text::{Digest, Paths, Text};
 use std::alloc::Global;
@@ -56,7 +56,7 @@ impl Draft {
 
     fn add(&mut self, clause: &[Text]) -> Result<(), Trouble> {
         match clause {
-            [word, value] => self.set(Clause::read(word.bytes())?, value),
+            [word, value] => self.set(Clause::read(string(word)?)?, value),
             _ => Err(Trouble::Unreadable("a clause says nothing")),
         }
     }

@@ -2,7 +2,8 @@
 use crate::parts::tree;
 use crate::showing::tree_text;
 use ext_case::{
-    Trouble, append_line, append_number, line_of, one, one_and_more, path, path_line, three, two,
+    Trouble, append_line, append_number, line_of, one, one_and_more, path, path_line, string,
+    three, two,
 };
 use ext_host::{Body, Held, HereShelf, HereText, Shelf, ShelfErr, from_depot};
 use ext_text::{Path, Text};
@@ -15,11 +16,11 @@ use std::alloc::Global;
 /// `Unreadable` where the arguments are other ones, and `OutOfMemory`.
 pub(crate) fn held(alloc: Global, arguments: &[Text]) -> Result<Text, Trouble> {
     let (what, rest) = one_and_more(arguments)?;
-    match what.bytes() {
-        b"bytes" => bytes(alloc, rest),
-        b"place" => place(alloc, rest),
-        b"stamp" => stamp(alloc, one(rest)?),
-        b"tree" => depot_tree(alloc, rest),
+    match string(what)? {
+        "bytes" => bytes(alloc, rest),
+        "place" => place(alloc, rest),
+        "stamp" => stamp(alloc, one(rest)?),
+        "tree" => depot_tree(alloc, rest),
         _ => Err(Trouble::Unreadable("no such word after held")),
     }
 }

@@ -2,7 +2,7 @@
 use crate::draft::host_of;
 use crate::parts::extension;
 use crate::showing::{append_hierarchies, append_manifests, append_names, append_pasts, tree_text};
-use ext_case::{Trouble, line_of, number_line, one, one_and_more, path, small};
+use ext_case::{Trouble, line_of, number_line, one, one_and_more, path, small, string};
 use ext_host::{Held, Host, default_hierarchies};
 use ext_index::{index_size, write_index};
 use ext_text::{Extension, Text};
@@ -15,14 +15,14 @@ use std::alloc::Global;
 /// `Unreadable` where the arguments are other ones, and `OutOfMemory`.
 pub(crate) fn host(alloc: Global, arguments: &[Text]) -> Result<Text, Trouble> {
     let (what, rest) = one_and_more(arguments)?;
-    match what.bytes() {
-        b"base" => base(alloc, rest),
-        b"copy" => copy(alloc, rest),
-        b"hierarchies" => hierarchies(alloc, one(rest)?),
-        b"index" => index(alloc, rest),
-        b"index-size" => size(alloc, rest),
-        b"locks" => locks(alloc, rest),
-        b"touch" => touch(alloc, rest),
+    match string(what)? {
+        "base" => base(alloc, rest),
+        "copy" => copy(alloc, rest),
+        "hierarchies" => hierarchies(alloc, one(rest)?),
+        "index" => index(alloc, rest),
+        "index-size" => size(alloc, rest),
+        "locks" => locks(alloc, rest),
+        "touch" => touch(alloc, rest),
         _ => Err(Trouble::Unreadable("no such word after host")),
     }
 }

@@ -1,5 +1,5 @@
 // Lines of an index, each read and printed again.
-use ext_case::{Trouble, line_of, number, number_line, one_and_more, two_and_more};
+use ext_case::{Trouble, line_of, number, number_line, one_and_more, string, two_and_more};
 use ext_index_lines::{
     Homed, Printed, host_of, item_of, kept_entry, manifest_of, name_after, number_after,
     path_after, put_entry, put_host, put_item, put_manifest, put_path, put_worded, version_of,
@@ -19,10 +19,10 @@ const GENERATION: u32 = 9;
 /// `Unreadable` where the arguments are other ones, and `OutOfMemory`.
 pub(crate) fn record(alloc: Global, arguments: &[Text]) -> Result<Text, Trouble> {
     let (what, words) = one_and_more(arguments)?;
-    match what.bytes() {
-        b"number" => number_of(alloc, words),
-        b"version" => version(alloc, &line(alloc, words)?),
-        bytes => line_again(alloc, bytes, &line(alloc, words)?),
+    match string(what)? {
+        "number" => number_of(alloc, words),
+        "version" => version(alloc, &line(alloc, words)?),
+        what => line_again(alloc, what, &line(alloc, words)?),
     }
 }
 
@@ -39,7 +39,7 @@ fn line(alloc: Global, words: &[Text]) -> Result<Vec<u8>, Trouble> {
 }
 
 // A line that is read and printed again, or `none`.
-fn line_again(alloc: Global, what: &[u8], line: &[u8]) -> Result<Text, Trouble> {
+fn line_again(alloc: Global, what: &str, line: &[u8]) -> Result<Text, Trouble> {
     match printed(alloc, what, line)? {
         Some(printed) => Ok(printed),
         None => line_of(alloc, "none"),
@@ -47,14 +47,14 @@ fn line_again(alloc: Global, what: &[u8], line: &[u8]) -> Result<Text, Trouble> 
 }
 
 // A line that is read and printed again.
-fn printed(alloc: Global, what: &[u8], line: &[u8]) -> Result<Option<Text>, Trouble> {
+fn printed(alloc: Global, what: &str, line: &[u8]) -> Result<Option<Text>, Trouble> {
     match what {
-        b"entry" => entry(alloc, line),
-        b"host" => host(alloc, line),
-        b"item" => item(alloc, line),
-        b"manifest" => manifest(alloc, line),
-        b"name" => name(alloc, line),
-        b"path" => path(alloc, line),
+        "entry" => entry(alloc, line),
+        "host" => host(alloc, line),
+        "item" => item(alloc, line),
+        "manifest" => manifest(alloc, line),
+        "name" => name(alloc, line),
+        "path" => path(alloc, line),
         _ => Err(Trouble::Unreadable("no such word after record")),
     }
 }

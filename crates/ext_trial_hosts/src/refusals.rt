@@ -2,7 +2,8 @@
 use crate::services::service_refusal;
 use crate::updates::{bad_feature, bad_transfer};
 use ext_case::{
-    Trouble, digest, five, name, none, number, number_line, one, one_and_more, path, small, two,
+    Trouble, digest, five, name, none, number, number_line, one, one_and_more, path, small, string,
+    two,
 };
 use ext_cmd::{Refusal, refusal_text};
 use ext_text::{Text, Which};
@@ -15,12 +16,13 @@ use std::alloc::Global;
 /// `Unreadable` where the arguments are no refusal, and `OutOfMemory`.
 pub(crate) fn refusal(alloc: Global, arguments: &[Text]) -> Result<Text, Trouble> {
     let (word, rest) = one_and_more(arguments)?;
-    let refusal = match plain_refusal(word.bytes()) {
+    let word = string(word)?;
+    let refusal = match plain_refusal(word) {
         Some(refusal) => {
             none(rest)?;
             refusal
         }
-        None => full_refusal(alloc, word.bytes(), rest)?,
+        None => full_refusal(alloc, word, rest)?,
     };
     let mut text = number_line(alloc, u64::from(ext_cmd::number(&refusal)))?;
     text.append(refusal_text(alloc, &refusal)?.bytes())?;
@@ -28,21 +30,21 @@ pub(crate) fn refusal(alloc: Global, arguments: &[Text]) -> Result<Text, Trouble
 }
 
 // A refusal that is a word alone.
-fn plain_refusal(word: &[u8]) -> Option<Refusal> {
+fn plain_refusal(word: &str) -> Option<Refusal> {
     match word {
-        b"no-store" => Some(Refusal::NoStore),
-        b"store-exists" => Some(Refusal::StoreExists),
-        b"merged" => Some(Refusal::Merged),
-        b"no-host-release" => Some(Refusal::NoHostRelease),
-        b"no-image" => Some(Refusal::NoSuchImage),
-        b"not-portable" => Some(Refusal::NotPortable),
-        b"no-units" => Some(Refusal::NoUnits),
-        b"no-profile" => Some(Refusal::NoProfile),
-        b"already-attached" => Some(Refusal::AlreadyAttached),
-        b"not-attached" => Some(Refusal::NotAttached),
-        b"no-transfers" => Some(Refusal::NoTransfers),
-        b"none-newer" => Some(Refusal::NoneNewer),
-        b"none-on" => Some(Refusal::NoneOn),
+        "no-store" => Some(Refusal::NoStore),
+        "store-exists" => Some(Refusal::StoreExists),
+        "merged" => Some(Refusal::Merged),
+        "no-host-release" => Some(Refusal::NoHostRelease),
+        "no-image" => Some(Refusal::NoSuchImage),
+        "not-portable" => Some(Refusal::NotPortable),
+        "no-units" => Some(Refusal::NoUnits),
+        "no-profile" => Some(Refusal::NoProfile),
+        "already-attached" => Some(Refusal::AlreadyAttached),
+        "not-attached" => Some(Refusal::NotAttached),
+        "no-transfers" => Some(Refusal::NoTransfers),
+        "none-newer" => Some(Refusal::NoneNewer),
+        "none-on" => Some(Refusal::NoneOn),
         _ => None,
     }
 }
@@ -50,24 +52,24 @@ fn plain_refusal(word: &[u8]) -> Option<Refusal> {
 // A refusal that tells more: `bad-host-release LINE`, `limit WHICH`, `bad-transfer LINE WHY FILE`, `bad-feature LINE WHY FILE`,
 // `bad-manifest LINE PATH`, `bad-tree LINE [PATH]`, `mismatch PATH SIZE DIGEST SIZE DIGEST`, `no-such-version TEXT`,
 // `no-room COUNT FILE`, `no-mark N`, one of portable services, or a word and a path.
-fn full_refusal(alloc: Global, word: &[u8], rest: &[Text]) -> Result<Refusal, Trouble> {
+fn full_refusal(alloc: Global, word: &str, rest: &[Text]) -> Result<Refusal, Trouble> {
     match word {
-        b"bad-host-release" => Ok(Refusal::BadHostRelease {
+        "bad-host-release" => Ok(Refusal::BadHostRelease {
             line: number(one(rest)?, u64::MAX)?,
         }),
-        b"limit" => Ok(Refusal::Limit {
-            which: which_of(one(rest)?.bytes())?,
+        "limit" => Ok(Refusal::Limit {
+            which: which_of(string(one(rest)?)?)?,
         }),
-        b"bad-transfer" => bad_transfer(alloc, rest),
-        b"bad-feature" => bad_feature(alloc, rest),
-        b"bad-manifest" => bad_manifest(alloc, rest),
-        b"bad-tree" => bad_tree(alloc, rest),
-        b"mismatch" => mismatch(alloc, rest),
-        b"no-such-version" => Ok(Refusal::NoSuchVersion {
+        "bad-transfer" => bad_transfer(alloc, rest),
+        "bad-feature" => bad_feature(alloc, rest),
+        "bad-manifest" => bad_manifest(alloc, rest),
+        "bad-tree" => bad_tree(alloc, rest),
+        "mismatch" => mismatch(alloc, rest),
+        "no-such-version" => Ok(Refusal::NoSuchVersion {
             version: one(rest)?.copy()?,
         }),
-        b"no-room" => no_room(alloc, rest),
-        b"no-mark" => Ok(Refusal::NoMark {
+        "no-room" => no_room(alloc, rest),
+        "no-mark" => Ok(Refusal::NoMark {
             generation: small(one(rest)?)?,
         }),
         _ => match service_refusal(alloc, word, rest)? {
@@ -77,15 +79,15 @@ fn full_refusal(alloc: Global, word: &[u8], rest: &[Text]) -> Result<Refusal, Tr
     }
 }
 
-fn which_of(word: &[u8]) -> Result<Which, Trouble> {
+fn which_of(word: &str) -> Result<Which, Trouble> {
     match word {
-        b"entries" => Ok(Which::Entries),
-        b"bytes" => Ok(Which::Bytes),
-        b"file" => Ok(Which::File),
-        b"path" => Ok(Which::Path),
-        b"text" => Ok(Which::Text),
-        b"index" => Ok(Which::Index),
-        b"generations" => Ok(Which::Generations),
+        "entries" => Ok(Which::Entries),
+        "bytes" => Ok(Which::Bytes),
+        "file" => Ok(Which::File),
+        "path" => Ok(Which::Path),
+        "text" => Ok(Which::Text),
+        "index" => Ok(Which::Index),
+        "generations" => Ok(Which::Generations),
         _ => Err(Trouble::Unreadable("no such limit")),
     }
 }
@@ -137,16 +139,16 @@ fn no_room(alloc: Global, arguments: &[Text]) -> Result<Refusal, Trouble> {
 }
 
 // A refusal that tells a path.
-fn refusal_at(alloc: Global, word: &[u8], at: &Text) -> Result<Refusal, Trouble> {
+fn refusal_at(alloc: Global, word: &str, at: &Text) -> Result<Refusal, Trouble> {
     let path = path(alloc, at)?;
     match word {
-        b"read-only" => Ok(Refusal::ReadOnly { path }),
-        b"no-entry" => Ok(Refusal::NoEntry { path }),
-        b"not-directory" => Ok(Refusal::NotDirectory { path }),
-        b"not-file" => Ok(Refusal::NotFile { path }),
-        b"not-in-depot" => Ok(Refusal::NotInDepot { path }),
-        b"clash" => Ok(Refusal::Clash { path }),
-        b"exists" => Ok(Refusal::UnitExists { path }),
+        "read-only" => Ok(Refusal::ReadOnly { path }),
+        "no-entry" => Ok(Refusal::NoEntry { path }),
+        "not-directory" => Ok(Refusal::NotDirectory { path }),
+        "not-file" => Ok(Refusal::NotFile { path }),
+        "not-in-depot" => Ok(Refusal::NotInDepot { path }),
+        "clash" => Ok(Refusal::Clash { path }),
+        "exists" => Ok(Refusal::UnitExists { path }),
         _ => Err(Trouble::Unreadable("no such refusal")),
     }
 }

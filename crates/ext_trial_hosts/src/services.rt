@@ -93,20 +93,20 @@ pub(crate) fn names_of(alloc: Global, arguments: &[Text]) -> Result<Names, Troub
 /// `Unreadable` where what follows is no such thing, and `OutOfMemory`.
 pub(crate) fn service_refusal(
     alloc: Global,
-    word: &[u8],
+    word: &str,
     rest: &[Text],
 ) -> Result<Option<Refusal>, Trouble> {
     match word {
-        b"bad-release" => Ok(Some(Refusal::BadRelease {
+        "bad-release" => Ok(Some(Refusal::BadRelease {
             line: number(one(rest)?, u64::MAX)?,
         })),
-        b"prefix" => Ok(Some(Refusal::PrefixForbidden {
+        "prefix" => Ok(Some(Refusal::PrefixForbidden {
             prefix: one(rest)?.copy()?,
         })),
-        b"no-extension" => Ok(Some(Refusal::NoExtension {
+        "no-extension" => Ok(Some(Refusal::NoExtension {
             extension: image(alloc, one(rest)?)?,
         })),
-        b"extension" => Ok(Some(unfit(alloc, rest)?)),
+        "extension" => Ok(Some(unfit(alloc, rest)?)),
         _ => Ok(None),
     }
 }

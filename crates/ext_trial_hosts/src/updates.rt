@@ -1,5 +1,5 @@
 // What is told of updates: versions, features, and files that are faulty.
-use ext_case::{Trouble, flag, name, number, three};
+use ext_case::{Trouble, flag, name, number, string, three};
 use ext_cmd::{FeatureItem, FeatureItems, Presence, Refusal, VersionItem, VersionItems};
 use ext_text::Text;
 use ext_transfer::{FeatureFault, TransferFault};
@@ -24,7 +24,7 @@ fn version_item(arguments: &[Text]) -> Result<VersionItem, Trouble> {
         [version, available, presence, protected, obsolete] => Ok(VersionItem {
             version: Version::new(version.copy()?),
             available: flag(available)?,
-            presence: presence_of(presence.bytes())?,
+            presence: presence_of(string(presence)?)?,
             protected: flag(protected)?,
             obsolete: flag(obsolete)?,
         }),
@@ -32,11 +32,11 @@ fn version_item(arguments: &[Text]) -> Result<VersionItem, Trouble> {
     }
 }
 
-fn presence_of(word: &[u8]) -> Result<Presence, Trouble> {
+fn presence_of(word: &str) -> Result<Presence, Trouble> {
     match word {
-        b"absent" => Ok(Presence::Absent),
-        b"partial" => Ok(Presence::Partial),
-        b"installed" => Ok(Presence::Installed),
+        "absent" => Ok(Presence::Absent),
+        "partial" => Ok(Presence::Partial),
+        "installed" => Ok(Presence::Installed),
         _ => Err(Trouble::Unreadable("no such presence")),
     }
 }
@@ -71,28 +71,28 @@ pub(crate) fn bad_transfer(alloc: Global, arguments: &[Text]) -> Result<Refusal,
     let (line, why, file) = three(arguments)?;
     Ok(Refusal::BadTransfer {
         line: number(line, u64::MAX)?,
-        why: transfer_fault_of(why.bytes())?,
+        why: transfer_fault_of(string(why)?)?,
         file: name(alloc, file)?,
     })
 }
 
-fn transfer_fault_of(word: &[u8]) -> Result<TransferFault, Trouble> {
+fn transfer_fault_of(word: &str) -> Result<TransferFault, Trouble> {
     match word {
-        b"syntax" => Ok(TransferFault::Syntax),
-        b"specifier" => Ok(TransferFault::Specifier),
-        b"verify" => Ok(TransferFault::Verify),
-        b"source-type" => Ok(TransferFault::SourceType),
-        b"source-path" => Ok(TransferFault::SourcePath),
-        b"source-pattern" => Ok(TransferFault::SourcePattern),
-        b"target-type" => Ok(TransferFault::TargetType),
-        b"target-path" => Ok(TransferFault::TargetPath),
-        b"target-pattern" => Ok(TransferFault::TargetPattern),
-        b"mode" => Ok(TransferFault::Mode),
-        b"instances" => Ok(TransferFault::Instances),
-        b"link" => Ok(TransferFault::Link),
-        b"relative" => Ok(TransferFault::Relative),
-        b"min-version" => Ok(TransferFault::MinVersion),
-        b"protect-version" => Ok(TransferFault::ProtectVersion),
+        "syntax" => Ok(TransferFault::Syntax),
+        "specifier" => Ok(TransferFault::Specifier),
+        "verify" => Ok(TransferFault::Verify),
+        "source-type" => Ok(TransferFault::SourceType),
+        "source-path" => Ok(TransferFault::SourcePath),
+        "source-pattern" => Ok(TransferFault::SourcePattern),
+        "target-type" => Ok(TransferFault::TargetType),
+        "target-path" => Ok(TransferFault::TargetPath),
+        "target-pattern" => Ok(TransferFault::TargetPattern),
+        "mode" => Ok(TransferFault::Mode),
+        "instances" => Ok(TransferFault::Instances),
+        "link" => Ok(TransferFault::Link),
+        "relative" => Ok(TransferFault::Relative),
+        "min-version" => Ok(TransferFault::MinVersion),
+        "protect-version" => Ok(TransferFault::ProtectVersion),
         _ => Err(Trouble::Unreadable("no such fault of a transfer file")),
     }
 }
@@ -105,15 +105,15 @@ pub(crate) fn bad_feature(alloc: Global, arguments: &[Text]) -> Result<Refusal, 
     let (line, why, file) = three(arguments)?;
     Ok(Refusal::BadFeature {
         line: number(line, u64::MAX)?,
-        why: feature_fault_of(why.bytes())?,
+        why: feature_fault_of(string(why)?)?,
         file: name(alloc, file)?,
     })
 }
 
-fn feature_fault_of(word: &[u8]) -> Result<FeatureFault, Trouble> {
+fn feature_fault_of(word: &str) -> Result<FeatureFault, Trouble> {
     match word {
-        b"syntax" => Ok(FeatureFault::Syntax),
-        b"enabled" => Ok(FeatureFault::Enabled),
+        "syntax" => Ok(FeatureFault::Syntax),
+        "enabled" => Ok(FeatureFault::Enabled),
         _ => Err(Trouble::Unreadable("no such fault of a feature file")),
     }
 }

@@ -11,7 +11,7 @@ mod pattern;
 mod transfers;
 mod updates;
 
-use ext_case::Trouble;
+use ext_case::{Trouble, string};
 use ext_text::Text;
 use std::alloc::Global;
 
@@ -22,35 +22,77 @@ use std::alloc::Global;
 /// `Unreadable` where the arguments are no arguments of the word, and `OutOfMemory`.
 pub fn answer(alloc: Global, word: &str, arguments: &[Text]) -> Result<Option<Text>, Trouble> {
     match arguments {
-        [asked, rest @ ..] => reply(alloc, word, asked.bytes(), rest),
+        [asked, rest @ ..] => match string(asked) {
+            Ok(asked) => reply(alloc, word, asked, rest),
+            Err(_) => Ok(None),
+        },
         [] => Ok(None),
     }
 }
 
 // Each word with what is asked.
-fn reply(alloc: Global, word: &str, asked: &[u8], rest: &[Text]) -> Result<Option<Text>, Trouble> {
-    let text = match (word, asked) {
-        ("ini", b"read") => ini::read(alloc, rest)?,
-        ("ini", b"last") => ini::last(alloc, rest)?,
-        ("ini", b"all") => ini::all(alloc, rest)?,
-        ("ini", b"count") => ini::count(alloc, rest)?,
-        ("ini", b"laws") => ini::laws(alloc, rest)?,
-        ("pattern", b"read") => pattern::read(alloc, rest)?,
-        ("pattern", b"match") => pattern::matched(alloc, rest)?,
-        ("pattern", b"fill") => pattern::filled(alloc, rest)?,
-        ("pattern", b"laws") => pattern::laws(alloc, rest)?,
-        ("sums", b"read") => manifests::read(alloc, rest)?,
-        ("sums", b"count") => manifests::count(alloc, rest)?,
-        ("sums", b"digest") => manifests::digest(alloc, rest)?,
-        ("sums", b"from") => manifests::from_name(alloc, rest)?,
-        ("sums", b"laws") => manifests::laws(alloc, rest)?,
-        ("transfer", b"read") => transfers::read(alloc, rest)?,
-        ("transfer", b"on") => transfers::on_host(alloc, rest)?,
-        ("transfer", b"laws") => transfers::laws(alloc, rest)?,
-        ("update", b"choose") => updates::chosen(alloc, rest)?,
-        ("update", b"vacuum") => updates::vacuumed(alloc, rest)?,
-        ("update", b"laws") => updates::laws(alloc, rest)?,
+fn reply(alloc: Global, word: &str, asked: &str, rest: &[Text]) -> Result<Option<Text>, Trouble> {
+    match word {
+        "ini" => of_ini(alloc, asked, rest),
+        "pattern" => of_patterns(alloc, asked, rest),
+        "sums" => of_manifests(alloc, asked, rest),
+        "transfer" => of_transfers(alloc, asked, rest),
+        "update" => of_updates(alloc, asked, rest),
+        _ => Ok(None),
+    }
+}
+
+fn of_ini(alloc: Global, asked: &str, rest: &[Text]) -> Result<Option<Text>, Trouble> {
+    let text = match asked {
+        "read" => ini::read(alloc, rest),
+        "last" => ini::last(alloc, rest),
+        "all" => ini::all(alloc, rest),
+        "count" => ini::count(alloc, rest),
+        "laws" => ini::laws(alloc, rest),
         _ => return Ok(None),
-    };
+    }?;
+    Ok(Some(text))
+}
+
+fn of_patterns(alloc: Global, asked: &str, rest: &[Text]) -> Result<Option<Text>, Trouble> {
+    let text = match asked {
+        "read" => pattern::read(alloc, rest),
+        "match" => pattern::matched(alloc, rest),
+        "fill" => pattern::filled(alloc, rest),
+        "laws" => pattern::laws(alloc, rest),
+        _ => return Ok(None),
+    }?;
+    Ok(Some(text))
+}
+
+fn of_manifests(alloc: Global, asked: &str, rest: &[Text]) -> Result<Option<Text>, Trouble> {
+    let text = match asked {
+        "read" => manifests::read(alloc, rest),
+        "count" => manifests::count(alloc, rest),
+        "digest" => manifests::digest(alloc, rest),
+        "from" => manifests::from_name(alloc, rest),
+        "laws" => manifests::laws(alloc, rest),
+        _ => return Ok(None),
+    }?;
+    Ok(Some(text))
+}
+
+fn of_transfers(alloc: Global, asked: &str, rest: &[Text]) -> Result<Option<Text>, Trouble> {
+    let text = match asked {
+        "read" => transfers::read(alloc, rest),
+        "on" => transfers::on_host(alloc, rest),
+        "laws" => transfers::laws(alloc, rest),
+        _ => return Ok(None),
+    }?;
+    Ok(Some(text))
+}
+
+fn of_updates(alloc: Global, asked: &str, rest: &[Text]) -> Result<Option<Text>, Trouble> {
+    let text = match asked {
+        "choose" => updates::chosen(alloc, rest),
+        "vacuum" => updates::vacuumed(alloc, rest),
+        "laws" => updates::laws(alloc, rest),
+        _ => return Ok(None),
+    }?;
     Ok(Some(text))
 }

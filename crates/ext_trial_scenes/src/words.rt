@@ -28,44 +28,89 @@ pub fn answer(
     arguments: &[Text],
 ) -> Result<Option<Text>, Trouble> {
     let text = match word {
-        "disk" => put_on_disk(alloc, scene, arguments)?,
-        "depot" => {
-            let (at, bytes) = two(arguments)?;
-            scene.put(path(alloc, at)?, bytes.copy()?)?;
-            Text::new(alloc)
-        }
-        "input" => {
-            scene.give_source(one(arguments)?.copy()?);
-            Text::new(alloc)
-        }
-        "pieces" => {
-            scene.cut_streams(sizes(alloc, arguments)?);
-            Text::new(alloc)
-        }
-        "after" => after_stop(alloc, scene, arguments)?,
-        "call" => scene.call(alloc, arguments)?,
-        "fail" => fail(alloc, scene, arguments)?,
-        "stop" => stop(alloc, scene, arguments)?,
-        "$" => command(alloc, scene, arguments)?,
-        "change" => change(alloc, scene, arguments)?,
-        "again" => again(alloc, scene, arguments)?,
-        "first" => first(alloc, scene, arguments)?,
-        "status" => status(alloc, scene, arguments)?,
-        "stands" => stands(alloc, scene, arguments)?,
-        "shows" => file_text(alloc, scene.disk(alloc)?, one(arguments)?, 65_536)?,
-        "read" => read(alloc, scene, arguments)?,
-        "appended" => counted(alloc, scene.disk(alloc)?.appended(), arguments)?,
-        "calls" => counted(alloc, scene.disk(alloc)?.calls(), arguments)?,
-        "starved" => counted(alloc, scene.disk(alloc)?.starved(), arguments)?,
-        "most" => counted(alloc, most_bytes(scene.disk(alloc)?), arguments)?,
-        "called" => called(alloc, scene.disk(alloc)?, arguments)?,
-        "whole" => whole(alloc, scene, arguments)?,
-        "appends" => sizes_text(alloc, scene.disk(alloc)?, DiskOp::Append, one(arguments)?)?,
-        "reads" => sizes_text(alloc, scene.disk(alloc)?, DiskOp::Read, one(arguments)?)?,
-        "laws" => return Ok(laws(alloc, arguments)),
-        _ => return answer_store(alloc, scene, word, arguments),
-    };
+        "disk" => put_on_disk(alloc, scene, arguments),
+        "depot" => put_in_depot(alloc, scene, arguments),
+        "input" => give_input(alloc, scene, arguments),
+        "pieces" => cut_streams(alloc, scene, arguments),
+        "after" => after_stop(alloc, scene, arguments),
+        "call" => scene.call(alloc, arguments),
+        "fail" => fail(alloc, scene, arguments),
+        "stop" => stop(alloc, scene, arguments),
+        _ => return carried_out(alloc, scene, word, arguments),
+    }?;
     Ok(Some(text))
+}
+
+// Commands and changes are carried out, and it is told how they end. A few words stand in each function, since a long list of them
+// is proved slowly.
+fn carried_out(
+    alloc: Global,
+    scene: &mut Scene,
+    word: &str,
+    arguments: &[Text],
+) -> Result<Option<Text>, Trouble> {
+    let text = match word {
+        "$" => command(alloc, scene, arguments),
+        "change" => change(alloc, scene, arguments),
+        "again" => again(alloc, scene, arguments),
+        "first" => first(alloc, scene, arguments),
+        "status" => status(alloc, scene, arguments),
+        "stands" => stands(alloc, scene, arguments),
+        "whole" => whole(alloc, scene, arguments),
+        "laws" => return Ok(laws(alloc, arguments)),
+        _ => return looked_at(alloc, scene, word, arguments),
+    }?;
+    Ok(Some(text))
+}
+
+// What looks at the disk and at what it was asked for.
+fn looked_at(
+    alloc: Global,
+    scene: &mut Scene,
+    word: &str,
+    arguments: &[Text],
+) -> Result<Option<Text>, Trouble> {
+    match word {
+        "appended" | "calls" | "starved" | "most" => {
+            Ok(Some(count_of(alloc, scene.disk(alloc)?, word, arguments)?))
+        }
+        "shows" | "read" | "called" | "appends" | "reads" => {
+            Ok(Some(told_of(alloc, scene.disk(alloc)?, word, arguments)?))
+        }
+        _ => answer_store(alloc, scene, word, arguments),
+    }
+}
+
+// The word's count, where it is another than stated.
+fn count_of(
+    alloc: Global,
+    disk: &MemoryDisk,
+    word: &str,
+    arguments: &[Text],
+) -> Result<Text, Trouble> {
+    let count = match word {
+        "appended" => disk.appended(),
+        "calls" => disk.calls(),
+        "starved" => disk.starved(),
+        _ => most_bytes(disk),
+    };
+    counted(alloc, count, arguments)
+}
+
+// What a file has, and what the disk was asked for.
+fn told_of(
+    alloc: Global,
+    disk: &mut MemoryDisk,
+    word: &str,
+    arguments: &[Text],
+) -> Result<Text, Trouble> {
+    match word {
+        "shows" => file_text(alloc, disk, one(arguments)?, 65_536),
+        "read" => read(alloc, disk, arguments),
+        "called" => called(alloc, disk, arguments),
+        "appends" => sizes_text(alloc, disk, DiskOp::Append, one(arguments)?),
+        _ => sizes_text(alloc, disk, DiskOp::Read, one(arguments)?),
+    }
 }
 
 // The calls below the commands.
@@ -75,27 +120,78 @@ fn answer_store(
     word: &str,
     arguments: &[Text],
 ) -> Result<Option<Text>, Trouble> {
-    Ok(Some(match word {
-        "may-change" => may_change_text(alloc, arguments)?,
-        "current" => current_text(alloc, arguments)?,
-        "paths" => paths_text(alloc, arguments)?,
-        "left-over" => left_over_text(alloc, arguments)?,
-        "clean" => clean(alloc, scene.disk(alloc)?, arguments)?,
-        "depot-size" => size_text(alloc, scene.depot(alloc)?, one(arguments)?)?,
-        "depot-read" => read_text(alloc, scene.depot(alloc)?, arguments)?,
-        "standing" => standing(alloc, scene, arguments)?,
-        "copy" => {
-            let devices = scene.devices(alloc)?;
-            copy(alloc, &mut devices.disk, &mut devices.depot, arguments)?
+    match word {
+        "may-change" | "current" | "paths" | "left-over" => {
+            Ok(Some(of_paths(alloc, word, arguments)?))
         }
-        "compare-kept" => {
-            let devices = scene.devices(alloc)?;
-            compare(alloc, &mut devices.disk, &mut devices.depot, arguments)?
+        "clean" | "standing" | "give" | "give-piece" => {
+            Ok(Some(of_store(alloc, scene.disk(alloc)?, word, arguments)?))
         }
-        "give" => give(alloc, scene.disk(alloc)?, arguments)?,
-        "give-piece" => give_piece(alloc, scene.disk(alloc)?, arguments)?,
-        _ => return Ok(None),
-    }))
+        "depot-size" | "depot-read" | "copy" | "compare-kept" => {
+            Ok(Some(of_both(alloc, scene, word, arguments)?))
+        }
+        _ => Ok(None),
+    }
+}
+
+// Calls that look at no device.
+fn of_paths(alloc: Global, word: &str, arguments: &[Text]) -> Result<Text, Trouble> {
+    match word {
+        "may-change" => may_change_text(alloc, arguments),
+        "current" => current_text(alloc, arguments),
+        "paths" => paths_text(alloc, arguments),
+        _ => left_over_text(alloc, arguments),
+    }
+}
+
+// Calls over the store alone.
+fn of_store(
+    alloc: Global,
+    disk: &mut MemoryDisk,
+    word: &str,
+    arguments: &[Text],
+) -> Result<Text, Trouble> {
+    match word {
+        "clean" => clean(alloc, disk, arguments),
+        "standing" => standing(alloc, disk, arguments),
+        "give" => give(alloc, disk, arguments),
+        _ => give_piece(alloc, disk, arguments),
+    }
+}
+
+// Calls that look at the depot.
+fn of_both(
+    alloc: Global,
+    scene: &mut Scene,
+    word: &str,
+    arguments: &[Text],
+) -> Result<Text, Trouble> {
+    let devices = scene.devices(alloc)?;
+    match word {
+        "depot-size" => size_text(alloc, &mut devices.depot, one(arguments)?),
+        "depot-read" => read_text(alloc, &mut devices.depot, arguments),
+        "copy" => copy(alloc, &mut devices.disk, &mut devices.depot, arguments),
+        _ => compare(alloc, &mut devices.disk, &mut devices.depot, arguments),
+    }
+}
+
+// `depot PATH BYTES`: a file of the depot.
+fn put_in_depot(alloc: Global, scene: &mut Scene, arguments: &[Text]) -> Result<Text, Trouble> {
+    let (at, bytes) = two(arguments)?;
+    scene.put(path(alloc, at)?, bytes.copy()?)?;
+    Ok(Text::new(alloc))
+}
+
+// `input BYTES`: what standard input has.
+fn give_input(alloc: Global, scene: &mut Scene, arguments: &[Text]) -> Result<Text, Trouble> {
+    scene.give_source(one(arguments)?.copy()?);
+    Ok(Text::new(alloc))
+}
+
+// `pieces SIZE..`: how many bytes the calls of streams move.
+fn cut_streams(alloc: Global, scene: &mut Scene, arguments: &[Text]) -> Result<Text, Trouble> {
+    scene.cut_streams(sizes(alloc, arguments)?);
+    Ok(Text::new(alloc))
 }
 
 // `$ WORD..`: carries a command out.
@@ -175,9 +271,9 @@ fn stands(alloc: Global, scene: &mut Scene, arguments: &[Text]) -> Result<Text, 
 }
 
 // `read PATH MOST`: the first bytes of a file.
-fn read(alloc: Global, scene: &mut Scene, arguments: &[Text]) -> Result<Text, Trouble> {
+fn read(alloc: Global, disk: &mut MemoryDisk, arguments: &[Text]) -> Result<Text, Trouble> {
     let (at, most) = two(arguments)?;
-    file_text(alloc, scene.disk(alloc)?, at, size(most)?)
+    file_text(alloc, disk, at, size(most)?)
 }
 
 // Writes a count where it is another than stated.
@@ -213,7 +309,7 @@ fn laws(alloc: Global, arguments: &[Text]) -> Option<Text> {
 }
 
 // `standing`: what stands in the store.
-fn standing(alloc: Global, scene: &mut Scene, arguments: &[Text]) -> Result<Text, Trouble> {
+fn standing(alloc: Global, disk: &mut MemoryDisk, arguments: &[Text]) -> Result<Text, Trouble> {
     none(arguments)?;
-    standing_text(alloc, scene.disk(alloc)?)
+    standing_text(alloc, disk)
 }

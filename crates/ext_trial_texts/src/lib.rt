@@ -26,7 +26,7 @@ mod versions;
 mod walks;
 mod words;
 
-use ext_case::Trouble;
+use ext_case::{Trouble, string};
 use ext_text::Text;
 use std::alloc::Global;
 
@@ -37,7 +37,10 @@ use std::alloc::Global;
 /// `Unreadable` where the arguments are no arguments of the word, and `OutOfMemory`.
 pub fn answer(alloc: Global, word: &str, arguments: &[Text]) -> Result<Option<Text>, Trouble> {
     match arguments {
-        [asked, rest @ ..] => words::reply(alloc, word, asked.bytes(), rest),
+        [asked, rest @ ..] => match string(asked) {
+            Ok(asked) => words::reply(alloc, word, asked, rest),
+            Err(_) => Ok(None),
+        },
         [] => Ok(None),
     }
 }

@@ -70,15 +70,15 @@ pub(crate) fn strip(alloc: Global, rest: &[Text]) -> Result<Text, Trouble> {
 // without those that they begin with and those at their end.
 pub(crate) fn without_blanks(
     alloc: Global,
-    asked: &[u8],
+    asked: &str,
     rest: &[Text],
 ) -> Result<Option<Text>, Trouble> {
     let text = one(rest)?;
     match asked {
-        b"trim" => Ok(Some(bytes_line(alloc, trimmed_str(string(text)?).as_bytes())?)),
-        b"bytes" => Ok(Some(bytes_line(alloc, trimmed(text.bytes()))?)),
-        b"first" => Ok(Some(bytes_line(alloc, after_blanks(text.bytes()))?)),
-        b"last" => Ok(Some(bytes_line(alloc, before_blanks(text.bytes()))?)),
+        "trim" => Ok(Some(bytes_line(alloc, trimmed_str(string(text)?).as_bytes())?)),
+        "bytes" => Ok(Some(bytes_line(alloc, trimmed(text.bytes()))?)),
+        "first" => Ok(Some(bytes_line(alloc, after_blanks(text.bytes()))?)),
+        "last" => Ok(Some(bytes_line(alloc, before_blanks(text.bytes()))?)),
         _ => Ok(None),
     }
 }
@@ -98,14 +98,14 @@ pub(crate) fn has(alloc: Global, rest: &[Text]) -> Result<Text, Trouble> {
 // in which tabs may stand.
 pub(crate) fn is_plain_as(
     alloc: Global,
-    asked: &[u8],
+    asked: &str,
     rest: &[Text],
 ) -> Result<Option<Text>, Trouble> {
     let bytes = one(rest)?.bytes();
     match asked {
-        b"bytes" => Ok(Some(yes_or_no(alloc, is_plain(bytes))?)),
-        b"text" => Ok(Some(yes_or_no(alloc, plain_text(bytes).is_some())?)),
-        b"tabs" => Ok(Some(yes_or_no(alloc, plain_text_with_tabs(bytes).is_some())?)),
+        "bytes" => Ok(Some(yes_or_no(alloc, is_plain(bytes))?)),
+        "text" => Ok(Some(yes_or_no(alloc, plain_text(bytes).is_some())?)),
+        "tabs" => Ok(Some(yes_or_no(alloc, plain_text_with_tabs(bytes).is_some())?)),
         _ => Ok(None),
     }
 }

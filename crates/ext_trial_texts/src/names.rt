@@ -101,12 +101,12 @@ fn hash_of<T: Hash>(value: &T) -> u64 {
 }
 
 // `hash name|path|bytes TEXT` and `hash path-and-bytes TEXT`: whether two values are hashed alike.
-pub(crate) fn hash(alloc: Global, asked: &[u8], rest: &[Text]) -> Result<Option<Text>, Trouble> {
+pub(crate) fn hash(alloc: Global, asked: &str, rest: &[Text]) -> Result<Option<Text>, Trouble> {
     match asked {
-        b"name" => Ok(Some(alike(alloc, name_hashes(alloc, one(rest)?)?)?)),
-        b"path" => Ok(Some(alike(alloc, path_hashes(alloc, one(rest)?)?)?)),
-        b"bytes" => Ok(Some(alike(alloc, text_hashes(one(rest)?)?)?)),
-        b"path-and-bytes" => Ok(Some(alike(alloc, mixed_hashes(alloc, one(rest)?)?)?)),
+        "name" => Ok(Some(alike(alloc, name_hashes(alloc, one(rest)?)?)?)),
+        "path" => Ok(Some(alike(alloc, path_hashes(alloc, one(rest)?)?)?)),
+        "bytes" => Ok(Some(alike(alloc, text_hashes(one(rest)?)?)?)),
+        "path-and-bytes" => Ok(Some(alike(alloc, mixed_hashes(alloc, one(rest)?)?)?)),
         _ => Ok(None),
     }
 }

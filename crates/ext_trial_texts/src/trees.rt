@@ -12,28 +12,36 @@ use std::alloc::Global;
 ///
 /// # Errors
 /// `Unreadable` where the arguments are no arguments of the word, and `OutOfMemory`.
-pub(crate) fn reply(alloc: Global, asked: &[u8], rest: &[Text]) -> Result<Option<Text>, Trouble> {
+pub(crate) fn reply(alloc: Global, asked: &str, rest: &[Text]) -> Result<Option<Text>, Trouble> {
     let text = match asked {
-        b"read" => read_one(alloc, rest)?,
-        b"new" => new(alloc, rest)?,
-        b"write" => write(alloc, rest)?,
-        b"entries" => entries(alloc, rest)?,
-        b"copies" => copies(alloc, rest)?,
-        b"count" => count(alloc, rest)?,
-        b"at" => at(alloc, rest)?,
-        b"has" => has(alloc, rest)?,
-        b"insert" => insert(alloc, rest)?,
-        b"graft" => graft(alloc, rest)?,
-        b"cut" => cut(alloc, rest)?,
-        b"cut-all" => cut_all(alloc, rest)?,
-        b"part" => part(alloc, rest)?,
-        b"below" => below(alloc, rest)?,
-        b"named" => named(alloc, rest)?,
-        b"after" => after_of(alloc, rest)?,
-        b"child" => child(alloc, rest)?,
-        b"directory" => is_directory(alloc, rest)?,
+        "read" => read_one(alloc, rest),
+        "new" => new(alloc, rest),
+        "write" => write(alloc, rest),
+        "entries" => entries(alloc, rest),
+        "copies" => copies(alloc, rest),
+        "count" => count(alloc, rest),
+        "at" => at(alloc, rest),
+        "has" => has(alloc, rest),
+        _ => return changed(alloc, asked, rest),
+    }?;
+    Ok(Some(text))
+}
+
+// The same of words that change trees and ask for parts of them.
+fn changed(alloc: Global, asked: &str, rest: &[Text]) -> Result<Option<Text>, Trouble> {
+    let text = match asked {
+        "insert" => insert(alloc, rest),
+        "graft" => graft(alloc, rest),
+        "cut" => cut(alloc, rest),
+        "cut-all" => cut_all(alloc, rest),
+        "part" => part(alloc, rest),
+        "below" => below(alloc, rest),
+        "named" => named(alloc, rest),
+        "after" => after_of(alloc, rest),
+        "child" => child(alloc, rest),
+        "directory" => is_directory(alloc, rest),
         _ => return Ok(None),
-    };
+    }?;
     Ok(Some(text))
 }
 
