@@ -2,7 +2,7 @@ use ext_text::{Name, Names};
 use ext_units::Image;
 
 /// What of an attachment is copied, and what is linked. After portablectl(1), option `--copy=`.
-#[derive(Clone, Copy, Debug, PartialEq, Eq)]
+#[derive(Clone, Copy, PartialEq, Eq)]
 pub enum CopyMode {
     /// Units and profiles are copied; an image is linked, which is this project's own choice.
     Copy,
@@ -15,7 +15,7 @@ pub enum CopyMode {
 }
 
 /// Which image is to be attached, and how.
-#[derive(Debug, Drop)]
+#[derive(Drop)]
 pub struct Ask {
     /// The image; a path is not the root.
     pub image: Image,

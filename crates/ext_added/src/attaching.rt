@@ -21,7 +21,7 @@ use std::alloc::Global;
 const ROOT_MODE: u16 = 0o755;
 
 /// What an attachment is made of.
-#[derive(Debug, Drop)]
+#[derive(Drop)]
 pub struct Attaching {
     /// Whether it lasts until the host stops.
     pub runtime: bool,
@@ -44,7 +44,7 @@ pub struct Attaching {
 }
 
 // The directory to which a place leads.
-#[derive(Debug, Drop)]
+#[derive(Drop)]
 pub struct ImageDirectory {
     // Its path.
     pub path: Path,

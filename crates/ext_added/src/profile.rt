@@ -10,7 +10,7 @@ use ext_walk::end_of_text;
 use std::alloc::Global;
 
 /// The file of a profile of portable services.
-#[derive(Debug, Drop)]
+#[derive(Drop)]
 pub struct Profile {
     /// Its path in the base, once links are followed.
     pub path: Path,

@@ -10,7 +10,7 @@ use ext_updated::append_copies;
 use std::alloc::Global;
 
 // What of the name of an attachment is compared.
-#[derive(Clone, Copy, Debug, PartialEq, Eq)]
+#[derive(Clone, Copy, PartialEq, Eq)]
 pub enum By {
     // All of it.
     Name,

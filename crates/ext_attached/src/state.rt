@@ -8,7 +8,7 @@ ghost use Rattle.ext_attached.specs.State.{state_of, state_with};
 use ext_host::{Attachment, Host};
 
 /// The state of an image of a portable service. After portablectl(1); the states of units that it also tells are left out.
-#[derive(Clone, Copy, Debug, PartialEq, Eq)]
+#[derive(Clone, Copy, PartialEq, Eq)]
 pub enum State {
     /// It is not attached.
     Detached,

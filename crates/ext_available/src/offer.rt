@@ -10,7 +10,7 @@ use std::alloc::Global;
 use std::marker::Model;
 
 /// A resource that a source offers, by a manifest.
-#[derive(Debug, Drop)]
+#[derive(Drop)]
 pub struct Offer {
     /// The version that the source's patterns read in the name.
     pub version: Version,
@@ -22,7 +22,7 @@ pub struct Offer {
 
 /// What a source offers: each version once, in the order of versions, equal ones by their bytes. Contracts see it as the list of
 /// the offers.
-#[derive(Debug, Drop)]
+#[derive(Drop)]
 pub struct Offers {
     items: Vec<Offer>,
 }

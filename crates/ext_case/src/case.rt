@@ -2,7 +2,7 @@ use crate::trouble::Trouble;
 use ext_text::{Text, Words};
 
 /// What a file of cases holds.
-#[derive(Debug, Drop)]
+#[derive(Drop)]
 pub struct Cases {
     /// The statements before the first case, which are carried out at the beginning of each. It has no name.
     pub before: Case,
@@ -11,7 +11,7 @@ pub struct Cases {
 }
 
 /// A case: what it shows, and statements that are carried out one after another.
-#[derive(Debug, Drop)]
+#[derive(Drop)]
 pub struct Case {
     /// The number of the line that begins it, counted from 1.
     pub line: u64,
@@ -22,7 +22,7 @@ pub struct Case {
 }
 
 /// A statement: words, and what they should write.
-#[derive(Debug, Drop)]
+#[derive(Drop)]
 pub struct Statement {
     /// The number of its line, counted from 1.
     pub line: u64,
@@ -35,7 +35,7 @@ pub struct Statement {
 }
 
 /// Why a file of cases can't be read.
-#[derive(Clone, Copy, Debug)]
+#[derive(Clone, Copy)]
 pub struct Fault {
     /// The number of the line, counted from 1.
     pub line: u64,

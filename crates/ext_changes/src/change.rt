@@ -1,7 +1,7 @@
 use ext_text::Path;
 
 /// How what stands at a path differs.
-#[derive(Clone, Copy, Debug, PartialEq, Eq)]
+#[derive(Clone, Copy, PartialEq, Eq)]
 pub enum ChangeKind {
     /// Only the later tree has an entry.
     Added,
@@ -13,7 +13,7 @@ pub enum ChangeKind {
 
 /// A path at which two trees differ, and how. The path is borrowed: from the tree that has an entry there, or from whoever
 /// named it.
-#[derive(Clone, Copy, Debug)]
+#[derive(Clone, Copy)]
 pub struct Change<'a> {
     /// The path.
     pub path: &'a Path,

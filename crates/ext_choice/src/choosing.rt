@@ -8,7 +8,7 @@ use ext_vers::{Version, compare};
 use ext_versions::Versions;
 
 /// What an update does.
-#[derive(Clone, Copy, Debug, PartialEq, Eq)]
+#[derive(Clone, Copy, PartialEq, Eq)]
 pub enum Choice {
     /// It installs the available version at this place, counted from 0.
     Install(usize),

@@ -12,7 +12,7 @@ use ext_versions::Versions;
 use std::alloc::Global;
 
 /// What becomes of the instances of some transfers.
-#[derive(Debug, Drop)]
+#[derive(Drop)]
 pub struct Division {
     /// The paths of those that go, in path order and each once.
     pub removed: SortedPaths,

@@ -5,7 +5,7 @@ use ext_top::may_change;
 use std::fs::File;
 
 /// How a command works on its store folder.
-#[derive(Clone, Copy, Debug, PartialEq, Eq)]
+#[derive(Clone, Copy, PartialEq, Eq)]
 pub(crate) enum Access {
     /// It doesn't look at it.
     None,

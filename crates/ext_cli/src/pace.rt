@@ -9,7 +9,7 @@ const PATIENCE: u128 = 500_000_000;
 const PAUSE: u128 = 200_000_000;
 
 /// When a line of progress is due.
-#[derive(Clone, Copy, Debug)]
+#[derive(Clone, Copy)]
 pub(crate) struct Pace {
     // When the command began to work.
     begun: Instant,

@@ -5,7 +5,7 @@ use ext_io::next_count;
 
 /// How many files and bytes a command has read and written so far, of all its devices. Each number stands still at
 /// 18,446,744,073,709,551,615.
-#[derive(Clone, Copy, Debug, Default, PartialEq, Eq)]
+#[derive(Clone, Copy, Default, PartialEq, Eq)]
 pub(crate) struct Tally {
     pub(crate) files_read: u64,
     pub(crate) bytes_read: u64,

@@ -12,7 +12,7 @@ use std::cmp::Ordering;
 
 /// What a command that is done replies. The bytes of a file, which `cat` replies, are no answer: they are written as they
 /// are read.
-#[derive(Debug, Drop)]
+#[derive(Drop)]
 pub enum Answer {
     /// `done`: to `init`, `import-fs`, `remove`, `migrate`, `rollback` and `forget`.
     Done,
@@ -84,7 +84,7 @@ pub enum Answer {
 }
 
 /// An image or a mask that `list` finds.
-#[derive(Debug, Drop)]
+#[derive(Drop)]
 pub struct Item {
     /// Its name.
     pub name: Name,
@@ -95,7 +95,7 @@ pub struct Item {
 }
 
 /// What a found item is.
-#[derive(Clone, Copy, Debug, PartialEq, Eq)]
+#[derive(Clone, Copy, PartialEq, Eq)]
 pub enum ItemKind {
     /// `image`: a directory image, and whether it fits the host.
     Image(Verdict),
@@ -116,7 +116,7 @@ pub enum ItemKind {
 pub type Items = ListOf<Item>;
 
 /// A version that `sysupdate list` tells: the version, and its flags in the order of the fields.
-#[derive(Debug, Drop)]
+#[derive(Drop)]
 pub struct VersionItem {
     /// The version.
     pub version: Version,
@@ -131,7 +131,7 @@ pub struct VersionItem {
 }
 
 /// Which of the targets of transfers have a version.
-#[derive(Clone, Copy, Debug, PartialEq, Eq)]
+#[derive(Clone, Copy, PartialEq, Eq)]
 pub enum Presence {
     /// None has it.
     Absent,
@@ -145,7 +145,7 @@ pub enum Presence {
 pub type VersionItems = ListOf<VersionItem>;
 
 /// A feature that `sysupdate features` tells.
-#[derive(Debug, Drop)]
+#[derive(Drop)]
 pub struct FeatureItem {
     /// Its name.
     pub name: Name,
@@ -157,7 +157,7 @@ pub struct FeatureItem {
 pub type FeatureItems = ListOf<FeatureItem>;
 
 /// An image of a portable service, or a mask, that `portable list` finds.
-#[derive(Debug, Drop)]
+#[derive(Drop)]
 pub struct ServiceItem {
     /// Its name.
     pub name: Name,
@@ -168,7 +168,7 @@ pub struct ServiceItem {
 }
 
 /// What a found item of portable services is.
-#[derive(Clone, Copy, Debug, PartialEq, Eq)]
+#[derive(Clone, Copy, PartialEq, Eq)]
 pub enum ServiceKind {
     /// `image`: a directory image, and whether it is attached.
     Image(State),

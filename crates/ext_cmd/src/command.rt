@@ -9,7 +9,7 @@ use ext_transfer::Component;
 use ext_vers::Version;
 
 /// A command, as it was given: what its words leave out is left out here too.
-#[derive(Debug, Drop)]
+#[derive(Drop)]
 pub enum Command {
     /// `init ARCH SCOPE [HIERS [HIERS]]`: a store for a host without entries.
     Init {
@@ -99,7 +99,7 @@ pub enum Command {
 }
 
 /// What is done with the extensions of a class; systemd-sysext(8). `changes` and `explain` are this project's own.
-#[derive(Debug, Drop)]
+#[derive(Drop)]
 pub enum ViewCommand {
     /// `list`: the images that are found, and whether they fit.
     List,
@@ -133,7 +133,7 @@ pub enum ViewCommand {
 
 /// The hierarchies that `init` is given: names of directories directly below the root, each list in the order of its
 /// words.
-#[derive(Debug, Drop)]
+#[derive(Drop)]
 pub enum Chosen {
     /// None is given: system extensions have `/usr` and `/opt`, configuration extensions `/etc`.
     Default,
@@ -149,7 +149,7 @@ pub enum Chosen {
 }
 
 /// What is asked of updates; systemd-sysupdate(8).
-#[derive(Debug, Drop)]
+#[derive(Drop)]
 pub enum UpdateVerb {
     /// `list`: the versions that are installed or available.
     List,

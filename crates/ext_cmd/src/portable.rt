@@ -4,7 +4,7 @@ use ext_text::{ListOf, Name, Names};
 use ext_units::Image;
 
 /// What is done with portable services; portablectl(1).
-#[derive(Debug, Drop)]
+#[derive(Drop)]
 pub enum PortCommand {
     /// `list`: the images that are found, and which of them are attached.
     List,
@@ -32,7 +32,7 @@ pub enum PortCommand {
 }
 
 /// The words after `attach` and `reattach`, as they were given: options stand at any place, a prefix after the image.
-#[derive(Debug, Drop)]
+#[derive(Drop)]
 pub struct AttachWords {
     /// The options before the image.
     pub before: AttachOptions,
@@ -43,7 +43,7 @@ pub struct AttachWords {
 }
 
 /// An option of `attach` and `reattach`.
-#[derive(Debug, Drop)]
+#[derive(Drop)]
 pub enum AttachOption {
     /// `--runtime`: it lasts until the host stops.
     Runtime,
@@ -56,7 +56,7 @@ pub enum AttachOption {
 }
 
 /// A word after the image.
-#[derive(Debug, Drop)]
+#[derive(Drop)]
 pub enum AttachWord {
     /// A prefix of units.
     Prefix(Name),

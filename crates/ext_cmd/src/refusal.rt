@@ -14,7 +14,7 @@ use ext_units::Image;
 use std::alloc::Global;
 
 /// Why a command was refused.
-#[derive(Debug, Drop)]
+#[derive(Drop)]
 pub enum Refusal {
     /// There is no store (number 1).
     NoStore,

@@ -6,7 +6,7 @@ use std::marker::Model;
 
 /// A tree in the depot: its text is the file `RES.tree`, the bytes of its files are the files below `RES`. Contracts see
 /// it as the path `RES`, which isn't the root.
-#[derive(Debug, Drop)]
+#[derive(Drop)]
 pub struct Resource {
     path: Path,
     text: Path,

@@ -8,7 +8,7 @@ use std::marker::Model;
 
 // Words that are left: of those that were given, and of those that stand in a text between blanks. They are read one by one, and
 // none is copied: a line may have millions of them. Contracts see them as the list of the words.
-#[derive(Debug, Drop)]
+#[derive(Drop)]
 pub(crate) struct WordsLeft<'a> {
     given: &'a [Text],
     text: &'a [u8],

@@ -2,7 +2,7 @@ ghost use Rattle.std.specs.Prelude.{◌≡◌};
 ghost use Rattle.ext_configs.specs.Configs.{config_suffix};
 
 /// Which configuration files are looked for.
-#[derive(Clone, Copy, Debug, PartialEq, Eq)]
+#[derive(Clone, Copy, PartialEq, Eq)]
 pub enum ConfigKind {
     /// Transfer files, whose names end in `.transfer`; sysupdate.d(5).
     Transfer,

@@ -13,7 +13,7 @@ use std::alloc::Global;
 const MOST_TEXT: usize = 67_108_864;
 
 /// What the depot has at a path where a text is looked for.
-#[derive(Debug, Drop)]
+#[derive(Drop)]
 pub enum DepotText {
     /// No file.
     Absent,

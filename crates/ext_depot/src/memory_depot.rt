@@ -11,7 +11,7 @@ use std::collections::BTreeMap;
 use std::marker::Model;
 
 /// A depot in memory, for tests: it tells everything, and fails where it is told to. A file is found by a search.
-#[derive(Debug, Drop)]
+#[derive(Drop)]
 pub struct MemoryDepot {
     files: BTreeMap<Path, Text>,
     fails: Calls,

@@ -7,7 +7,7 @@ use ext_text::{OutOfMemory, Path};
 use std::alloc::Global;
 
 /// One of the calls that change something, with its paths and bytes.
-#[derive(Debug, Drop)]
+#[derive(Drop)]
 pub(crate) enum Deed {
     MakeDir(Path),
     MakeFile(Path),

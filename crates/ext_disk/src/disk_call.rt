@@ -1,7 +1,7 @@
 use ext_text::Path;
 
 /// Which of its calls a disk was asked for.
-#[derive(Clone, Copy, Debug, PartialEq, Eq)]
+#[derive(Clone, Copy, PartialEq, Eq)]
 pub enum DiskOp {
     /// The names in a folder.
     List,
@@ -26,7 +26,7 @@ pub enum DiskOp {
 }
 
 /// A call that a disk in memory was asked for.
-#[derive(Debug, Drop)]
+#[derive(Drop)]
 pub struct DiskCall {
     /// Which call it was.
     pub op: DiskOp,

@@ -11,7 +11,7 @@ use std::alloc::Global;
 use std::mem;
 
 /// What stands at a path.
-#[derive(Debug, Drop)]
+#[derive(Drop)]
 pub(crate) enum Content {
     Absent,
     Folder,
@@ -20,7 +20,7 @@ pub(crate) enum Content {
 
 /// What stands at a path, and its marks. Of a path with an unsynced rename the new file is the one that stands there, so
 /// that the old one alone is kept beside it.
-#[derive(Debug, Drop)]
+#[derive(Drop)]
 pub(crate) struct DiskEntry {
     pub(crate) content: Content,
     pub(crate) unsynced_name: bool,

@@ -19,7 +19,7 @@ use std::alloc::Global;
 /// What stands on a disk in memory, what it began with, and everything that was done to it since: a stop at an earlier
 /// moment leaves what it may leave of what stood then, so the past is kept. Bytes that were appended are held once, in
 /// pieces that the file and the past share.
-#[derive(Debug, Drop)]
+#[derive(Drop)]
 pub(crate) struct History {
     pub(crate) alloc: Global,
     pub(crate) disk_entries: DiskEntries,

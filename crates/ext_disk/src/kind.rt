@@ -1,5 +1,5 @@
 /// What stands at a path of a disk.
-#[derive(Clone, Copy, Debug, PartialEq, Eq)]
+#[derive(Clone, Copy, PartialEq, Eq)]
 pub enum Kind {
     /// A folder.
     Dir,

@@ -31,7 +31,7 @@ use std::alloc::Global;
 ///
 /// A call fails exactly where its number, counted from 1, is listed, where it is the stop's or greater, or where it found
 /// no memory, which is counted apart. A count stands still at 18,446,744,073,709,551,615.
-#[derive(Debug, Drop)]
+#[derive(Drop)]
 pub struct MemoryDisk {
     pub(crate) history: History,
     pub(crate) meter: Meter,

@@ -8,7 +8,7 @@ use ext_io::{Calls, Failed, is_listed, next_count};
 use ext_text::{OutOfMemory, Path};
 use std::alloc::Global;
 
-#[derive(Debug, Drop)]
+#[derive(Drop)]
 pub(crate) struct Meter {
     pub(crate) fails: Calls,
     pub(crate) stop: Option<u64>,

@@ -1,5 +1,5 @@
 /// What a stop takes of what is not synced.
-#[derive(Clone, Copy, Debug, PartialEq, Eq)]
+#[derive(Clone, Copy, PartialEq, Eq)]
 pub enum Pick {
     /// Paths with an unsynced name vanish, with what lies below them. Those with an unsynced rename have the old file.
     Old,

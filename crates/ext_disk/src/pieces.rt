@@ -10,7 +10,7 @@ use std::marker::Model;
 use std::rc::Rc;
 
 /// Bytes that are held once, however many hold them: in a file, and in the past of a disk.
-#[derive(Debug, Drop)]
+#[derive(Drop)]
 pub(crate) struct Piece {
     text: Rc<Text>,
 }
@@ -52,7 +52,7 @@ impl Piece {
 }
 
 /// A piece of a file, and how many bytes of the file stand before it.
-#[derive(Debug, Drop)]
+#[derive(Drop)]
 pub(crate) struct Part {
     pub(crate) start: usize,
     pub(crate) piece: Piece,
@@ -60,7 +60,7 @@ pub(crate) struct Part {
 
 /// The bytes of a file: one piece after another. An append adds one and touches no other, a copy shares them all, and a
 /// byte is found by a search for its piece.
-#[derive(Debug, Drop)]
+#[derive(Drop)]
 pub(crate) struct Pieces {
     parts: Vec<Part>,
     size: usize,

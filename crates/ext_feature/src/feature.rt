@@ -2,7 +2,7 @@ use ext_text::{ListOf, Name};
 use ext_transfer::Transfer;
 
 /// A feature, which a host has switched on or off: transfers may depend on it.
-#[derive(Debug, Drop)]
+#[derive(Drop)]
 pub struct Feature {
     /// Its name: that of its file without `.feature`.
     pub name: Name,

@@ -3,7 +3,7 @@ ghost use Rattle.std.specs.Prelude.{◌≡◌, ◌≤◌, ◌-◌, length, take}
 ghost use Rattle.ext_find.specs.Ending.{ending_len, ending_of, is_hidden, stem_of};
 
 // The ending of a name, which says what its entry is to lead to.
-#[derive(Clone, Copy, Debug, PartialEq, Eq)]
+#[derive(Clone, Copy, PartialEq, Eq)]
 pub enum Ending {
     // None of the others: an image in a directory.
     Plain,

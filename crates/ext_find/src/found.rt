@@ -2,7 +2,7 @@
 use ext_text::{ListOf, Name, Path};
 
 /// An image or a mask that a search finds.
-#[derive(Debug, Drop)]
+#[derive(Drop)]
 pub struct FoundItem {
     /// Its name: that of the entry without its ending.
     pub name: Name,
@@ -17,7 +17,7 @@ pub struct FoundItem {
 }
 
 /// What a found item is.
-#[derive(Clone, Copy, Debug, PartialEq, Eq)]
+#[derive(Clone, Copy, PartialEq, Eq)]
 pub enum FoundKind {
     /// A directory image that can be used.
     Image,

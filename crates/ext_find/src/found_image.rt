@@ -20,7 +20,7 @@ use ext_walk::{Next, directory_at};
 use std::alloc::Global;
 
 // A place in the base, what is there, and where the release file of an image that can be used is.
-#[derive(Debug, Drop)]
+#[derive(Drop)]
 pub struct FoundImage {
     pub(crate) place: Path,
     pub(crate) kind: FoundKind,

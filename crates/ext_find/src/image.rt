@@ -53,7 +53,7 @@ pub fn why_broken<'a, C>(
 }
 
 // What a look into an image says: that it can be used, and where in the base its release file is, or why it can't.
-#[derive(Debug, Drop)]
+#[derive(Drop)]
 pub enum ImageCheck {
     Usable(Option<Path>),
     Broken(BreakWhy),

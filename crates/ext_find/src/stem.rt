@@ -6,7 +6,7 @@ use std::cmp::Ordering;
 use std::marker::Model;
 
 // The name of an item. Names are ordered as versions are. Contracts see it as its bytes.
-#[derive(Debug, Drop)]
+#[derive(Drop)]
 pub struct Stem {
     name: Name,
 }

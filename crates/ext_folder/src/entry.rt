@@ -3,7 +3,7 @@ use ext_disk::Kind;
 use std::fs::Metadata;
 
 /// What stands at a location of the system.
-#[derive(Clone, Copy, Debug, PartialEq, Eq)]
+#[derive(Clone, Copy, PartialEq, Eq)]
 pub(crate) enum Entry {
     Nothing,
     Folder,

@@ -3,7 +3,7 @@ use std::fs::{File, Files, TryLockError};
 use std::{fs, io};
 
 /// Who else may work on a folder while its lock is held.
-#[derive(Clone, Copy, Debug, PartialEq, Eq)]
+#[derive(Clone, Copy, PartialEq, Eq)]
 pub enum Hold {
     /// Those that share the lock too.
     Shared,

@@ -1,5 +1,5 @@
 /// What is done with a link below a folder of the system.
-#[derive(Clone, Copy, Debug, PartialEq, Eq)]
+#[derive(Clone, Copy, PartialEq, Eq)]
 pub(crate) enum Links {
     /// It stands for what it leads to.
     Followed,

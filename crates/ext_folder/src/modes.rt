@@ -2,7 +2,7 @@ use std::fs::{DirBuilder, OpenOptions};
 use std::os::unix::fs::{DirBuilderExt, OpenOptionsExt};
 
 /// Who may do what with the files and folders that are made.
-#[derive(Clone, Copy, Debug, PartialEq, Eq)]
+#[derive(Clone, Copy, PartialEq, Eq)]
 pub(crate) enum Modes {
     /// What the process's umask leaves of 666 and 777.
     Usual,

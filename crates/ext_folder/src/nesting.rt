@@ -13,7 +13,7 @@ use std::{fs, io};
 const MOST_FOLDERS: u32 = 2048;
 
 /// How a folder of the system stands to another one.
-#[derive(Debug, Drop)]
+#[derive(Drop)]
 pub enum Nesting {
     /// It is that one, or stands below it.
     Within,

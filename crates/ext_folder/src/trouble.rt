@@ -3,7 +3,7 @@ use ext_text::OutOfMemory;
 use std::alloc::Global;
 
 /// What went wrong on a real folder, for a person to read: the call, where, and why.
-#[derive(Debug, Drop)]
+#[derive(Drop)]
 pub struct Trouble {
     call: &'static str,
     location: String,

@@ -1,7 +1,7 @@
 use ext_host::Damage;
 
 /// Why what is in the store folder is no store.
-#[derive(Clone, Copy, Debug, PartialEq, Eq)]
+#[derive(Clone, Copy, PartialEq, Eq)]
 pub enum BadStore {
     /// `current`, or the index that it names, is none.
     Broken {

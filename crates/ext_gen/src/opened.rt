@@ -5,7 +5,6 @@ use std::marker::Model;
 
 /// A generation of a store: its host, its number, and the number of the text that its index is. Each file of the host is kept,
 /// in this generation or in one before it, and there is an index of the host in it. Contracts see it as a record of the three.
-#[derive(Debug)]
 pub struct Opened {
     host: Host,
     generation: u32,

@@ -7,7 +7,6 @@ use std::marker::Model;
 
 /// A change that is ready in a store: all of the coming generation stands there, and `next` names it. Contracts see it as that
 /// generation. It holds what a switch needs, so that a switch takes no memory.
-#[derive(Debug)]
 pub struct Prepared {
     pub(crate) opened: Opened,
     pub(crate) folder: Path,

@@ -1,5 +1,5 @@
 /// A mark as it is listed.
-#[derive(Clone, Copy, Debug, PartialEq, Eq)]
+#[derive(Clone, Copy, PartialEq, Eq)]
 pub struct Mark {
     /// The number of the generation that it was.
     pub generation: u32,

@@ -20,7 +20,7 @@ use ext_host::Host;
 use std::alloc::Global;
 
 /// A host whose files have their homes.
-#[derive(Debug, Drop)]
+#[derive(Drop)]
 pub struct Placed {
     /// The host: each file of what is seen and of what lies under it is kept.
     pub host: Host,

@@ -17,21 +17,21 @@ use std::alloc::Global;
 use std::marker::Model;
 
 /// A stamp, in an order of stamps.
-#[derive(Clone, Copy, Debug, PartialEq, Eq, PartialOrd, Ord)]
+#[derive(Clone, Copy, PartialEq, Eq, PartialOrd, Ord)]
 pub(crate) struct StampKey {
     size: u64,
     digest: [u8; 32],
 }
 
 /// A home, in the order of generations and then of the numbers of files.
-#[derive(Clone, Copy, Debug, PartialEq, Eq, PartialOrd, Ord)]
+#[derive(Clone, Copy, PartialEq, Eq, PartialOrd, Ord)]
 pub(crate) struct HomeKey {
     generation: u32,
     file: u32,
 }
 
 /// A file that is kept: its stamp, and where it is.
-#[derive(Clone, Copy, Debug, PartialEq, Eq, PartialOrd, Ord)]
+#[derive(Clone, Copy, PartialEq, Eq, PartialOrd, Ord)]
 pub(crate) struct KeptFile {
     stamp: StampKey,
     home: HomeKey,
@@ -79,7 +79,7 @@ impl KeptFile {
 
 /// The files that a host keeps, of all its trees and of stamps that are looked for, each once, ordered for a search. Contracts
 /// see them as a list in that order.
-#[derive(Debug, Drop)]
+#[derive(Drop)]
 pub(crate) struct KeptFiles {
     pub(crate) files: Vec<KeptFile>,
 }

@@ -29,7 +29,7 @@ use std::alloc::Global;
 type Pair = (Path, Entry<Held>);
 
 /// What is seen and what lies under it, with homes.
-#[derive(Debug, Drop)]
+#[derive(Drop)]
 pub(crate) struct Both {
     /// What is seen.
     pub(crate) root: Tree<Held>,

@@ -13,7 +13,7 @@ pub(crate) const MARKS: usize = 65_536;
 
 /// Tells the stamps of brought files from most others, by a mark for the first two bytes of each of their digests, so that few
 /// kept files have to be put in order. Contracts see the marks.
-#[derive(Debug, Drop)]
+#[derive(Drop)]
 pub(crate) struct Sought {
     pub(crate) marks: Vec<bool>,
 }

@@ -1,7 +1,7 @@
 use ext_text::{Name, Path, Paths};
 
 /// An attached image of portable services, of portablectl(1).
-#[derive(Debug, Drop)]
+#[derive(Drop)]
 pub struct Attachment {
     /// The name by which it was asked for.
     pub name: Name,

@@ -6,7 +6,7 @@ use crate::home::Home;
 use ext_text::OutOfMemory;
 
 /// Where the bytes of a file are.
-#[derive(Debug, Drop)]
+#[derive(Drop)]
 pub enum Body {
     /// Here: these bytes.
     Here(HereText),

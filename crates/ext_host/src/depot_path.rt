@@ -6,7 +6,7 @@ use std::marker::Model;
 
 /// The path of a file in the depot, in an allocation of its own, so that other bodies take no room for one. Contracts see
 /// the path.
-#[derive(Debug, Drop)]
+#[derive(Drop)]
 pub struct DepotPath {
     path: Box<Path>,
 }

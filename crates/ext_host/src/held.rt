@@ -14,7 +14,7 @@ use std::marker::Model;
 
 /// What a host has of a file's bytes: their stamp, and where they are. Bytes that are here have the stamp. Contracts see it
 /// as a record of both.
-#[derive(Debug, Drop)]
+#[derive(Drop)]
 pub struct Held {
     stamp: Stamp,
     body: Body,

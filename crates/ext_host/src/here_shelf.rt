@@ -11,7 +11,7 @@ use ext_text::Text;
 use std::alloc::Global;
 
 /// A shelf of the files whose bodies are here. It never fails, and finds no file damaged.
-#[derive(Clone, Copy, Debug)]
+#[derive(Clone, Copy)]
 pub struct HereShelf;
 
 impl Shelf for HereShelf {

@@ -6,7 +6,7 @@ use std::marker::Model;
 
 /// The bytes of a file that are here, in an allocation of their own, so that other bodies take no room for them. Contracts
 /// see the bytes.
-#[derive(Debug, Drop)]
+#[derive(Drop)]
 pub struct HereText {
     text: Box<Text>,
 }

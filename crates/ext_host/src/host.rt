@@ -4,7 +4,7 @@ use ext_text::{Arch, Names, Scope};
 use ext_tree::Tree;
 
 /// What a store keeps of one machine.
-#[derive(Debug, Drop)]
+#[derive(Drop)]
 pub struct Host {
     /// The machine's architecture.
     pub arch: Arch,
@@ -31,7 +31,7 @@ pub struct Host {
 }
 
 /// What a command wants: the coming host.
-#[derive(Debug, Drop)]
+#[derive(Drop)]
 pub struct Plan {
     /// The host that is to be stored.
     pub next: Host,

@@ -2,7 +2,7 @@ use crate::Items;
 use ext_text::{Digest, Path};
 
 /// A file of a manifest.
-#[derive(Debug, Drop)]
+#[derive(Drop)]
 pub struct Item {
     /// The file's path, from the host's root.
     pub path: Path,
@@ -11,7 +11,7 @@ pub struct Item {
 }
 
 /// What an update left at a path: the files at and below it.
-#[derive(Debug, Drop)]
+#[derive(Drop)]
 pub struct Manifest {
     /// The path of the resource.
     pub path: Path,

@@ -4,7 +4,7 @@ use ext_text::Names;
 use ext_tree::Tree;
 
 /// A host of before, which is kept to go back to. It has the hierarchies of the host that keeps it.
-#[derive(Debug, Drop)]
+#[derive(Drop)]
 pub struct Past {
     /// The number of the generation that it was.
     pub generation: u32,

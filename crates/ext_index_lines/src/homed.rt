@@ -14,7 +14,7 @@ use ext_tree::{Entry, LineContent, Stamp, append_number, append_stamp, split_num
 const LAST_FILE: u32 = MOST_FILES - 1;
 
 /// What an index holds of a file.
-#[derive(Clone, Copy, Debug, PartialEq, Eq)]
+#[derive(Clone, Copy, PartialEq, Eq)]
 pub struct Homed {
     /// How many bytes it has, and their digest.
     pub stamp: Stamp,

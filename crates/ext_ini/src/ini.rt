@@ -13,7 +13,7 @@ pub type Settings = ListOf<Setting>;
 
 /// What a unit file says. Contracts see it as the list of its sections, as they stand in the file. Sections of one name
 /// count as one.
-#[derive(Debug, Drop)]
+#[derive(Drop)]
 pub struct Ini {
     alloc: Global,
     sections: ListOf<Section>,

@@ -8,7 +8,7 @@ use ext_text::{ListOf, OutOfMemory, Text};
 use std::alloc::Global;
 
 /// What a unit file sets a key to.
-#[derive(Debug, Drop)]
+#[derive(Drop)]
 pub struct Setting {
     /// The number of the line, counted from 1. A line that goes on has the number of its first line.
     pub line: u64,
@@ -17,7 +17,7 @@ pub struct Setting {
 }
 
 /// A key, and what it is set to.
-#[derive(Debug, Drop)]
+#[derive(Drop)]
 pub struct Assignment {
     /// The key, without blanks at both ends.
     pub key: Text,
@@ -26,7 +26,7 @@ pub struct Assignment {
 }
 
 /// A section as it stands in a unit file: its name, and the assignments up to the next section.
-#[derive(Debug, Drop)]
+#[derive(Drop)]
 pub struct Section {
     /// The name, as it stands between the brackets.
     pub name: Text,

@@ -4,7 +4,7 @@ use ext_vers::Version;
 use ext_versions::Versions;
 
 /// An entry in the target of a transfer that is a resource of a version.
-#[derive(Debug, Drop)]
+#[derive(Drop)]
 pub struct Instance {
     /// The place of the transfer in the list of the transfers, from 0 on.
     pub transfer: usize,
@@ -15,7 +15,7 @@ pub struct Instance {
 }
 
 /// The instances of some transfers.
-#[derive(Debug, Drop)]
+#[derive(Drop)]
 pub struct Instances {
     /// How many transfers there are.
     pub transfers: usize,

@@ -2,7 +2,7 @@ use ext_cmd::{Answer, Refusal};
 use ext_host::{Held, Host};
 
 /// What a command wants, once it has seen the store's host and what the depot has.
-#[derive(Debug, Drop)]
+#[derive(Drop)]
 pub enum Intent {
     /// This host in place of the one that the store has. The answer comes once it is there.
     Changes(Host, Answer),

@@ -24,7 +24,7 @@ use ext_update::Updates;
 use std::alloc::Global;
 
 /// What a look at the updates of a component gives.
-#[derive(Debug, Drop)]
+#[derive(Drop)]
 pub enum Looked {
     // What they are about.
     Found(Updates),

@@ -11,7 +11,7 @@ use std::alloc::Global;
 use std::marker::Model;
 
 /// A text that is written to, for tests: it takes few bytes a call, and fails where it is told to.
-#[derive(Debug, Drop)]
+#[derive(Drop)]
 pub struct MemorySink {
     written: Text,
     piece: usize,

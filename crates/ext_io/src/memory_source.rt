@@ -10,7 +10,7 @@ use ext_text::Text;
 use std::marker::Model;
 
 /// A text to read from, for tests: it gives few bytes a call, and fails where it is told to.
-#[derive(Debug, Drop)]
+#[derive(Drop)]
 pub struct MemorySource {
     text: Text,
     at: usize,

@@ -13,7 +13,7 @@ use std::marker::Model;
 /// A writer of std as a sink, flushed after each write. A call that is interrupted is tried again, at most 1,000 times in
 /// a row. A write that takes nothing fails, and so does one whose flush fails, by which time the writer may have taken
 /// bytes. The sink tells nothing of them, and counts the calls that failed.
-#[derive(Debug, Drop)]
+#[derive(Drop)]
 pub struct StdSink<W> {
     inner: W,
     faults: u64,

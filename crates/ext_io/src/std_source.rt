@@ -12,7 +12,7 @@ use std::marker::Model;
 
 /// A reader of std as a source. A call that is interrupted is tried again, at most 1,000 times in a row. The source tells
 /// nothing of its bytes, and counts the calls that failed.
-#[derive(Debug, Drop)]
+#[derive(Drop)]
 pub struct StdSource<R> {
     inner: R,
     faults: u64,

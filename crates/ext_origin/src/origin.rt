@@ -2,7 +2,7 @@ use ext_text::{Name, Path};
 use ext_tree::{Entry, Stamp};
 
 /// A layer of a view that has an entry at a path, or that hides what lower layers have there.
-#[derive(Debug, Drop)]
+#[derive(Drop)]
 pub struct Origin {
     /// The layer.
     pub layer: Layer,
@@ -11,7 +11,7 @@ pub struct Origin {
 }
 
 /// A layer: an image, or the base under all images.
-#[derive(Debug, Drop)]
+#[derive(Drop)]
 pub enum Layer {
     /// The image of this name.
     Image(Name),
@@ -20,7 +20,7 @@ pub enum Layer {
 }
 
 /// What a layer has at a path.
-#[derive(Debug, Drop)]
+#[derive(Drop)]
 pub enum Finding {
     /// This entry at the path itself.
     Has(Entry<Stamp>),

@@ -4,7 +4,7 @@ ghost use Rattle.ext_pattern.specs.Matching.{IsSpan, text_at};
 use ext_text::Digest;
 
 /// What a pattern caught of a name.
-#[derive(Clone, Copy, Debug)]
+#[derive(Clone, Copy)]
 pub struct Caught {
     /// Where the version begins in the name, and where it ends.
     pub version: (usize, usize),

@@ -8,7 +8,7 @@ use ext_text::Text;
 const MOST_BYTES: usize = 255;
 
 // A wildcard of a pattern, and the literal that follows it.
-#[derive(Debug, Drop)]
+#[derive(Drop)]
 pub(crate) struct Part {
     pub(crate) wildcard: Wildcard,
     pub(crate) literal: Text,

@@ -5,7 +5,7 @@ use std::marker::Model;
 
 /// Text with wildcards in it: `@v` once, and `@h` at most once. Contracts see it as its first literal and the parts that
 /// follow it.
-#[derive(Debug, Drop)]
+#[derive(Drop)]
 pub struct Pattern {
     pub(crate) alloc: Global,
     pub(crate) first: Text,

@@ -3,7 +3,7 @@ ghost use Rattle.ext_pattern.specs.Wildcard.{most_of, same_wildcard, wildcard_of
 
 // What a wildcard of a pattern stands for: a version, written `@v`, or a digest of SHA-256 in 64 lower-case hexadecimal
 // digits, written `@h`.
-#[derive(Clone, Copy, Debug)]
+#[derive(Clone, Copy)]
 pub(crate) enum Wildcard {
     Version,
     Digest,

@@ -5,7 +5,6 @@ pub mod NextLemmas
 pub mod FilesLemmas
 pub mod SoundLemmas
 pub mod StartLemmas
-pub mod ReadingLemmas
 pub mod PlanLemmas
 pub mod PutLemmas
 pub mod StageLemmas

@@ -1,6 +1,5 @@
 pub mod Errors
 pub mod Starting
-pub mod Reading
 pub mod Limits
 pub mod NextHost
 pub mod Given

@@ -17,7 +17,7 @@ use ext_units::{Body, units_of};
 use std::alloc::Global;
 
 /// An image attached.
-#[derive(Debug, Drop)]
+#[derive(Drop)]
 pub struct Attach {
     /// The host that has it.
     pub plan: Plan,

@@ -13,7 +13,7 @@ use ext_units::Image;
 use std::alloc::Global;
 
 // A host from which an image is attached.
-#[derive(Debug, Drop)]
+#[derive(Drop)]
 pub struct Start<'a> {
     // The host.
     pub host: &'a Host,

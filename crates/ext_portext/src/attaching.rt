@@ -31,7 +31,7 @@ use std::alloc::Global;
 /// # Errors
 /// The first of these:
 ///
-/// - `Port` with `NoSuchImage`, `NotPortable`, `BadRelease` or `Shelf`, as [`body`](ext_port::body) answers.
+/// - `Port` with `NoSuchImage`, `NotPortable`, `BadRelease` or `Shelf`, as [`body_of`](ext_units::body_of) answers.
 /// - `NoExtension` with the place of the first extension that is not there, and `Extension` with that of the first one that does not
 ///   fit, whichever comes first. `Port` with `Shelf` where the shelf does not give the release file of one.
 /// - `Limit` with `Entries`, where the tree of the units would have more than 262,144 entries.

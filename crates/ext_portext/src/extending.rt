@@ -8,7 +8,7 @@ use ext_units::Image;
 pub type Extensions = ListOf<Image>;
 
 // An extension that fits.
-#[derive(Debug, Drop)]
+#[derive(Drop)]
 pub struct Extending {
     // Where it is in the base.
     pub place: Path,

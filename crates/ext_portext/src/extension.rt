@@ -18,7 +18,7 @@ use ext_walk::directory_at;
 use std::alloc::Global;
 
 // The place of an extension, and why it cannot be used.
-#[derive(Debug, Drop)]
+#[derive(Drop)]
 pub struct Placed {
     // Where it is in the base.
     pub place: Path,

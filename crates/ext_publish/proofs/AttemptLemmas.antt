@@ -33,8 +33,8 @@ use Rattle.ext_published.specs.declared.payload.Payload.{Payload}
 use Rattle.ext_published.specs.declared.payload.Payload.TheVariants.{Directory, File}
 use Rattle.ext_published.specs.declared.refusal.PubRefusal.{PubRefusal}
 use Rattle.ext_published.specs.declared.refusal.PubRefusal.TheVariants.{NoStore, NoEntry, NotFile, LimitPath, OutKind, LimitText, OutManifest, Listed}
-use Rattle.ext_publook.specs.Out.{IsQuiet, first_missing, is_left_at}
-use Rattle.ext_publook.specs.Refusing.{IsAllowed, IsPayloadOf, IsRefused}
+use Rattle.ext_publish.specs.Out.{IsQuiet, first_missing, is_left_at}
+use Rattle.ext_publish.specs.Refusing.{IsAllowed, IsPayloadOf, IsRefused}
 use Rattle.ext_publish.specs.Attempting.{AttemptCause, Attempts, AttemptsOn, AttemptsOver, EndsAttempt, EndsDone, HasNoPayload, HostCause, IsBrokenStop, IsMadeOf, TellsHost, TellsOpened}
 use Rattle.ext_publish.specs.Carrying.{Carries, CarryCause, EndsCarrying, IsCarriedOut, IsPublishable, IsUnpublishable, Tells}
 use Rattle.ext_publish.specs.Filling.{IsPublishedFileOf, IsReadable}

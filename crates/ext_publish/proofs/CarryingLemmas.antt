@@ -28,8 +28,8 @@ use Rattle.ext_published.specs.Published.{IsListedThere, IsPublished, published_
 use Rattle.ext_published.specs.declared.payload.Payload.{Payload}
 use Rattle.ext_published.specs.declared.payload.Payload.TheVariants.{Directory, File}
 use Rattle.ext_published.proofs.ForCallers.{listing_adds, name_is_listed}
-use Rattle.ext_publook.specs.Out.{IsQuiet, file_bytes, files_standing, first_file, first_missing, is_at_or_below, is_left_at, is_missing_at, is_published_at, manifest_bytes, wrong_kind}
-use Rattle.ext_publook.specs.Refusing.{HasShortTexts, look_digest}
+use Rattle.ext_publish.specs.Out.{IsQuiet, file_bytes, files_standing, first_file, first_missing, is_at_or_below, is_left_at, is_missing_at, is_published_at, manifest_bytes, wrong_kind}
+use Rattle.ext_publish.specs.Refusing.{HasShortTexts, look_digest}
 use Rattle.ext_publish.specs.Carrying.{Carries, ChangesThere, EndsCarrying, EndsClear, IsCleared, IsPublishable, IsResourceWritten, LeavesWell, Tells}
 use Rattle.ext_publish.specs.Filling.{AreNamed, IsResourceFilled, IsFilledWith, IsFilling, IsOpenFor, IsPublishedFileOf, is_filled_at}
 use Rattle.ext_publish.specs.Folders.{IsCalmAt, MakesDownTold}

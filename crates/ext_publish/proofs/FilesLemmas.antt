@@ -23,7 +23,7 @@ use Rattle.ext_store_files.proofs.ForCallers.{prefix_append, rose_since}
 use Rattle.ext_gen.specs.declared.bad_store.BadStore.TheVariants as bad_stores
 use Rattle.ext_published.specs.Payload.{HasHeldFileAt}
 use Rattle.ext_published.specs.declared.payload.Payload.TheVariants as payloads
-use Rattle.ext_publook.specs.Out.{first_file}
+use Rattle.ext_publish.specs.Out.{first_file}
 use Rattle.ext_publish.specs.Copying.{HeldCause, WorksAt}
 use Rattle.ext_publish.specs.Filling.{WrittenEntryCause, FilesCause, IsAboveFile, IsFilledWith, IsFilling, IsOneMore, IsReadable, MayWriteOne, WritesEntry, held_of}
 use Rattle.ext_publish.specs.Folders.{MakesDown}

@@ -20,7 +20,7 @@ use Rattle.ext_published.specs.Places.{published_resource_path, tree_text_path}
 use Rattle.ext_published.specs.Published.{published_text}
 use Rattle.ext_published.specs.declared.payload.Payload.{Payload}
 use Rattle.ext_published.specs.declared.payload.Payload.TheVariants.{Directory, File}
-use Rattle.ext_publook.specs.Out.{is_left_at}
+use Rattle.ext_publish.specs.Out.{is_left_at}
 use Rattle.ext_publish.specs.Copying.{OnlyChangesAt, HeldCause, IsCopyOf, WorksAt}
 use Rattle.ext_publish.specs.Filling.{AreNamed, EndsFilled, FilesCause, HasFilesOf, IsFilledWith, IsFilling, IsOpenFor, is_filled_at}
 use Rattle.ext_publish.specs.Stopping.{OutCause}

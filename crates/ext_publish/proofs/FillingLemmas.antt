@@ -11,7 +11,7 @@ use Rattle.ext_disk.specs.Fixed.{IsUnchangedAt}
 use Rattle.ext_tree.proofs.ForCallers.{parent_append}
 use Rattle.ext_host.specs.Held.{HeldFile}
 use Rattle.ext_store_files.specs.Writing.{IsWritten, is_at}
-use Rattle.ext_publook.specs.Out.{first_file}
+use Rattle.ext_publish.specs.Out.{first_file}
 use Rattle.ext_store_files.specs.HeldFiles.{body_told}
 use Rattle.std.specs.Prelude.{Ok}
 use Rattle.ext_publish.proofs.TwoDisks.{if_map, told_second}
@@ -20,7 +20,7 @@ use Rattle.ext_publish.specs.Filling.{IsFilledWith, IsOneMore, MayWriteOne}
 use Rattle.ext_publish.specs.Folders.{IsCalmAt, IsMadeDown, MakesDown, MakesDownTold, MayMakeDown}
 use Rattle.ext_disk.specs.Fixed.{Spares}
 use Rattle.ext_store_files.proofs.ForCallers.{prefix_append, rest_of, told_map}
-use Rattle.ext_publook.specs.Out.{first_missing, is_at_or_below}
+use Rattle.ext_publish.specs.Out.{first_missing, is_at_or_below}
 use Rattle.std.specs.Prelude.{Result}
 use Rattle.ext_publish.specs.declared.stop.Stop.{Stop}
 use Rattle.ext_publish.proofs.PrefixLemmas.{drop_back}

@@ -15,7 +15,7 @@ use Rattle.ext_disk.specs.Since.{Follows, IsLater, Rests}
 use Rattle.ext_disk.specs.declared.kind.Kind.{Kind}
 use Rattle.ext_disk.proofs.ForCallers.{later_itself, later_then, unchanged_itself, unchanged_then, follows_itself, call_spares_out_of_reach, follows_then, rests_follow, rests_spares, spares_then}
 use Rattle.ext_store_files.specs.Writing.{SyncsIn, Works, WorksTold, nowhere}
-use Rattle.ext_publook.specs.Out.{first_file, first_missing, is_at_or_below}
+use Rattle.ext_publish.specs.Out.{first_file, first_missing, is_at_or_below}
 use Rattle.ext_publish.specs.Folders.{IsCalmAt, IsMadeDown, IsMadeIn, MakesFolder, MakesDown, MakesDownTold, MakesFolderTold, MayMake, MayMakeDown}
 use Rattle.ext_text.specs.Causes.{Rose}
 use Rattle.ext_store_files.proofs.ForCallers.{told_map, told_same, prefix_append, folder_synced, rose_since}

@@ -1,3 +1,4 @@
+pub mod LookingLemmas
 pub mod TwoDisks
 pub mod PrefixLemmas
 pub mod ReachLemmas

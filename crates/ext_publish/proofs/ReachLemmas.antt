@@ -11,7 +11,7 @@ use Rattle.ext_store_files.proofs.ForCallers.{prefix_append}
 use Rattle.ext_published.specs.Asked.{AskedOf, IsPublishAsk}
 use Rattle.ext_published.specs.Names.{coming_manifest_name, manifest_name, tree_text_name}
 use Rattle.ext_published.specs.Places.{coming_manifest_path, published_manifest_path, published_resource_path, tree_text_path}
-use Rattle.ext_publook.specs.Out.{first_file, first_missing, first_of_paths, folder_manifest, is_left_at, is_published_at, wrong_kind}
+use Rattle.ext_publish.specs.Out.{first_file, first_missing, first_of_paths, folder_manifest, is_left_at, is_published_at, wrong_kind}
 use Rattle.ext_publish.specs.Filling.{is_filled_at}
 use Rattle.ext_publish.proofs.PrefixLemmas.{longer_apart, names_apart, no_coming_text, no_manifest_text, two_manifests}
 

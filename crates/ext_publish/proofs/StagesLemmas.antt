@@ -25,11 +25,11 @@ use Rattle.ext_published.specs.Names.{tree_text_name}
 use Rattle.ext_published.specs.Places.{published_resource_path, tree_text_path}
 use Rattle.ext_published.specs.declared.payload.Payload.{Payload}
 use Rattle.ext_published.specs.declared.payload.Payload.TheVariants.{Directory, File}
-use Rattle.ext_publook.specs.Looking.{HoldsNow, LookCause, MayPublish}
-use Rattle.ext_publook.specs.Out.{first_file, is_left_at, left_names, manifest_bytes, wrong_kind}
-use Rattle.ext_publook.specs.Refusing.{look_digest}
-use Rattle.ext_publook.specs.declared.look_err.LookErr.{LookErr}
-use Rattle.ext_publook.specs.declared.look_err.LookErr.TheVariants as look_errors
+use Rattle.ext_publish.specs.Looking.{HoldsNow, LookCause, MayPublish}
+use Rattle.ext_publish.specs.Out.{first_file, is_left_at, left_names, manifest_bytes, wrong_kind}
+use Rattle.ext_publish.specs.Refusing.{look_digest}
+use Rattle.ext_publish.specs.declared.look_err.LookErr.{LookErr}
+use Rattle.ext_publish.specs.declared.look_err.LookErr.TheVariants as look_errors
 use Rattle.ext_publish.specs.Carrying.{Carries, CarryCause, LeftOverCause, EndsCarrying, EndsClear, EndsWritten, IsCleared, IsPublishable, IsResourceWritten, LookStops, Tells}
 use Rattle.ext_publish.specs.Filling.{FilesCause, IsResourceFilled, IsFilledWith, IsOpenFor, is_filled_at}
 use Rattle.ext_publish.specs.Folders.{MakesDown, MakesDownTold, MayMakeDown}
@@ -45,7 +45,7 @@ use Rattle.ext_publish.proofs.ReachLemmas.{filled_is_left, right_kinds}
 pub may_be : (out : DiskState) (asked : AskedOf) (payload : Payload) → MayPublish out asked payload → IfSome out.told (λ d. IsPublishable asked (now d.places) payload)
 may_be out asked payload may = at out.told may.told
   where
-    at : (x : Option Told) → IfSome x (λ d. (wrong_kind (now d.places) asked ≡ None) × Rattle.ext_publook.specs.Refusing.HasShortTexts asked payload (now d.places)
+    at : (x : Option Told) → IfSome x (λ d. (wrong_kind (now d.places) asked ≡ None) × Rattle.ext_publish.specs.Refusing.HasShortTexts asked payload (now d.places)
         × Rattle.ext_published.specs.Manifest.ListsNeither (manifest_bytes (now d.places) asked) asked.name) → IfSome x (λ d. IsPublishable asked (now d.places) payload)
     at None told = tt
     at (Some d) told = record { paths = may.paths; kinds = told.0; texts = told.1; manifest = told.2 }
@@ -341,15 +341,15 @@ look_ends U asked payload look_errors.LimitPath stop old new bytes_of d told is 
 look_ends U asked payload (look_errors.OutKind path) stop old new bytes_of d told is cause =
     subst (λ s. EndsCarrying {T = U} (Err s) asked payload bytes_of d d) (sym is) ((cause.0, subst (λ x. IfSome x (λ e. wrong_kind (now e.places) asked ≡ Some path)) told cause.1), refl)
 look_ends U asked payload look_errors.LimitText stop old new bytes_of d told is cause =
-    let here = subst (λ x. IfSome x (λ e. (wrong_kind (now e.places) asked ≡ None) × ¬ Rattle.ext_publook.specs.Refusing.HasShortTexts asked payload (now e.places))) told cause.1 in
+    let here = subst (λ x. IfSome x (λ e. (wrong_kind (now e.places) asked ≡ None) × ¬ Rattle.ext_publish.specs.Refusing.HasShortTexts asked payload (now e.places))) told cause.1 in
     subst (λ s. EndsCarrying {T = U} (Err s) asked payload bytes_of d d) (sym is) ((cause.0, here.0, here.1), refl)
 look_ends U asked payload (look_errors.OutManifest line) stop old new bytes_of d told is cause =
-    let here = subst (λ x. IfSome x (λ e. (wrong_kind (now e.places) asked ≡ None) × Rattle.ext_publook.specs.Refusing.HasShortTexts asked payload (now e.places)
+    let here = subst (λ x. IfSome x (λ e. (wrong_kind (now e.places) asked ≡ None) × Rattle.ext_publish.specs.Refusing.HasShortTexts asked payload (now e.places)
     × Rattle.ext_sums.specs.Manifest.IsFirstFault (manifest_bytes (now e.places) asked) line)) told cause.1 in
     subst (λ s. EndsCarrying {T = U} (Err s) asked payload bytes_of d d) (sym is) ((cause.0, here.0, here.1, here.2), refl)
 look_ends U asked payload look_errors.Listed stop old new bytes_of d told (inl is) cause = subst (λ s. EndsCarrying {T = U} (Err s) asked payload bytes_of d d) (sym is) tt
 look_ends U asked payload look_errors.Listed stop old new bytes_of d told (inr is) cause =
-    let here = subst (λ x. IfSome x (λ e. (wrong_kind (now e.places) asked ≡ None) × Rattle.ext_publook.specs.Refusing.HasShortTexts asked payload (now e.places)
+    let here = subst (λ x. IfSome x (λ e. (wrong_kind (now e.places) asked ≡ None) × Rattle.ext_publish.specs.Refusing.HasShortTexts asked payload (now e.places)
     × Rattle.ext_published.specs.Manifest.ListsOne (manifest_bytes (now e.places) asked) asked.name)) told cause.1 in
     subst (λ s. EndsCarrying {T = U} (Err s) asked payload bytes_of d d) (sym is) ((refl, cause.0, here.0, here.1, here.2), refl)
 

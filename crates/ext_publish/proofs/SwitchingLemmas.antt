@@ -19,7 +19,7 @@ use Rattle.ext_published.specs.Places.{coming_manifest_path, published_manifest_
 use Rattle.ext_published.specs.Published.{IsPublished, IsListedThere}
 use Rattle.ext_published.specs.declared.payload.Payload.{Payload}
 use Rattle.ext_published.specs.declared.payload.Payload.TheVariants.{Directory, File}
-use Rattle.ext_publook.specs.Out.{file_bytes, files_standing}
+use Rattle.ext_publish.specs.Out.{file_bytes, files_standing}
 use Rattle.ext_publish.specs.Switching.{EachResource, IsLeftBySwitch, IsReadyFor, IsResourceDurable, IsSwitchable, Switches, is_switched_at, with_manifest_text}
 use Rattle.ext_publish.specs.Copying.{WorksAt}
 use Rattle.ext_publish.specs.declared.stop.Stop.{Stop}

@@ -23,8 +23,8 @@ use Rattle.ext_published.specs.Payload.{HasNoneAt, HasOtherAt, payload_bytes, pa
 use Rattle.ext_published.specs.Published.{IsPublished}
 use Rattle.ext_published.specs.declared.payload.Payload.{Payload}
 use Rattle.ext_published.specs.declared.refusal.PubRefusal.TheVariants.{NoStore, NoEntry, NotFile, LimitPath, OutKind, LimitText, OutManifest, Listed}
-use Rattle.ext_publook.specs.Out.{IsQuiet, files_standing, is_left_at}
-use Rattle.ext_publook.specs.Refusing.{IsAllowed, IsRefused}
+use Rattle.ext_publish.specs.Out.{IsQuiet, files_standing, is_left_at}
+use Rattle.ext_publish.specs.Refusing.{IsAllowed, IsRefused}
 use Rattle.ext_publish.specs.Carrying.{AreDurable, ChangesThere}
 use Rattle.ext_publish.specs.Stops.{StopsWell}
 use Rattle.ext_publish.specs.Store.{KeepsStore, bytes_in, host_of_state}

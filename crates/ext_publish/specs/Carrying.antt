@@ -19,10 +19,10 @@ use Rattle.ext_published.specs.Published.{IsPublished}
 use Rattle.ext_published.specs.declared.payload.Payload.{Payload}
 use Rattle.ext_published.specs.declared.refusal.PubRefusal.{PubRefusal}
 use Rattle.ext_published.specs.declared.refusal.PubRefusal.TheVariants.{NoStore, NoEntry, NotFile, LimitPath, OutKind, LimitText, OutManifest, Listed}
-use Rattle.ext_publook.specs.Out.{IsQuiet, files_standing, first_missing, is_left_at, is_missing_at, is_published_at, manifest_bytes, wrong_kind}
-use Rattle.ext_publook.specs.Refusing.{HasDepotPaths, HasShortTexts}
-use Rattle.ext_publook.specs.declared.look_err.LookErr.{LookErr}
-use Rattle.ext_publook.specs.declared.look_err.LookErr.TheVariants as look_errors
+use Rattle.ext_publish.specs.Out.{IsQuiet, files_standing, first_missing, is_left_at, is_missing_at, is_published_at, manifest_bytes, wrong_kind}
+use Rattle.ext_publish.specs.Refusing.{HasDepotPaths, HasShortTexts}
+use Rattle.ext_publish.specs.declared.look_err.LookErr.{LookErr}
+use Rattle.ext_publish.specs.declared.look_err.LookErr.TheVariants as look_errors
 use Rattle.ext_publish.specs.Filling.{IsResourceFilled, IsPublishedFileOf}
 use Rattle.ext_publish.specs.Folders.{IsCalmAt}
 use Rattle.ext_publish.specs.Stops.{HasNewManifest, IsLeftElsewhere}

@@ -19,7 +19,7 @@ use Rattle.ext_published.specs.Places.{published_resource_path, tree_text_path}
 use Rattle.ext_published.specs.Published.{published_text}
 use Rattle.ext_published.specs.declared.payload.Payload.{Payload}
 use Rattle.ext_published.specs.declared.payload.Payload.TheVariants.{Directory, File}
-use Rattle.ext_publook.specs.Out.{first_file, is_left_at}
+use Rattle.ext_publish.specs.Out.{first_file, is_left_at}
 use Rattle.ext_publish.specs.Copying.{HeldCause}
 use Rattle.ext_publish.specs.Folders.{IsCalmAt}
 use Rattle.ext_publish.specs.declared.stop.Stop.{Stop}

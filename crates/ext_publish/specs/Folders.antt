@@ -6,7 +6,7 @@ use Rattle.ext_text.specs.Path.{is_prefix, path_cmp}
 use Rattle.ext_disk.specs.Disk.{Places, Told, DiskState, BothTold, folder, is_file, is_synced, now}
 use Rattle.ext_disk.specs.Fixed.{IsUnchangedAt}
 use Rattle.ext_disk.specs.Since.{Follows}
-use Rattle.ext_publook.specs.Out.{first_file, first_missing, is_at_or_below}
+use Rattle.ext_publish.specs.Out.{first_file, first_missing, is_at_or_below}
 use Rattle.ext_publish.specs.declared.stop.Stop.{Stop}
 
 -- neither the name of a path nor its bytes are unsynced

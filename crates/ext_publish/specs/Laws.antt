@@ -8,8 +8,8 @@ use Rattle.ext_store_files.specs.LeftOvers.{most_left_overs}
 use Rattle.ext_store_files.specs.Removal.{AtMost}
 use Rattle.ext_published.specs.Asked.{AskedOf, IsPublishAsk, asked_words}
 use Rattle.ext_published.specs.declared.refusal.PubRefusal.{PubRefusal}
-use Rattle.ext_publook.specs.Out.{IsQuiet, is_left_at}
-use Rattle.ext_publook.specs.Refusing.{IsRefused}
+use Rattle.ext_publish.specs.Out.{IsQuiet, is_left_at}
+use Rattle.ext_publish.specs.Refusing.{IsRefused}
 use Rattle.ext_publish.specs.Publishing.{PubDevices, Publishes}
 use Rattle.ext_publish.specs.Store.{host_of_state}
 use Rattle.ext_publish.specs.declared.status.PubStatus.{PubStatus}

@@ -1,3 +1,6 @@
+pub mod Out
+pub mod Refusing
+pub mod Looking
 pub mod Status
 pub mod Store
 pub mod Stops

@@ -20,8 +20,8 @@ use Rattle.ext_published.specs.declared.payload.Payload.{Payload}
 use Rattle.ext_published.specs.declared.refusal.PubRefusal.{PubRefusal}
 use Rattle.ext_published.specs.declared.words.AskErr.{AskErr}
 use Rattle.ext_published.specs.declared.words.AskErr.TheVariants as ask_errors
-use Rattle.ext_publook.specs.Out.{IsQuiet, is_left_at}
-use Rattle.ext_publook.specs.Refusing.{IsAllowed, IsRefused}
+use Rattle.ext_publish.specs.Out.{IsQuiet, is_left_at}
+use Rattle.ext_publish.specs.Refusing.{IsAllowed, IsRefused}
 use Rattle.ext_publish.specs.Attempting.{EndsDone, StandsSame}
 use Rattle.ext_publish.specs.Status.{PubCounts, PubCause}
 use Rattle.ext_publish.specs.Stops.{StopsWell}

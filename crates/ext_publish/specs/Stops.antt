@@ -13,8 +13,8 @@ use Rattle.ext_published.specs.Places.{published_manifest_path}
 use Rattle.ext_published.specs.Published.{IsPublished, published_text}
 use Rattle.ext_published.specs.declared.payload.Payload.{Payload}
 use Rattle.ext_published.specs.declared.payload.Payload.TheVariants.{Directory, File}
-use Rattle.ext_publook.specs.Out.{IsQuiet, files_standing, first_missing, is_published_at, manifest_bytes}
-use Rattle.ext_publook.specs.Refusing.{IsAllowed}
+use Rattle.ext_publish.specs.Out.{IsQuiet, files_standing, first_missing, is_published_at, manifest_bytes}
+use Rattle.ext_publish.specs.Refusing.{IsAllowed}
 use Rattle.ext_publish.specs.Store.{bytes_in, host_of_state}
 
 -- the digest that is listed: of a directory's tree text, or of a file's bytes

@@ -12,7 +12,7 @@ use Rattle.ext_published.specs.Places.{coming_manifest_path, published_manifest_
 use Rattle.ext_published.specs.Published.{IsPublished}
 use Rattle.ext_published.specs.declared.payload.Payload.{Payload}
 use Rattle.ext_published.specs.declared.payload.Payload.TheVariants.{Directory, File}
-use Rattle.ext_publook.specs.Out.{files_standing}
+use Rattle.ext_publish.specs.Out.{files_standing}
 use Rattle.ext_publish.specs.declared.stop.Stop.{Stop}
 
 -- the tree with this manifest

@@ -11,7 +11,7 @@ use ext_text::Path;
 use ext_tree::Entry;
 
 /// What was published: how many files, and how many bytes they have.
-#[derive(Clone, Copy, Debug, PartialEq, Eq)]
+#[derive(Clone, Copy, PartialEq, Eq)]
 pub(crate) struct Made {
     /// The number of the files.
     pub(crate) files: u64,

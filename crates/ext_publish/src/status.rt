@@ -5,7 +5,7 @@ use ext_gen::BadStore;
 use ext_published::PubRefusal;
 
 /// How a run ended.
-#[derive(Debug, Drop, PartialEq, Eq)]
+#[derive(Drop, PartialEq, Eq)]
 pub enum PubStatus {
     /// The resource is published and listed, and the line that says so was written.
     Done,

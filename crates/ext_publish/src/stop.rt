@@ -9,7 +9,7 @@ use ext_store_files::{CleanErr, StoreFault};
 use ext_text::OutOfMemory;
 
 /// Why a run stopped before it was done.
-#[derive(Debug, Drop)]
+#[derive(Drop)]
 pub(crate) enum Stop {
     /// Out of memory.
     OutOfMemory,

@@ -7,7 +7,7 @@ use std::marker::Model;
 
 /// What is asked of a run: the path on the host of what is published, the folder of the depot, and the name that it gets
 /// there. Contracts see it as a record of the three.
-#[derive(Debug, Drop)]
+#[derive(Drop)]
 pub struct Asked {
     path: Path,
     folder: Path,

@@ -11,7 +11,7 @@ use std::alloc::Global;
 use thiserror::Error;
 
 /// What is published: a directory with all below it, or a file.
-#[derive(Debug, Drop)]
+#[derive(Drop)]
 pub enum Payload {
     /// What stands below a directory, or below the root.
     Directory(Tree<Held>),

@@ -11,7 +11,7 @@ use ext_tree::{Entry, Tree};
 use thiserror::Error;
 
 /// The paths in a depot's folder that a resource of a name has.
-#[derive(Debug, Drop)]
+#[derive(Drop)]
 pub struct Places {
     /// The manifest, `SHA256SUMS`.
     pub manifest: Path,

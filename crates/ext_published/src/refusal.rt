@@ -7,7 +7,7 @@ use ext_text::{Name, OutOfMemory, Path, Text};
 use std::alloc::Global;
 
 /// Why a run was refused.
-#[derive(Debug, Drop, PartialEq, Eq)]
+#[derive(Drop, PartialEq, Eq)]
 pub enum PubRefusal {
     /// There is no store (number 1).
     NoStore,

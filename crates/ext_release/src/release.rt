@@ -16,7 +16,7 @@ use std::marker::Model;
 
 /// What a release file assigns. Contracts see it as the map from each key to its value, both as their bytes. A key
 /// whose last value is empty is not in it.
-#[derive(Debug, Drop)]
+#[derive(Drop)]
 pub struct Release {
     alloc: Global,
     values: BTreeMap<String, String>,

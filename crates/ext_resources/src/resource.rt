@@ -3,7 +3,7 @@ use ext_text::{Name, Path};
 use ext_tree::{Stamp, Tree};
 
 /// What a resource of a version is.
-#[derive(Debug, Drop)]
+#[derive(Drop)]
 pub enum Content {
     /// A file of so many bytes, as the depot told, and of the listed digest. Its bytes weren't read.
     File(Stamp),
@@ -13,7 +13,7 @@ pub enum Content {
 }
 
 /// A resource of a version, for one transfer.
-#[derive(Debug, Drop)]
+#[derive(Drop)]
 pub struct Resource {
     /// The place of the transfer in the list of the transfers, from 0 on.
     pub transfer: usize,

@@ -12,7 +12,7 @@ use ext_text::{OutOfMemory, Path, Text};
 use std::alloc::Global;
 
 /// What was found at a path where a file was looked for.
-#[derive(Debug, Drop)]
+#[derive(Drop)]
 pub enum Found {
     /// Nothing stands there.
     Absent,

@@ -9,7 +9,7 @@ use std::alloc::Global;
 
 /// A name and its digest, with the number of the line that lists them, counted from 1. The key is the name's own for a sort,
 /// and 0 before it.
-#[derive(Debug, Drop)]
+#[derive(Drop)]
 pub(crate) struct Numbered {
     pub(crate) key: u64,
     pub(crate) listed: Listed,
@@ -17,7 +17,7 @@ pub(crate) struct Numbered {
 }
 
 /// Names in order, each once, and the first line that lists one with another digest.
-#[derive(Debug, Drop)]
+#[derive(Drop)]
 pub(crate) struct Merge {
     pub(crate) listed: Vec<Listed>,
     pub(crate) conflict: Option<u64>,

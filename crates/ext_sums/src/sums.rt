@@ -8,7 +8,7 @@ use ext_text::{Digest, Text};
 use std::marker::Model;
 
 /// A name that a manifest lists, with its digest.
-#[derive(Debug, Drop)]
+#[derive(Drop)]
 pub struct Listed {
     /// The name: at least one byte, UTF-8 without control bytes. It need not be the name of a file.
     pub name: Text,
@@ -18,7 +18,7 @@ pub struct Listed {
 
 /// What a manifest lists: names with their digests, each name once. Contracts see it as the list of them in byte order of
 /// the names, both as their bytes.
-#[derive(Debug, Drop)]
+#[derive(Drop)]
 pub struct Sums {
     listed: Vec<Listed>,
 }

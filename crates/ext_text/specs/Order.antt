@@ -1,8 +1,6 @@
 -- The order of paths, and its laws.
 use Rattle.std.specs.Prelude.{nat_eq, Some, refl}
-use Rattle.std.proofs.Common.{subst, ap}
-use Rattle.std.proofs.lemmas.Bool.{eqb-true}
-use Rattle.std.specs.Hash as fed
+use Rattle.std.proofs.Common.{subst}
 use Rattle.std.specs.Cmp.{IsTotalOrder, IsPartialOrder, Agrees}
 use Rattle.std.specs.Cmp.Lexicographic.{pointwise, slice_partial_cmp, lists_po, lists_agrees, lists_total, texts_po}
 use Rattle.std.specs.FinMap.{IsAntisymmetric, slice_cmp-IsAntisymmetric}
@@ -21,7 +19,3 @@ paths_total = lists_total bytes_total
 -- and only equal paths tie
 pub paths_exact : IsAntisymmetric path_cmp
 paths_exact = slice_cmp-IsAntisymmetric bytes_exact
-
--- equal paths are hashed alike
-pub paths_alike : fed.Alike (pointwise (pointwise nat_eq)) (fed.slice (fed.slice fed.u8))
-paths_alike = fed.items_Alike (fed.items_Alike (record { fed = λ x y same. ap fed.u8 (eqb-true x y same) }))

@@ -2,7 +2,7 @@ ghost use Rattle.std.specs.Prelude.{◌≡◌};
 ghost use Rattle.ext_text.specs.Arch.{ReadsArch, arch_name};
 
 /// The architecture that a host or an image is made for, of those of systemd.unit(5), `ConditionArchitecture=`.
-#[derive(Clone, Copy, Debug, PartialEq, Eq)]
+#[derive(Clone, Copy, PartialEq, Eq)]
 pub enum Arch {
     /// `x86`: 32-bit x86.
     X86,

@@ -2,7 +2,7 @@ ghost use Rattle.std.specs.Prelude.{◌≡◌};
 ghost use Rattle.ext_text.specs.Class.{ReadsClass, class_name};
 
 /// What an image is for.
-#[derive(Clone, Copy, Debug, PartialEq, Eq)]
+#[derive(Clone, Copy, PartialEq, Eq)]
 pub enum Class {
     /// `sysext`: it extends `usr` and `opt`; systemd-sysext(8).
     Sysext,

@@ -4,7 +4,7 @@ ghost use Rattle.ext_text.specs.Extension.{class_of, extension_name};
 use crate::class::Class;
 
 /// The class of an image that extends a host.
-#[derive(Clone, Copy, Debug, PartialEq, Eq)]
+#[derive(Clone, Copy, PartialEq, Eq)]
 pub enum Extension {
     /// `sysext`: it extends `usr` and `opt`; systemd-sysext(8).
     Sysext,

@@ -1,14 +1,11 @@
-// Equality, order and hash of texts, names and paths: those of their bytes, and of their lists of names.
+// Equality and order of texts, names and paths: those of their bytes, and of their lists of names.
 ghost use Rattle.std.specs.Prelude.{◌≡◌, nat_eq, Some};
 ghost use Rattle.std.specs.Cmp.{partial_equiv_from_equiv};
 ghost use Rattle.std.specs.Cmp.Lexicographic.{pointwise, lists_equiv, lists_total, lists_ties, nat_list_eq_equiv, nat_list_cmp_total, texts_ties, texts_po};
-ghost use Rattle.std.specs.Cmp.Rules.{hashing};
-ghost use Rattle.std.specs.Hash as fed;
-ghost use Rattle.std.proofs.Common.{rules, refl};
+ghost use Rattle.std.proofs.Common.{refl};
 ghost use Rattle.ext_lines.specs.ByteOrder.{bytes_cmp};
 ghost use Rattle.ext_text.specs.Path.{path_cmp};
-ghost use Rattle.std.specs.List.{flat_map, fold};
-ghost use Rattle.ext_text.specs.Order.{paths_alike, paths_po};
+ghost use Rattle.ext_text.specs.Order.{paths_po};
 
 use crate::name::Name;
 use crate::path::Path;
@@ -16,7 +13,6 @@ use crate::path_ref::PathRef;
 use crate::text::Text;
 use crate::text_order::cmp_text;
 use std::cmp::Ordering;
-use std::hash::{Hash, Hasher};
 
 impl PartialEq for Text {
     ghost eq = { pointwise nat_eq };
@@ -53,16 +49,6 @@ impl Ord for Text {
 
     fn cmp(&self, other: &Text) -> Ordering {
         self.bytes().cmp(other.bytes())
-    }
-}
-
-impl Hash for Text {
-    ghost hash_input = { λ t. fed.slice fed.u8 t };
-
-    ghost respects_eq = { Prim.search (hashing, rules) };
-
-    fn hash<H: Hasher>(&self, state: &mut H) {
-        self.bytes().hash(state);
     }
 }
 
@@ -104,16 +90,6 @@ impl Ord for Name {
     }
 }
 
-impl Hash for Name {
-    ghost hash_input = { λ n. fed.slice fed.u8 n };
-
-    ghost respects_eq = { Prim.search (hashing, rules) };
-
-    fn hash<H: Hasher>(&self, state: &mut H) {
-        self.bytes().hash(state);
-    }
-}
-
 impl PartialEq for Path {
     ghost eq = { pointwise (pointwise nat_eq) };
 
@@ -149,31 +125,6 @@ impl Ord for Path {
 
     fn cmp(&self, other: &Path) -> Ordering {
         cmp_text(self.text(), other.text())
-    }
-}
-
-impl Hash for Path {
-    ghost hash_input = { λ p. fed.slice (fed.slice fed.u8) p };
-
-    ghost respects_eq = { paths_alike.fed };
-
-    fn hash<H: Hasher>(&self, state: &mut H) {
-        let names = self.names();
-        state.write_usize(names.depth());
-        hash_each(&names, state);
-    }
-}
-
-// Feeds each of the names.
-fn hash_each<H: Hasher>(names: &PathRef, state: &mut H)
-    ensures { state.new ≡ fold H.write state.old (flat_map (fed.slice fed.u8) names.now) }
-{
-    match names.split_first() {
-        None => {}
-        Some((first, below)) => {
-            first.hash(state);
-            hash_each(&below, state);
-        }
     }
 }
 

@@ -12,7 +12,7 @@ use std::marker::Model;
 
 /// Names from some directory on, borrowed as one text: those of a path, some of them, or any others that need not be
 /// within the limits of a path. Contracts see them as the list of the names, each as its bytes.
-#[derive(Debug, Drop)]
+#[derive(Drop)]
 pub struct PathRef<'a> {
     text: &'a [u8],
 }

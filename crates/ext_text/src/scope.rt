@@ -2,7 +2,7 @@ ghost use Rattle.std.specs.Prelude.{◌≡◌};
 ghost use Rattle.ext_text.specs.Scope.{ReadsScope, scope_name};
 
 /// Where a system extension is used, of os-release(5), `SYSEXT_SCOPE=`.
-#[derive(Clone, Copy, Debug, PartialEq, Eq)]
+#[derive(Clone, Copy, PartialEq, Eq)]
 pub enum Scope {
     /// `system`: on a running host.
     System,

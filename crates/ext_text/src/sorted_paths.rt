@@ -11,7 +11,7 @@ use crate::path_ref::PathRef;
 use std::marker::Model;
 
 /// Paths in path order, each once. Contracts see them as the list of the paths.
-#[derive(Debug, Drop)]
+#[derive(Drop)]
 pub struct SortedPaths {
     paths: Vec<Path>,
 }

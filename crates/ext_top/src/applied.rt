@@ -4,7 +4,7 @@ use ext_host::Held;
 use ext_text::Text;
 
 /// What a command that was carried out, or refused, leaves.
-#[derive(Debug, Drop)]
+#[derive(Drop)]
 pub struct Applied {
     /// The generation that the store has; none where there is no store.
     pub opened: Option<Opened>,
@@ -13,7 +13,7 @@ pub struct Applied {
 }
 
 /// The reply of a command.
-#[derive(Debug, Drop)]
+#[derive(Drop)]
 pub enum Reply {
     /// This text.
     Text(Text),

@@ -1,5 +1,5 @@
 /// The devices of a run.
-#[derive(Debug, Drop)]
+#[derive(Drop)]
 pub struct Devices<S, K, D, P> {
     /// What `layer` and `batch` read.
     pub source: S,

@@ -27,7 +27,7 @@ use ext_lines::next_text_line;
 use std::alloc::Global;
 
 /// What a line that was done or refused leaves.
-#[derive(Debug, Drop)]
+#[derive(Drop)]
 pub(crate) struct Written {
     /// The generation that the store has; none where there is no store.
     pub opened: Option<Opened>,

@@ -5,7 +5,7 @@ use ext_cmd::Refusal;
 use ext_gen::BadStore;
 
 /// How a run ended.
-#[derive(Debug, Drop)]
+#[derive(Drop)]
 pub enum Status {
     /// The command was done, and its reply was written.
     Done,

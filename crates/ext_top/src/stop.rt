@@ -5,7 +5,7 @@ use ext_store_files::StoreFault;
 use ext_text::OutOfMemory;
 
 /// Why a run stopped at a line.
-#[derive(Clone, Copy, Debug, PartialEq, Eq)]
+#[derive(Clone, Copy, PartialEq, Eq)]
 pub enum Stop {
     /// The sink failed.
     WriteFault,

@@ -9,7 +9,7 @@ use crate::transfer::ResourceType;
 use ext_ini::Setting;
 
 /// The type of a source.
-#[derive(Clone, Copy, Debug)]
+#[derive(Clone, Copy)]
 pub(crate) enum SourceType {
     /// Files at a URL.
     UrlFile,

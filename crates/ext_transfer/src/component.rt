@@ -7,7 +7,7 @@ use std::marker::Model;
 
 /// A component of updates: transfers that are kept together, in folders of their own, by sysupdate.d(5). Contracts see it as its
 /// name.
-#[derive(Debug, Drop)]
+#[derive(Drop)]
 pub struct Component {
     name: Name,
     folder: Name,

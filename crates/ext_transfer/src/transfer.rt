@@ -5,7 +5,7 @@ use ext_text::{Lines, ListOf, Mode, Name, Path, Text};
 pub type Patterns = ListOf<Pattern>;
 
 /// What the resources of a transfer are.
-#[derive(Clone, Copy, Debug, PartialEq, Eq)]
+#[derive(Clone, Copy, PartialEq, Eq)]
 pub enum ResourceType {
     /// Each is a file.
     File,
@@ -14,7 +14,7 @@ pub enum ResourceType {
 }
 
 /// Where the resources of a source or of a target are, and by which names.
-#[derive(Debug, Drop)]
+#[derive(Drop)]
 pub struct Location {
     /// The directory in which they are: a path of the depot for a source, and of the host for a target.
     pub path: Path,
@@ -23,7 +23,7 @@ pub struct Location {
 }
 
 /// What a transfer file says: which resources are taken over from a source into a target, by sysupdate.d(5).
-#[derive(Debug, Drop)]
+#[derive(Drop)]
 pub struct Transfer {
     /// The name of the transfer file.
     pub file: Name,

@@ -7,7 +7,7 @@ use ext_text::{Mode, Text};
 use std::alloc::Global;
 
 /// What stands at a path.
-#[derive(Debug, Drop)]
+#[derive(Drop)]
 pub enum Entry<C> {
     /// A directory with its mode.
     Dir(Mode),

@@ -51,7 +51,7 @@ impl From<OutOfMemory> for TreeErr {
 
 /// A finite map from paths to entries in which there is a directory at every non-empty proper prefix of a path. It has at
 /// most 262,144 entries. Contracts see it as the list of its entries in path order.
-#[derive(Debug, Drop)]
+#[derive(Drop)]
 pub struct Tree<C> {
     pub(crate) entries: Vec<(Path, Entry<C>)>,
 }

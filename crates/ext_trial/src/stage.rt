@@ -8,7 +8,7 @@ use std::alloc::Global;
 use std::fs;
 
 /// The devices of a case: those in memory, or two folders of the system.
-#[derive(Debug, Drop)]
+#[derive(Drop)]
 pub(crate) struct Stage {
     pub(crate) scene: Scene,
     publishing: Publishing,

@@ -5,7 +5,7 @@ use std::alloc::Global;
 use std::{io, str};
 
 /// How many cases passed, and how many failed.
-#[derive(Clone, Copy, Debug, Default)]
+#[derive(Clone, Copy, Default)]
 pub(crate) struct Counts {
     pub(crate) passed: u64,
     pub(crate) failed: u64,
@@ -23,7 +23,7 @@ impl Counts {
 }
 
 /// A statement that failed: its line, and what was wanted and what came.
-#[derive(Debug, Drop)]
+#[derive(Drop)]
 pub(crate) struct Failure {
     pub(crate) line: u64,
     pub(crate) text: Text,

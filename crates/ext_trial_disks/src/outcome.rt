@@ -7,7 +7,7 @@ use ext_tree::Stamp;
 use std::alloc::Global;
 
 /// How a command ended: the number of its status with what it tells beside it, and what was written.
-#[derive(Debug, Drop)]
+#[derive(Drop)]
 pub struct Outcome {
     /// The status, as a `status` statement states it.
     pub status: Text,

@@ -61,7 +61,7 @@ pub fn prepare_first<P: Depot>(
 }
 
 /// What a store stands for.
-#[derive(Debug, Drop)]
+#[derive(Drop)]
 pub enum Standing {
     /// There is none.
     Nothing,

@@ -17,7 +17,7 @@ use ext_tree::{Entry, Stamp, Tree, read_tree};
 use std::alloc::Global;
 
 /// What a change does to a host.
-#[derive(Debug, Drop)]
+#[derive(Drop)]
 pub enum Change {
     /// Nothing: it makes a generation all the same.
     Keep,
@@ -37,7 +37,7 @@ pub enum Change {
 }
 
 /// A tree that a change brings.
-#[derive(Debug, Drop)]
+#[derive(Drop)]
 pub struct Brought {
     /// The text of a tree, whose files are in the depot, below `files`.
     pub text: Text,

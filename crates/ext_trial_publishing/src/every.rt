@@ -11,7 +11,7 @@ use ext_trial_scenes::Outcome;
 use std::alloc::Global;
 
 /// What goes wrong at a call of a run.
-#[derive(Clone, Copy, Debug)]
+#[derive(Clone, Copy)]
 pub(crate) enum Way {
     /// The disk in which it publishes is stopped there. Of what isn't synced this is left.
     Stop(Pick),
@@ -68,7 +68,7 @@ pub(crate) struct Play<'a> {
 }
 
 // A run in which nothing fails: how it ends, what it leaves, and how many calls it makes of each disk.
-#[derive(Debug, Drop)]
+#[derive(Drop)]
 struct Whole {
     outcome: Outcome,
     left: Vec<Spot>,

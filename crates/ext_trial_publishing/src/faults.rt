@@ -8,7 +8,7 @@ use ext_trial_disks::{call_text, kind_text, put_file, put_folder, sync};
 use std::alloc::Global;
 
 /// Which of the calls from now on goes wrong, counted from 1.
-#[derive(Clone, Copy, Debug)]
+#[derive(Clone, Copy)]
 pub(crate) enum Fault {
     /// None.
     Never,

@@ -5,7 +5,7 @@ use ext_text::{Text, Words};
 use std::alloc::Global;
 
 /// The paths of a run: its folder, and those at and below which it removes and writes while the old manifest stands.
-#[derive(Debug, Drop)]
+#[derive(Drop)]
 pub(crate) struct Ours {
     folder: Text,
     coming: Text,

@@ -13,7 +13,7 @@ use std::alloc::Global;
 use std::mem;
 
 /// A store in memory beside a depot, and the disk in which it publishes.
-#[derive(Debug, Drop)]
+#[derive(Drop)]
 pub struct Publishing {
     store: MemoryStreams<MemoryDisk, MemoryDepot>,
     out: MemoryDisk,

@@ -16,7 +16,7 @@ const MOST_PATHS: u32 = 100_000;
 const MOST_BYTES: usize = 67_108_864;
 
 /// What stands at a path: a file of these bytes, or a folder.
-#[derive(Debug, Drop)]
+#[derive(Drop)]
 pub(crate) struct Spot {
     pub(crate) at: Text,
     pub(crate) bytes: Option<Text>,

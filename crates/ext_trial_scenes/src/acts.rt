@@ -14,7 +14,7 @@ use std::mem;
 pub(crate) type MemoryDevices = MemoryStreams<MemoryDisk, MemoryDepot>;
 
 /// A statement that changes a store.
-#[derive(Debug, Drop)]
+#[derive(Drop)]
 pub(crate) enum Act {
     /// A folder is made.
     Folder(Text),
@@ -33,7 +33,7 @@ pub(crate) enum Act {
 }
 
 /// A command that is run: its words, and what its source has.
-#[derive(Debug, Drop)]
+#[derive(Drop)]
 pub(crate) struct Ran {
     pub(crate) words: Words,
     pub(crate) source: Text,

@@ -18,7 +18,7 @@ pub(crate) struct Play<'a> {
 
 /// What a store tells. First it tells of a command its tree and a check of its files, and of a change what it stands for.
 /// Then comes how the change ends there, and then the first again.
-#[derive(Debug, Drop)]
+#[derive(Drop)]
 pub(crate) struct Told {
     before: Vec<Outcome>,
     change: Outcome,
@@ -84,7 +84,7 @@ pub(crate) fn agree(one: &Told, other: &Told) -> bool {
 }
 
 /// A line that was done: what it wrote, and what the store tells after it.
-#[derive(Debug, Drop)]
+#[derive(Drop)]
 pub(crate) struct Done {
     pub(crate) reply: Text,
     pub(crate) told: Told,
@@ -93,7 +93,7 @@ pub(crate) struct Done {
 /// A change where nothing fails: the calls of the disk before it and after it, how it ends, whether it writes its reply, what
 /// the store tells before it, and its lines. A batch has those of its source, which are run one by one; any other change is one
 /// line. A change that no command makes writes nothing, and replies why it ended.
-#[derive(Debug, Drop)]
+#[derive(Drop)]
 pub(crate) struct Ends {
     pub(crate) calls_before: u64,
     pub(crate) calls_after: u64,

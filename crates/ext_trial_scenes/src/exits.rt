@@ -3,7 +3,7 @@ use crate::ends::{Done, Ends, Told, agree};
 use ext_trial_disks::Outcome;
 
 /// A stream of a command.
-#[derive(Clone, Copy, Debug)]
+#[derive(Clone, Copy)]
 pub(crate) enum Stream {
     /// Where it reads from.
     Source,
@@ -12,7 +12,7 @@ pub(crate) enum Stream {
 }
 
 /// A device of a command.
-#[derive(Clone, Copy, Debug)]
+#[derive(Clone, Copy)]
 pub(crate) enum Device {
     /// One of its streams.
     Stream(Stream),

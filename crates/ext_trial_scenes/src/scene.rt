@@ -16,7 +16,7 @@ use std::alloc::Global;
 use std::mem;
 
 /// The devices of a case, what was done to them, and how the last command ended.
-#[derive(Debug, Drop)]
+#[derive(Drop)]
 pub struct Scene {
     // The calls that fail.
     disk_fails: Calls,

@@ -14,7 +14,7 @@ pub type MemoryStreams<D, P> = Devices<MemorySource, MemorySink, D, P>;
 
 /// What a command reads and how it is written: the bytes of its source, how many bytes a call moves, and which call of
 /// each stream fails, 0 where none does.
-#[derive(Debug, Drop)]
+#[derive(Drop)]
 pub struct Streams {
     /// The bytes of the source.
     pub source: Text,

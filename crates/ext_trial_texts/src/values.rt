@@ -1,6 +1,6 @@
 // The words `digest`, `mode`, `arch`, `scope`, `class` and `memory`: values that are read from their text and written.
 use crate::replies::{bytes_line, yes_or_no};
-use ext_case::{Trouble, append_line, line_of, none, one};
+use ext_case::{Trouble, line_of, none, one};
 use ext_lines::{allocated, append_octal, read_octal};
 use ext_text::{Arch, Class, Digest, Mode, OutOfMemory, Scope, Text};
 use ext_tree::TreeErr;
@@ -41,10 +41,10 @@ fn mode_line(alloc: Global, mode: Option<Mode>) -> Result<Text, Trouble> {
     bytes_line(alloc, digits.as_slice())
 }
 
-// `arch read TEXT`: the architecture of this name, as the program's source calls it, and its name.
+// `arch read TEXT`: the name of the architecture of this name.
 pub(crate) fn read_arch(alloc: Global, rest: &[Text]) -> Result<Text, Trouble> {
     match Arch::read(one(rest)?.bytes()) {
-        Some(arch) => kind_line(format!(in alloc; "{arch:?}")?, arch.name()),
+        Some(arch) => line_of(alloc, arch.name()),
         None => line_of(alloc, "none"),
     }
 }
@@ -52,7 +52,7 @@ pub(crate) fn read_arch(alloc: Global, rest: &[Text]) -> Result<Text, Trouble> {
 // `scope read TEXT`: the scope of this name, in the same way.
 pub(crate) fn read_scope(alloc: Global, rest: &[Text]) -> Result<Text, Trouble> {
     match Scope::read(one(rest)?.bytes()) {
-        Some(scope) => kind_line(format!(in alloc; "{scope:?}")?, scope.name()),
+        Some(scope) => line_of(alloc, scope.name()),
         None => line_of(alloc, "none"),
     }
 }
@@ -60,17 +60,9 @@ pub(crate) fn read_scope(alloc: Global, rest: &[Text]) -> Result<Text, Trouble> 
 // `class read TEXT`: the class of this name, in the same way.
 pub(crate) fn read_class(alloc: Global, rest: &[Text]) -> Result<Text, Trouble> {
     match Class::read(one(rest)?.bytes()) {
-        Some(class) => kind_line(format!(in alloc; "{class:?}")?, class.name()),
+        Some(class) => line_of(alloc, class.name()),
         None => line_of(alloc, "none"),
     }
-}
-
-// What the program's source calls a value, and its name.
-fn kind_line(kind: String, name: &str) -> Result<Text, Trouble> {
-    let mut text = Text::from_vec(kind.into_bytes());
-    text.append(b" ")?;
-    append_line(&mut text, name.as_bytes())?;
-    Ok(text)
 }
 
 // `memory same`: whether two refusals for want of memory are equal.

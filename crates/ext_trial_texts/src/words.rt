@@ -17,7 +17,6 @@ pub(crate) fn reply(
 ) -> Result<Option<Text>, Trouble> {
     match word {
         "name" | "list" | "bytes" => of_names(alloc, word, asked, rest),
-        "hash" => names::hash(alloc, asked, rest),
         "path" => of_paths(alloc, asked, rest),
         "digest" | "mode" | "memory" => of_values(alloc, word, asked, rest),
         "arch" | "scope" | "class" => of_arguments(alloc, word, asked, rest),

@@ -18,7 +18,7 @@ use ext_walk::directory_at;
 use std::alloc::Global;
 
 /// Which image of a portable service is meant.
-#[derive(Debug, Drop)]
+#[derive(Drop)]
 pub enum Image {
     /// The one of this name that a search for images of portable services finds.
     Named(Name),

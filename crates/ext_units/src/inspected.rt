@@ -1,7 +1,7 @@
 use ext_text::{Names, Path, Text};
 
 /// What inspecting a portable service tells.
-#[derive(Debug, Drop)]
+#[derive(Drop)]
 pub struct Inspect {
     /// Where its image is in the base.
     pub place: Path,

@@ -13,7 +13,7 @@ use ext_walk::{Next, end_of_path};
 use std::alloc::Global;
 
 // What an entry says that has the name of a unit.
-#[derive(Debug, Drop)]
+#[derive(Drop)]
 pub enum UnitEntry {
     // It leads to no file, so that there is no unit of its name.
     NoFile,

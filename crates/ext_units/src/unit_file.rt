@@ -5,7 +5,7 @@ use ext_text::{ListOf, Name, Names, OutOfMemory, Path};
 use std::alloc::Global;
 
 /// A unit of a portable service.
-#[derive(Debug, Drop)]
+#[derive(Drop)]
 pub struct UnitFile {
     /// Its name.
     pub name: Name,

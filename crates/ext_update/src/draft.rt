@@ -5,7 +5,7 @@ use ext_resources::Content;
 use ext_text::{Mode, Name, OutOfMemory, Path};
 
 // What an update writes.
-#[derive(Debug, Drop)]
+#[derive(Drop)]
 pub(crate) struct Draft {
     // The resources.
     pub(crate) arrivals: Vec<Arrival>,
@@ -14,7 +14,7 @@ pub(crate) struct Draft {
 }
 
 // A resource that comes, and where it goes.
-#[derive(Debug, Drop)]
+#[derive(Drop)]
 pub(crate) struct Arrival {
     // The target.
     pub(crate) target: Path,
@@ -29,7 +29,7 @@ pub(crate) struct Arrival {
 }
 
 // A link that is set to the current version.
-#[derive(Debug, Drop)]
+#[derive(Drop)]
 pub(crate) struct CurrentLink {
     // Where it is set.
     pub(crate) path: Path,
@@ -40,7 +40,7 @@ pub(crate) struct CurrentLink {
 }
 
 // What a link to the current version names.
-#[derive(Debug, Drop)]
+#[derive(Drop)]
 pub(crate) enum Current {
     // An instance that the target has, by its path.
     Had(Path),

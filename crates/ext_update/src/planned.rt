@@ -4,7 +4,7 @@ use ext_text::SortedPaths;
 use ext_vers::Version;
 
 /// What an update wants.
-#[derive(Debug, Drop)]
+#[derive(Drop)]
 pub enum Update {
     /// Nothing changes.
     Unchanged,
@@ -15,7 +15,7 @@ pub enum Update {
 }
 
 /// What making room wants.
-#[derive(Debug, Drop)]
+#[derive(Drop)]
 pub enum Vacuum {
     /// Nothing changes.
     Unchanged,
@@ -26,7 +26,7 @@ pub enum Vacuum {
 }
 
 // What is planned of what is written and removed.
-#[derive(Debug, Drop)]
+#[derive(Drop)]
 pub(crate) enum Planned {
     // The coming host.
     Next(Host),

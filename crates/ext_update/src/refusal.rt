@@ -2,7 +2,7 @@ use ext_text::{Name, Path, Which};
 use ext_tree::Stamp;
 
 /// Why an update, or making room, is refused.
-#[derive(Debug, Drop)]
+#[derive(Drop)]
 pub enum UpdateRefusal {
     /// The wanted version is neither installed nor available.
     NoSuchVersion,

@@ -5,7 +5,7 @@ use ext_transfer::Transfer;
 use ext_versions::Versions;
 
 /// What the updates of a component are about.
-#[derive(Debug, Drop)]
+#[derive(Drop)]
 pub struct Updates {
     /// The transfers that are on, in byte order of the names of their files.
     pub transfers: ListOf<Transfer>,

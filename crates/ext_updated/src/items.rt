@@ -1,7 +1,7 @@
 use ext_text::{Paths, SortedPaths};
 
 /// The items of an update, each by its path.
-#[derive(Debug, Drop)]
+#[derive(Drop)]
 pub struct Items {
     /// The files and directories that are written, in any order.
     pub resources: Paths,

@@ -2,7 +2,7 @@ use ext_text::Path;
 use ext_tree::{Entry, Tree};
 
 /// What is put at a path of a tree: an entry, and what stands below it.
-#[derive(Debug, Drop)]
+#[derive(Drop)]
 pub struct Piece<C> {
     /// The path.
     pub path: Path,

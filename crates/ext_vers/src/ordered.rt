@@ -3,13 +3,12 @@ ghost use Rattle.std.specs.Prelude.{◌≡◌, IfOk};
 use crate::comparing::order;
 use ext_text::{OutOfMemory, Text};
 use std::cmp::Ordering;
-use std::hash::{Hash, Hasher};
 use std::marker::Model;
 
 /// A text that stands where versions do: its order is that of versions, equal ones by their bytes, so that versions are
 /// sorted, searched for and kept as keys. Any text may be one. [`is_version`](crate::is_version) says which are
 /// versions. Contracts see it as its bytes.
-#[derive(Debug, Drop)]
+#[derive(Drop)]
 pub struct Version {
     text: Text,
 }
@@ -105,19 +104,5 @@ impl Ord for Version {
 
     fn cmp(&self, other: &Version) -> Ordering {
         order(self.bytes(), other.bytes())
-    }
-}
-
-impl Hash for Version {
-    ghost use Rattle.std.specs.Cmp.Rules.{hashing};
-    ghost use Rattle.std.specs.Hash as fed;
-    ghost use Rattle.std.proofs.Common.{rules};
-
-    ghost hash_input = { λ v. fed.slice fed.u8 v };
-
-    ghost respects_eq = { Prim.search (hashing, rules) };
-
-    fn hash<H: Hasher>(&self, state: &mut H) {
-        self.text.hash(state);
     }
 }

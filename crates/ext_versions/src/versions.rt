@@ -13,7 +13,7 @@ use std::marker::Model;
 
 /// Versions in ascending order, each once: in the order of versions, equal ones in that of their bytes. Contracts see them as
 /// the list of the versions.
-#[derive(Debug, Drop)]
+#[derive(Drop)]
 pub struct Versions {
     items: Vec<Version>,
 }

@@ -2,7 +2,7 @@ use ext_host::Plan;
 use ext_text::Names;
 
 /// What merging gives.
-#[derive(Debug, Drop)]
+#[derive(Drop)]
 pub struct Merge {
     /// The host that is wanted; `None` where the host is to stay as it is.
     pub plan: Option<Plan>,

@@ -4,7 +4,7 @@ use ext_match::Verdict;
 use ext_text::{Name, Path};
 
 /// An image or a mask of a host, and what is known of it.
-#[derive(Debug, Drop)]
+#[derive(Drop)]
 pub struct SurveyItem {
     /// Its name.
     pub name: Name,
@@ -15,7 +15,7 @@ pub struct SurveyItem {
 }
 
 /// What an item of a survey is.
-#[derive(Clone, Copy, Debug, PartialEq, Eq)]
+#[derive(Clone, Copy, PartialEq, Eq)]
 pub enum SurveyKind {
     /// A mask: there is no image of this name.
     Masked,

@@ -24,7 +24,7 @@ use Rattle.ext_published.specs.declared.payload.Payload.{Payload}
 use Rattle.ext_published.specs.declared.payload.Payload.TheVariants.{Directory, File}
 use Rattle.ext_published.specs.declared.refusal.PubRefusal.{PubRefusal}
 use Rattle.ext_published.specs.declared.refusal.PubRefusal.TheVariants.{NoStore, NoEntry, NotFile, LimitPath, OutKind, LimitText, OutManifest, Listed}
-use Rattle.ext_publook.specs.Out.{manifest_bytes, wrong_kind}
+use Rattle.ext_publish.specs.Out.{manifest_bytes, wrong_kind}
 
 -- the files of a directory have paths in the depot
 abbrev pub HasFilePaths : AskedOf → Payload → Type 0

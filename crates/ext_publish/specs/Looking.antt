@@ -17,10 +17,10 @@ use Rattle.ext_store_files.specs.declared.reading.Found.{Found}
 use Rattle.ext_store_files.specs.declared.reading.Found.TheVariants as found
 use Rattle.ext_store_files.specs.declared.errors.ReadErr.{ReadErr}
 use Rattle.ext_store_files.specs.declared.errors.ReadErr.TheVariants as read_errors
-use Rattle.ext_publook.specs.Out.{manifest_bytes, wrong_kind}
-use Rattle.ext_publook.specs.Refusing.{HasDepotPaths, HasShortManifest, HasShortText, HasShortTexts}
-use Rattle.ext_publook.specs.declared.look_err.LookErr.{LookErr}
-use Rattle.ext_publook.specs.declared.look_err.LookErr.TheVariants.{OutOfMemory, OutFault, LimitPath, OutKind, LimitText, OutManifest, Listed}
+use Rattle.ext_publish.specs.Out.{manifest_bytes, wrong_kind}
+use Rattle.ext_publish.specs.Refusing.{HasDepotPaths, HasShortManifest, HasShortText, HasShortTexts}
+use Rattle.ext_publish.specs.declared.look_err.LookErr.{LookErr}
+use Rattle.ext_publish.specs.declared.look_err.LookErr.TheVariants.{OutOfMemory, OutFault, LimitPath, OutKind, LimitText, OutManifest, Listed}
 
 -- it holds of what stands, where that is told
 abbrev pub HoldsNow : DiskState → (Tree → Type 0) → Type 0

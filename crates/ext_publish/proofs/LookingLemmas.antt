@@ -20,11 +20,11 @@ use Rattle.ext_published.specs.declared.payload.Payload.{Payload}
 use Rattle.ext_published.specs.declared.payload.Payload.TheVariants.{Directory, File}
 use Rattle.ext_published.specs.declared.places.PlacesErr.{PlacesErr}
 use Rattle.ext_published.specs.declared.places.PlacesErr.TheVariants as places_errors
-use Rattle.ext_publook.specs.Out.{file_bytes, bytes_or_none, first_file, folder_manifest, first_of_paths, manifest_bytes, wrong_kind}
-use Rattle.ext_publook.specs.Refusing.{HasDepotPaths, HasShortManifest, HasShortText, HasShortTexts}
-use Rattle.ext_publook.specs.Looking.{ChecksPayload, KindOfFileCause, HoldsNow, KindCause, LookCause, ManifestKindCause, MayPublish, NewCause, NoPaths, OldCause, ShortTextCause, ManifestFound, look_err_of_places}
-use Rattle.ext_publook.specs.declared.look_err.LookErr.{LookErr}
-use Rattle.ext_publook.specs.declared.look_err.LookErr.TheVariants.{OutOfMemory, OutFault, LimitPath, OutKind, LimitText, OutManifest, Listed}
+use Rattle.ext_publish.specs.Out.{file_bytes, bytes_or_none, first_file, folder_manifest, first_of_paths, manifest_bytes, wrong_kind}
+use Rattle.ext_publish.specs.Refusing.{HasDepotPaths, HasShortManifest, HasShortText, HasShortTexts}
+use Rattle.ext_publish.specs.Looking.{ChecksPayload, KindOfFileCause, HoldsNow, KindCause, LookCause, ManifestKindCause, MayPublish, NewCause, NoPaths, OldCause, ShortTextCause, ManifestFound, look_err_of_places}
+use Rattle.ext_publish.specs.declared.look_err.LookErr.{LookErr}
+use Rattle.ext_publish.specs.declared.look_err.LookErr.TheVariants.{OutOfMemory, OutFault, LimitPath, OutKind, LimitText, OutManifest, Listed}
 
 -- facts of what stands: a weaker one, two of them, and one of a disk that rests
 module _ (P Q S : Tree → Type 0) where

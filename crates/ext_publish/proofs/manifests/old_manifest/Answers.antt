@@ -1,9 +1,9 @@
 use Rattle.std.proofs.Common.{ℕ, List, subst}
-use Rattle.ext_publook.specs.Looking.{ManifestFound}
+use Rattle.ext_publish.specs.Looking.{ManifestFound}
 use Rattle.ext_published.specs.Manifest.{most_published_text}
 use Rattle.ext_store_files.specs.Reading.{IsFoundAt}
-use Rattle.ext_publook.proofs.LookingLemmas.{text_cause, text_short}
-use Rattle.ext_publook.proofs.manifests.old_manifest.Goals as goal
+use Rattle.ext_publish.proofs.LookingLemmas.{text_cause, text_short}
+use Rattle.ext_publish.proofs.manifests.old_manifest.Goals as goal
 
 pub returns-clause-short : goal.returns-clause-short
 returns-clause-short g c = text_short c.args.manifest.now _ c.text_found.result c.text_found.ensures

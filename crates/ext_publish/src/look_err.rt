@@ -4,8 +4,8 @@ use ext_store_files::ReadErr;
 use ext_text::{OutOfMemory, Path};
 
 /// Why what is asked may not be published, or is not known to be.
-#[derive(Debug, Drop)]
-pub enum LookErr {
+#[derive(Drop)]
+pub(crate) enum LookErr {
     /// Out of memory.
     OutOfMemory,
     /// The disk of the depot failed.
@@ -30,7 +30,7 @@ pub enum LookErr {
 
 impl From<OutOfMemory> for LookErr {
     ghost use Rattle.std.specs.Prelude.{◌≡◌};
-    ghost use Rattle.ext_publook.specs.declared.look_err.LookErr.TheVariants as errors;
+    ghost use Rattle.ext_publish.specs.declared.look_err.LookErr.TheVariants as errors;
 
     ghost from_gives = { λ _ e. e ≡ errors.OutOfMemory };
 
@@ -41,7 +41,7 @@ impl From<OutOfMemory> for LookErr {
 
 impl From<Failed> for LookErr {
     ghost use Rattle.std.specs.Prelude.{◌≡◌};
-    ghost use Rattle.ext_publook.specs.declared.look_err.LookErr.TheVariants as errors;
+    ghost use Rattle.ext_publish.specs.declared.look_err.LookErr.TheVariants as errors;
 
     ghost from_gives = { λ _ e. e ≡ errors.OutFault };
 
@@ -52,7 +52,7 @@ impl From<Failed> for LookErr {
 
 impl From<PlacesErr> for LookErr {
     ghost use Rattle.std.specs.Prelude.{◌≡◌};
-    ghost use Rattle.ext_publook.specs.Looking.{look_err_of_places};
+    ghost use Rattle.ext_publish.specs.Looking.{look_err_of_places};
 
     ghost from_gives = { λ e f. f ≡ look_err_of_places e };
 
@@ -66,7 +66,7 @@ impl From<PlacesErr> for LookErr {
 
 impl From<ReadErr> for LookErr {
     ghost use Rattle.std.specs.Prelude.{◌≡◌};
-    ghost use Rattle.ext_publook.specs.Looking.{look_err_of_read};
+    ghost use Rattle.ext_publish.specs.Looking.{look_err_of_read};
 
     ghost from_gives = { λ e f. f ≡ look_err_of_read e };
 
@@ -80,7 +80,7 @@ impl From<ReadErr> for LookErr {
 
 impl From<ManifestErr> for LookErr {
     ghost use Rattle.std.specs.Prelude.{◌≡◌};
-    ghost use Rattle.ext_publook.specs.Looking.{look_err_of_manifest};
+    ghost use Rattle.ext_publish.specs.Looking.{look_err_of_manifest};
 
     ghost from_gives = { λ e f. f ≡ look_err_of_manifest e };
 

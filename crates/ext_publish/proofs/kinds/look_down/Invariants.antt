@@ -1,6 +1,6 @@
 use Rattle.std.proofs.Common.{length}
-use Rattle.ext_publook.proofs.LookingLemmas.{IsDown}
-use Rattle.ext_publook.proofs.kinds.look_down.Given as goal
+use Rattle.ext_publish.proofs.LookingLemmas.{IsDown}
+use Rattle.ext_publish.proofs.kinds.look_down.Given as goal
 
 -- no file stands at the paths so far
 abbrev pub invariant-names : goal.invariant-names

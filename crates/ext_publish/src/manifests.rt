@@ -6,10 +6,10 @@ ghost use Rattle.ext_published.specs.Manifest.{ListsNeither, most_published_text
 ghost use Rattle.ext_published.specs.Payload.{listing_name};
 ghost use Rattle.ext_published.specs.Places.{published_manifest_path};
 ghost use Rattle.ext_published.specs.Published.{text_of_payload};
-ghost use Rattle.ext_publook.specs.Out.{manifest_bytes};
-ghost use Rattle.ext_publook.specs.Refusing.{HasShortManifest, HasShortText, look_digest};
-ghost use Rattle.ext_publook.specs.Looking.{HoldsNow, NewCause, OldCause, ShortTextCause, ManifestFound, digest_of_text, is_short};
-ghost use Rattle.ext_publook.specs.declared.look_err.LookErr.TheVariants as look_errors;
+ghost use Rattle.ext_publish.specs.Out.{manifest_bytes};
+ghost use Rattle.ext_publish.specs.Refusing.{HasShortManifest, HasShortText, look_digest};
+ghost use Rattle.ext_publish.specs.Looking.{HoldsNow, NewCause, OldCause, ShortTextCause, ManifestFound, digest_of_text, is_short};
+ghost use Rattle.ext_publish.specs.declared.look_err.LookErr.TheVariants as look_errors;
 
 use crate::look_err::LookErr;
 use ext_disk::Disk;

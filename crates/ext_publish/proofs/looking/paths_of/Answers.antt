@@ -1,6 +1,6 @@
 use Rattle.std.proofs.lemmas.Result.{err_from_is_err_and}
-use Rattle.ext_publook.proofs.LookingLemmas.{places_refused, files_refused, paths_are}
-use Rattle.ext_publook.proofs.looking.paths_of.Goals as goal
+use Rattle.ext_publish.proofs.LookingLemmas.{places_refused, files_refused, paths_are}
+use Rattle.ext_publish.proofs.looking.paths_of.Goals as goal
 
 pub returns-in_err-places-clause-err : goal.returns-in_err-places-clause-err
 returns-in_err-places-clause-err c =

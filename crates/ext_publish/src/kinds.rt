@@ -5,8 +5,8 @@ ghost use Rattle.ext_text.specs.Name.{IsName};
 ghost use Rattle.ext_disk.specs.Disk.{is_file, is_folder};
 ghost use Rattle.ext_disk.specs.Since.{Rests};
 ghost use Rattle.ext_published.specs.Places.{published_manifest_path};
-ghost use Rattle.ext_publook.specs.Out.{first_file, wrong_kind};
-ghost use Rattle.ext_publook.specs.Looking.{KindOfFileCause, HoldsNow, KindCause, ManifestKindCause};
+ghost use Rattle.ext_publish.specs.Out.{first_file, wrong_kind};
+ghost use Rattle.ext_publish.specs.Looking.{KindOfFileCause, HoldsNow, KindCause, ManifestKindCause};
 
 use crate::look_err::LookErr;
 use ext_disk::{Disk, Kind};

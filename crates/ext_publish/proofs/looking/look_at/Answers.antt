@@ -1,6 +1,6 @@
 use Rattle.std.proofs.lemmas.Result.{err_from_is_err_and}
-use Rattle.ext_publook.proofs.LookingLemmas.{kinds_stop, old_stop, paths_stop}
-use Rattle.ext_publook.proofs.looking.look_at.Goals as goal
+use Rattle.ext_publish.proofs.LookingLemmas.{kinds_stop, old_stop, paths_stop}
+use Rattle.ext_publish.proofs.looking.look_at.Goals as goal
 
 pub returns-in_err-places-clause-cause : goal.returns-in_err-places-clause-cause
 returns-in_err-places-clause-cause g c =

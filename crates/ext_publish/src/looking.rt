@@ -5,9 +5,9 @@ ghost use Rattle.ext_published.specs.Manifest.{with_listing};
 ghost use Rattle.ext_published.specs.Payload.{listing_name};
 ghost use Rattle.ext_published.specs.Places.{ArePlaces};
 ghost use Rattle.ext_published.specs.Published.{text_of_payload};
-ghost use Rattle.ext_publook.specs.Out.{manifest_bytes};
-ghost use Rattle.ext_publook.specs.Refusing.{HasDepotPaths, look_digest};
-ghost use Rattle.ext_publook.specs.Looking.{ChecksPayload, HoldsNow, LookCause, MayPublish, NoPaths};
+ghost use Rattle.ext_publish.specs.Out.{manifest_bytes};
+ghost use Rattle.ext_publish.specs.Refusing.{HasDepotPaths, look_digest};
+ghost use Rattle.ext_publish.specs.Looking.{ChecksPayload, HoldsNow, LookCause, MayPublish, NoPaths};
 
 use crate::kinds::look_at_kinds;
 use crate::look_err::LookErr;
@@ -18,14 +18,14 @@ use ext_text::{Path, Text};
 use std::alloc::Global;
 
 /// What may be published, and how: nothing stands in its way.
-#[derive(Debug, Drop)]
-pub struct Look {
+#[derive(Drop)]
+pub(crate) struct Look {
     /// The text of a directory's tree.
-    pub text: Option<Text>,
+    pub(crate) text: Option<Text>,
     /// Where the resource stands in the depot.
-    pub places: Places,
+    pub(crate) places: Places,
     /// The manifest with the new line.
-    pub manifest: Text,
+    pub(crate) manifest: Text,
 }
 
 /// Looks whether a payload may be published as is asked: its paths are within their limits, nothing of the wrong kind stands in
@@ -33,7 +33,7 @@ pub struct Look {
 ///
 /// # Errors
 /// The first of these that fails; a fault of the disk, only where it counted one; out of memory. The disk is as before.
-pub fn look_at<O: Disk>(
+pub(crate) fn look_at<O: Disk>(
     alloc: Global,
     asked: &Asked,
     payload: &Payload,

@@ -1,3 +1,0 @@
-pub mod Out
-pub mod Refusing
-pub mod Looking
