@@ -2,6 +2,7 @@
 import fcntl
 import os
 import select
+import shutil
 import signal
 import subprocess
 import tempfile
@@ -9,11 +10,12 @@ import threading
 import time
 from contextlib import contextmanager
 
-from scenes.running import ABC, COMPARE, LAYER, SECONDS, Failed, expect, named, run, shortened, tree_text
-from scenes.stores import DONE, HOST, ROOM, Place, digest, in_a_place
+from scenes.running import ABC, COMPARE, LAYER, SECONDS, Failed, Skipped, expect, named, run, shortened, tree_text
+from scenes.stores import DONE, FAULTS, HOST, ROOM, Place, digest, in_a_place
 from scenes.uses import SAMPLE
 
 WAITING = b"hostext: waiting for another command on this store\n"
+REPLACED = "the folder was replaced while this waited or worked"
 # As long as no command takes that doesn't wait.
 SOON = 0.3
 
@@ -215,7 +217,51 @@ def a_file_that_is_shown_is_held_to_its_end(place):
     expect(ended(child), (DONE, WAITING, 0))
 
 
+def exchanged(folder):
+    """A copy takes the place of a folder, which goes on under another name, as where somebody makes a backup."""
+    old = folder.with_name("old")
+    folder.rename(old)
+    shutil.copytree(old, folder)
+    return old
+
+
+def who_waited_for_a_folder_that_was_replaced_changes_nothing(place):
+    place.resource("host", HOST, {"usr/a": b""})
+    place.expect(("init x86-64 system", DONE))
+    around = {**os.environ, "HOSTEXT_EXPLAIN": "yes"}
+    for words in ("import-fs", "host", "/"), ("tree",):
+        with locked(place.store):
+            child = start(place, *words, env=around)
+            waits(child)
+            old = exchanged(place.store)
+        before = place.stands()
+        written, told, status = ended(child)
+        why = os.fsencode(f"hostext: lock {place.store}: {REPLACED}\n")
+        expect((written, told, status), (b"", WAITING + FAULTS[5] + why, 5))
+        place.holds(before)
+        shutil.rmtree(old)
+
+
+def a_folder_that_is_replaced_while_a_change_is_written_is_not_switched(place):
+    """Each sync takes its time, so that the folder is exchanged after the lock was taken and before the rename."""
+    if not shutil.which("strace"):
+        raise Skipped("there is no strace")
+    place.resource("host", HOST, {"usr/a": b""})
+    place.expect(("init x86-64 system", DONE))
+    words = ["strace", "-f", "-o", "/dev/null", "-e", "trace=fsync,fdatasync", "-e", "inject=fsync,fdatasync:delay_enter=300000"]
+    words += [place.program, place.store, place.depot, "import-fs", "host", "/"]
+    child = subprocess.Popen(words, stdin=subprocess.DEVNULL, stdout=subprocess.PIPE, stderr=subprocess.PIPE)
+    until_taken(place.store)
+    exchanged(place.store)
+    written, told, status = ended(child)
+    expect((written, told, status), (b"", FAULTS[5], 5))
+    if (place.store / "current").read_bytes() != b"g-1\n":
+        raise Failed("what stands there now was switched")
+    place.expect(("tree", tree_text()))
+
+
 CALLS = [
+    *(who_waited_for_a_folder_that_was_replaced_changes_nothing, a_folder_that_is_replaced_while_a_change_is_written_is_not_switched),
     *(changes_that_are_started_together_are_all_done, a_change_waits_for_readers_and_for_another_change, a_reader_waits_for_a_change_alone),
     *(what_looks_at_no_store_takes_no_lock, a_holder_that_is_killed_frees_the_lock, stores_do_not_wait_for_one_another),
     *(without_a_lock_nothing_waits, what_reads_a_reply_may_change_the_store, a_file_that_is_shown_is_held_to_its_end),

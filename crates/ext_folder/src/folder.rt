@@ -13,9 +13,10 @@ use ext_disk::Kind;
 use ext_io::{Failed, next_count};
 use ext_lines::allocated;
 use ext_text::{OutOfMemory, Path, PathRef, Text};
-use std::fs::{Files, Metadata};
+use std::fs::{File, Files, Metadata};
 use std::io::ErrorKind;
 use std::marker::Model;
+use std::os::unix::fs::MetadataExt;
 use std::{fs, io};
 
 /// A folder of the system, and how often a call on it failed. The folder itself may be a link to one. What is done with
@@ -187,6 +188,17 @@ impl<R: Files> Folder<R> {
             Err(error) if is_missing(&error) => Ok(Entry::Nothing),
             Err(error) => Err(error.into()),
             Ok(_link) => Err(FolderErr::Missing),
+        }
+    }
+
+    /// That the folder at the root is another one than this, which was opened there, is a fault.
+    pub(crate) fn need_same(&self, opened: &File) -> Result<(), FolderErr> {
+        let root = folder_location(&self.root)?;
+        let (own, found) = (opened.metadata()?, fs::metadata(&self.rt, root.as_str())?);
+        if own.dev() == found.dev() && own.ino() == found.ino() {
+            Ok(())
+        } else {
+            Err(FolderErr::Replaced)
         }
     }
 

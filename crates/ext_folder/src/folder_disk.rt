@@ -14,7 +14,7 @@ use ext_disk::{Disk, Kind, ListErr};
 use ext_io::Failed;
 use ext_text::{Names, Path, Text};
 use std::alloc::Global;
-use std::fs::{Files, OpenFile};
+use std::fs::{File, Files, OpenFile};
 use std::marker::Model;
 use std::{fs, io};
 
@@ -80,6 +80,11 @@ impl<R: Files> FolderDisk<R> {
     /// What went wrong first, if anything did.
     pub fn trouble(&self) -> Option<&Trouble> {
         self.folder.trouble()
+    }
+
+    /// That another folder stands at the root than this, which was opened there, is a fault.
+    pub(crate) fn need_same(&self, opened: &File) -> Result<(), FolderErr> {
+        self.folder.need_same(opened)
     }
 
     /// Counts a call that was refused before it came to the folder.

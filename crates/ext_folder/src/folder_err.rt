@@ -41,6 +41,9 @@ pub(crate) enum FolderErr {
     /// The folder's own path is no UTF-8.
     #[error("its path is not UTF-8")]
     NotUtf8,
+    /// Another folder stands where the locked one was opened.
+    #[error("the folder was replaced while this waited or worked")]
+    Replaced,
     /// A sync failed before.
     #[error("an earlier sync failed")]
     Unsynced,

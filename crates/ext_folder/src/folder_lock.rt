@@ -34,6 +34,8 @@ enum State {
     Open(File, Hold),
     // It was taken.
     Held(File),
+    // It was held on a folder in whose place another one stands now.
+    Lost,
 }
 
 impl FolderLock {
@@ -58,7 +60,7 @@ impl FolderLock {
     pub fn handle(&self) -> Option<File> {
         match &self.state {
             State::Open(file, _) | State::Held(file) => file.try_clone().ok(),
-            State::Unwanted | State::Closed(_) => None,
+            State::Unwanted | State::Closed(_) | State::Lost => None,
         }
     }
 
@@ -75,10 +77,24 @@ impl FolderLock {
         matches!(self.state, State::Unwanted | State::Held(_))
     }
 
+    /// The folder on which the lock is held; none where it isn't held, or none is wanted.
+    pub(crate) fn held(&self) -> Option<&File> {
+        match &self.state {
+            State::Held(file) => Some(file),
+            _ => None,
+        }
+    }
+
+    /// Gives the lock back for good, since another folder stands in the place of the locked one.
+    pub(crate) fn lose(&mut self) {
+        self.state = State::Lost;
+    }
+
     /// Takes the lock, where it isn't held yet. Where another process holds it, that is told, and it is waited for.
     ///
     /// # Errors
-    /// The folder can't be opened, or its file system has no locks. It is asked for again the next time.
+    /// The folder can't be opened, or its file system has no locks. It is asked for again the next time. `Replaced` where the
+    /// lock was lost.
     pub(crate) fn take<N: Notice>(&mut self, notice: &mut N) -> Result<(), FolderErr> {
         let (state, outcome) = match std::mem::replace(&mut self.state, State::Unwanted) {
             State::Open(file, hold) => match lock(&file, hold, notice) {
@@ -86,6 +102,7 @@ impl FolderLock {
                 Err(error) => (State::Open(file, hold), Err(error.into())),
             },
             State::Closed(error) => (State::Closed(None), Err(closed(error))),
+            State::Lost => (State::Lost, Err(FolderErr::Replaced)),
             other => (other, Ok(())),
         };
         self.state = state;

@@ -5,6 +5,7 @@ ghost use Rattle.ext_disk.specs.Lookups.{MayList, MayRead, Lists, ListCause, IsK
 ghost use Rattle.ext_folder.specs.Folder.{counted, CountsListing};
 
 use crate::folder_disk::FolderDisk;
+use crate::folder_err::FolderErr;
 use crate::folder_lock::{FolderLock, Notice};
 use crate::trouble::Trouble;
 use ext_disk::{Disk, Kind, ListErr};
@@ -16,6 +17,10 @@ use std::marker::Model;
 
 /// A folder of the system as a disk that is locked from the first call on. Where the lock can't be taken, each call is a
 /// fault. Else it is the disk in it. The lock is held until the disk goes.
+///
+/// The lock is on a folder that was opened, and the disk works by its path. Whoever waited may find another folder there by
+/// then, which somebody else has locked. So the two are compared once the lock is taken, and before each rename, which alone
+/// lets others see what was written; where they differ, that call is a fault, and each after it.
 #[derive(Drop)]
 pub struct LockedDisk<R: Files, N: Notice + Drop> {
     disk: FolderDisk<R>,
@@ -44,7 +49,7 @@ impl<R: Files, N: Notice + Drop> LockedDisk<R, N> {
         self.disk.trouble()
     }
 
-    // That the lock can't be taken is a fault.
+    // That the lock can't be taken is a fault, and so is that it is no longer on the folder at the disk's path.
     fn take_lock(&mut self) -> Result<(), Failed>
         ensures counted { self.new ≡ counted self.old (is_ok result) }
         ensures count { self.old.faults ≤ self.new.faults }
@@ -55,8 +60,44 @@ impl<R: Files, N: Notice + Drop> LockedDisk<R, N> {
         }
         let call = self.lock.call();
         match self.lock.take(&mut self.notice) {
-            Ok(()) => Ok(()),
+            Ok(()) => self.keep_lock(),
             Err(error) => Err(self.disk.refuse(call, &error)),
+        }
+    }
+
+    // A lock that is held on another folder than the one at the disk's path is lost, which is a fault.
+    fn keep_lock(&mut self) -> Result<(), Failed>
+        ensures counted { self.new ≡ counted self.old (is_ok result) }
+        ensures count { self.old.faults ≤ self.new.faults }
+        ensures cause { HasCause result self.old.faults self.new.faults }
+    {
+        match self.compare() {
+            Ok(()) => Ok(()),
+            Err(error) => {
+                self.lock.lose();
+                Err(self.disk.refuse("lock", &error))
+            }
+        }
+    }
+
+    // That the lock is held on another folder than the one at the disk's path is a fault.
+    fn compare(&self) -> Result<(), FolderErr> {
+        match self.lock.held() {
+            Some(opened) => self.disk.need_same(opened),
+            None => Ok(()),
+        }
+    }
+
+    // Takes the lock, and looks once more whether it is on the folder at the disk's path.
+    fn confirm_lock(&mut self) -> Result<(), Failed>
+        ensures counted { self.new ≡ counted self.old (is_ok result) }
+        ensures count { self.old.faults ≤ self.new.faults }
+        ensures cause { HasCause result self.old.faults self.new.faults }
+    {
+        if self.lock.is_settled() {
+            self.keep_lock()
+        } else {
+            self.take_lock()
         }
     }
 }
@@ -168,7 +209,7 @@ impl<R: Files, N: Notice + Drop> Disk for LockedDisk<R, N> {
         ensures cause { HasCause result self.old.faults self.new.faults }
         ensures exact { self.new ≡ counted self.old (is_ok result) }
     {
-        self.take_lock()?;
+        self.confirm_lock()?;
         self.disk.rename(from, to)
     }
 
