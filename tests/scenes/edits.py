@@ -1,13 +1,17 @@
-"""The edits of the crates: that each changes a text that stands once in its file. And tools/try-edits, in a small repository whose
-`rt` is a script: that crates are tried side by side over libraries that were built before, and which edits it names as refused only
-at an answer file."""
+"""The edits of the crates: that each changes a text that stands once in its file, and that the gate tries few. And tools/try-edits,
+in a small repository whose `rt` is a script: that crates are tried side by side over libraries that were built before, and which
+edits it names as refused only at an answer file."""
+import re
 import shutil
 import sys
 from pathlib import Path
 
+from scenes.documents import section
 from scenes.repositories import Repository, in_each
 from scenes.running import TOP, Failed, expect
 
+# An edit costs up to a check of its crate, at each run of the gate.
+MOST_TRIED = 20
 # What the kit says of an edit after its name.
 SAID = {
     "a_goal": "refused, as it must be: note: src/lib.rt:3:1: it is not proved that what the function ensures holds when it returns",
@@ -89,13 +93,31 @@ def misses_of(edit):
             texts[file] = texts[file].replace(old, rest)
 
 
+def edits_in(folder):
+    return sorted(TOP.glob(f"crates/*/{folder}/*.edit"))
+
+
+def name_of(edit):
+    return f"{edit.parents[1].name}/{edit.stem}"
+
+
 def each_edit_changes_what_stands_once():
-    edits = sorted(path for folder in ("must-fail", "more-edits") for path in TOP.glob(f"crates/*/{folder}/*.edit"))
+    edits = edits_in("must-fail") + edits_in("more-edits")
     found = [miss for edit in edits for miss in misses_of(edit)]
     if found or not edits:
         raise Failed(f"edits whose texts don't stand once in their files: {'; '.join(found)}")
 
 
+def the_gate_tries_few_edits_and_those_are_listed():
+    tried, others = (set(map(name_of, edits_in(folder))) for folder in ("must-fail", "more-edits"))
+    listed = re.findall(r"`(ext_\w+/\w+)`", section((TOP / "docs/PROMISES.md").read_text(), "What the gate tries"))
+    if sorted(listed) != sorted(tried):
+        raise Failed(f"the gate tries other edits than docs/PROMISES.md lists: {' '.join(sorted(tried ^ set(listed)))}")
+    if len(tried) > MOST_TRIED or tried & others:
+        raise Failed(f"the gate tries {len(tried)} edits, of which these stand in more-edits too: {' '.join(tried & others)}")
+
+
 def scenes(_program):
-    yield "each edit changes what stands once", each_edit_changes_what_stands_once
+    for call in each_edit_changes_what_stands_once, the_gate_tries_few_edits_and_those_are_listed:
+        yield call.__name__.replace("_", " "), call
     yield from in_each(repository_of_edits, [edits_that_only_an_answer_refuses_are_named])
