@@ -1,14 +1,16 @@
 """The edits of the crates: that each changes a text that stands once in its file, and that the gate tries few. And tools/try-edits,
-in a small repository whose `rt` is a script: that crates are tried side by side over libraries that were built before, and which
-edits it names as refused only at an answer file."""
+in a small repository whose `rt` is a script: that crates are tried side by side over libraries that were built before, which edits it
+names as refused only at an answer file, and which crates a change touches."""
+import os
 import re
 import shutil
+import subprocess
 import sys
 from pathlib import Path
 
 from scenes.documents import section
 from scenes.repositories import Repository, in_each
-from scenes.running import TOP, Failed, expect
+from scenes.running import TOP, Failed, Skipped, expect
 
 # An edit costs up to a check of its crate, at each run of the gate.
 MOST_TRIED = 20
@@ -43,6 +45,27 @@ esac
 """
 
 
+# Says of each edit that a goal refuses it, and writes down the priority that it has.
+RT_THAT_REFUSES = f"""
+nice >"$ROOM/priority"
+[ "$1" = must-fail ] || exit
+for edit in "crates/$2/must-fail"/*; do
+    echo "rt: must-fail $2/${{edit##*/}}: {SAID['a_goal']}"
+done
+"""
+# What a change does to each crate of a small repository, a file and its bytes or None, and whether it touches the crate.
+CHANGES = {
+    "bodies": ("src/deep/body.rt", b"another body", True),
+    "words": ("specs/Words.antt", None, True),
+    "answers": ("proofs/body/New.antt", b"a new file", True),
+    "tried": ("must-fail/by_the_gate.edit", b"file: src/lib.rt", True),
+    "others": ("more-edits/by_hand.edit", None, True),
+    "bare": ("src/lib.rt", b"another body", True),
+    "still": ("stdin", b"what a program reads", False),
+    "told": ("more-edits.md", b"what is beside", False),
+}
+
+
 def repository_of_edits(folder):
     made = Repository(folder)
     shutil.copy(TOP / "tools/try-edits", made.place / "tools/try-edits")
@@ -75,6 +98,68 @@ def edits_that_only_an_answer_refuses_are_named(repository):
     written, _, status = repository.run("tools/try-edits", "--jobs", "2", "one", "two")
     if status != 1 or not written.endswith(b"\n2 refused, 1 of them only at an answer file; 1 not refused or not tried\n"):
         raise Failed(f"it ends with {status} and writes {written}")
+
+
+def repository_with_a_change(folder):
+    """A repository in which each crate but one has an edit in each folder, a commit, and a change after it that isn't committed."""
+    if not shutil.which("git"):
+        raise Skipped("there is no git")
+    made = Repository(folder)
+    shutil.copy(TOP / "tools/try-edits", made.place / "tools/try-edits")
+    made.write("crates.txt", "".join(f"{crate}: thiserror\n" for crate in (*CHANGES, "lined", "gone")).encode())
+    for crate in (*CHANGES, "lined"):
+        for path in "src/lib.rt", "src/deep/body.rt", "specs/Words.antt":
+            made.write(f"crates/{crate}/{path}", b"body")
+        for edit in ("must-fail/by_the_gate", "more-edits/by_hand", "more-edits/kept") if crate != "bare" else ():
+            made.write(f"crates/{crate}/{edit}.edit", b"file: src/lib.rt\nold: body\nnew: other\n")
+    (made.bin / "python3").symlink_to(Path(sys.executable).resolve())
+    made.tool("git", 'exec git "$@"')
+    made.tool("cp", 'exec cp "$@"')
+    made.tool("rt", f"ROOM={made.home}\n{RT_THAT_REFUSES}")
+    commit = "git init -q && git add crates crates.txt && git -c user.name=a -c user.email=a@b commit -qm before && git tag before"
+    subprocess.run(["sh", "-c", commit], cwd=made.place, env=made.around(), check=True, stdin=subprocess.DEVNULL)
+    for crate, (path, content, _) in CHANGES.items():
+        if content is None:
+            (made.place / "crates" / crate / path).unlink()
+        else:
+            made.write(f"crates/{crate}/{path}", content)
+    text = made.place / "crates.txt"
+    text.write_text(text.read_text().replace("lined: thiserror", "lined: thiserror hex # as a comment").replace("gone: thiserror\n", ""))
+    return made
+
+
+def refusals_of(crate, *edits):
+    return "".join(f"rt: must-fail {crate}/{edit}.edit: {SAID['a_goal']}\n" for edit in edits)
+
+
+def the_edits_of_the_crates_that_a_change_touches_are_tried(repository):
+    every = ("by_hand", "by_the_gate", "kept")
+    touched = {crate: every for crate, (_, _, is_touched) in CHANGES.items() if is_touched and crate != "bare"}
+    touched = {**touched, "others": every[1:], "lined": every}
+    begin = "bare has no edits\nedits that are tried: " + ", ".join(f"{len(edits)} of {crate}" for crate, edits in touched.items())
+    end = f"\n{sum(map(len, touched.values()))} refused, 0 of them only at an answer file; 0 not refused or not tried\n"
+    said = "".join(refusals_of(crate, *edits) for crate, edits in touched.items())
+    ended = repository.run("tools/try-edits", "--jobs", "1", "--changed", "before")
+    expect(ended, (f"{begin}\n{said}{end[1:]}".encode(), b"", 0))
+    if int((repository.home / "priority").read_text()) != min(19, os.nice(0) + 10):
+        raise Failed("edits are tried at another priority")
+    written, told, status = repository.run("tools/try-edits", "--changed", "after")
+    if written or status != 1 or not told.startswith(b"try-edits: git show: "):
+        raise Failed(f"of a revision that there isn't it writes {written} and {told}, and ends with {status}")
+
+
+def crates_are_named_whether_or_not_they_have_edits(repository):
+    none = b"edits that are tried: none\n0 refused, 0 of them only at an answer file; 0 not refused or not tried\n"
+    expect(repository.run("tools/try-edits", "bare"), (b"bare has no edits\n" + none, b"", 0))
+    shutil.rmtree(repository.place / "crates/tried/more-edits")
+    written, _, status = repository.run("tools/try-edits", "tried")
+    said = f"edits that are tried: 1 of tried\n{refusals_of('tried', 'by_the_gate')}1 refused, "
+    if status or not written.startswith(said.encode()):
+        raise Failed(f"of a crate without more-edits it writes {written}, and ends with {status}")
+    for words in ("absent",), ("--changed", "before", "tried"):
+        written, told, status = repository.run("tools/try-edits", *words)
+        if (written, status) != (b"", 2):
+            raise Failed(f"at {words} it writes {written} and {told}, and ends with {status}")
 
 
 def misses_of(edit):
@@ -121,3 +206,5 @@ def scenes(_program):
     for call in each_edit_changes_what_stands_once, the_gate_tries_few_edits_and_those_are_listed:
         yield call.__name__.replace("_", " "), call
     yield from in_each(repository_of_edits, [edits_that_only_an_answer_refuses_are_named])
+    changing = [the_edits_of_the_crates_that_a_change_touches_are_tried, crates_are_named_whether_or_not_they_have_edits]
+    yield from in_each(repository_with_a_change, changing)
