@@ -4,13 +4,18 @@
 #
 # dist/programs lists the programs. The first of these that fits is run:
 #
-# - what was built here, crates/CRATE/out/CRATE, where none of its sources is newer;
-# - what is carried, dist/x86_64-linux/NAME, where dist/x86_64-linux/made-from has the sum of the sources that stand here and that
-#   of its bytes, and where it runs on this machine. Times would say nothing of it, since a checkout sets them all anew;
+# - what was built here, crates/CRATE/out/CRATE, where made-from beside it has the sum of the sources that stand here and that of
+#   its bytes;
+# - what is carried, dist/x86_64-linux/NAME, where dist/x86_64-linux/made-from has the same, and where programs that are carried
+#   run on this machine;
 # - what the kit then proves and builds. Standard error tells of each crate that is proved, with its number of all that the
 #   program stands on, and the time so far.
 #
-# A program's sources are crates.txt, and src, specs and proofs of each crate that it stands on.
+# Sums decide, and never times: a checkout sets them all anew, and a source that is put back may have an older one.
+#
+# A program's sources are crates.txt, and src, specs and proofs of each crate that it stands on. made-from beside what was built
+# has the line `NAME: sources SUM built SUM`, where NAME is that of the crate: the first sum is that of the sources as they stood
+# before the build began. It is written where they stood still until the build had ended.
 dist=dist/x86_64-linux
 record=$dist/made-from
 
@@ -48,9 +53,23 @@ find_sources() {
     done
 }
 
-# Whether a built program is there, and nothing of `sources` is newer.
+# Whether a built program is there, and is made of `sources` as they stand.
 is_current() {
-    [ -x "$top/$1" ] && [ -z "$(cd "$top" && find $sources -newer "$1" -print | head -n 1)" ]
+    [ -x "$top/$1" ] && read_record "${1%/*}/made-from" "${1##*/}" && [ -n "$of_sources" ] || return
+    [ "$of_built" = "$(sum_of_file "$1")" ] && [ "$of_sources" = "$(sum_of_sources)" ]
+}
+
+# What is told of `sources` before a build of them, and compared after it: their sum, and one of the times at which they changed
+# last, which tells also of a source that was edited and put back meanwhile, as far as stat tells times.
+moment() {
+    times=$({ cd "$top" && find $sources -type f -print0 | xargs -0 stat -c '%n %i %s %.Z' | LC_ALL=C sort; } 2>/dev/null | sha256sum)
+    echo "$(sum_of_sources) ${times%% *}"
+}
+
+# Writes what a program that was built here is made of, where its sources are those of the moment before it was built.
+keep_record() {
+    [ -x "$top/$1" ] && [ "$(moment)" = "$2" ] || return
+    echo "${1##*/}: sources ${2%% *} built $(sum_of_file "$1")" >"$top/${1%/*}/made-from"
 }
 
 sum_of_file() {
@@ -62,25 +81,32 @@ sum_of_sources() {
     sum=$(cd "$top" && find $sources -type f -exec sha256sum {} + | LC_ALL=C sort -k 2 | sha256sum) && echo "${sum%% *}"
 }
 
-# Sets what made-from has of a program: the sums of its sources, and of its bytes before and after they were stripped.
+# Sets what a file made-from has of a program: the sums of its sources, and of its bytes before and after they were stripped.
 read_record() {
     of_sources='' of_built='' of_carried=''
-    [ -r "$top/$record" ] || return
+    [ -r "$top/$1" ] || return
     while read -r word _ one _ two _ three; do
-        [ "$word" != "$1:" ] || of_sources=$one of_built=$two of_carried=$three
-    done <"$top/$record"
+        [ "$word" != "$2:" ] || of_sources=$one of_built=$two of_carried=$three
+    done <"$top/$1"
+}
+
+# Whether a carried program has the bytes that made-from says.
+is_as_carried() {
+    read_record "$record" "${1##*/}" && [ -n "$of_carried" ] && [ "$of_carried" = "$(sum_of_file "$1" 2>/dev/null)" ]
 }
 
 # Whether the carried program fits. Where it doesn't, `why` says so; it is empty where none is carried.
 fits() {
     why=''
-    [ -f "$top/$carried" ] && read_record "${carried##*/}" && [ -n "$of_sources" ] || return
+    [ -f "$top/$carried" ] && read_record "$record" "${carried##*/}" && [ -n "$of_sources" ] || return
     if [ "$(uname -sm)" != "Linux x86_64" ]; then
         why="the carried program is for Linux on x86-64"
     elif [ "$(sum_of_sources)" != "$of_sources" ]; then
         why="the carried program was made of other sources"
-    elif [ "$(sum_of_file "$carried")" != "$of_carried" ]; then
+    elif ! is_as_carried "$carried"; then
         why="the carried program has other bytes than $record says"
+    elif ! is_as_carried "$dist/hostext"; then
+        why="$dist/hostext, which shows whether the carried programs run here, has other bytes than $record says"
     elif ! [ -x "$top/$carried" ] || ! "$top/$dist/hostext" --version </dev/null >/dev/null 2>&1; then
         why="the carried program doesn't run here"
     else
@@ -99,11 +125,12 @@ find_kept() {
     esac
 }
 
-# The sum: the machine, and the times and sizes at each path. Where these can't be told no two sums are the same.
+# The sum: the machine, and the file, the times and the size at each path. It only says whether anything may have changed. Where
+# these can't be told no two sums are the same.
 state() {
     {
         uname -snm
-        cd "$top" && xargs -0 stat -c '%n %s %.Y %.Z' <"$kept.list" || date "+$$ %c"
+        cd "$top" && xargs -0 stat -c '%n %i %s %.Y %.Z' <"$kept.list" || date "+$$ %c"
     } 2>/dev/null | sha256sum
 }
 
@@ -125,7 +152,7 @@ list() {
     for place in $crates; do
         printf 'crates/%s\0' "$place"
     done
-    for place in "${built%/*}" "$built" dist dist/programs "$dist" "$record" "$carried" tools/programs.sh; do
+    for place in "${built%/*}" "$built" "${built%/*}/made-from" dist dist/programs "$dist" "$record" "$carried" tools/programs.sh; do
         [ ! -e "$top/$place" ] || printf '%s\0' "$place"
     done
 }
@@ -180,14 +207,16 @@ run_by_kit() {
     esac
 }
 
-# Whatever of a crate's proof was kept since it last changed, the kit doesn't do again. The program gets the time at which
-# this began, so that a source that is edited meanwhile is newer.
+# Whatever of a crate's proof was kept since it last changed, the kit doesn't do again. A program whose sources were edited
+# meanwhile gets no record, so that the next launch builds it anew.
 prove_and_build() {
     say "proving and building the program; the first time this takes long"
+    began=$(date +%s) before=$(moment)
     (
         cd "$top/crates/$crate" && run_by_kit </dev/null 2>&1
         echo "the kit ended with $?"
-    ) | follow && [ -x "$top/$built" ] && touch -r "$room/began" "$top/$built"
+    ) | follow && [ -x "$top/$built" ] || return
+    keep_record "$built" "$before" || true
 }
 
 # Waits until nobody else builds in this checkout. The lock goes with the last process that has the folder open. Without flock
@@ -206,8 +235,6 @@ build() {
         room=$(mktemp -d) || exit 125
         trap 'rm -rf "$room"' EXIT
         trap 'exit 125' HUP INT TERM
-        began=$(date +%s)
-        : >"$room/began"
         [ -z "$why" ] || say "$why"
         if ! prove_and_build; then
             tail -n 20 "$room/log" >&2

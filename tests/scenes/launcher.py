@@ -1,13 +1,13 @@
 """The launcher: which program it runs, what it tells while one is built, that it builds once and after an edit, what it does where
-nothing can be run, and what it costs. The kit is a script."""
+nothing can be run, that it runs nothing it hasn't compared, and what it costs. The kit is a script."""
 import os
 import shutil
+import subprocess
 import tempfile
-import time
 
 from scenes.devices import become_nobody
 from scenes.repositories import CARRIED, clone, end, in_each, small
-from scenes.running import TOP, VERSION, Failed, expect, shortened
+from scenes.running import SECONDS, TOP, VERSION, Failed, expect, shortened
 from scenes.sessions import the_first_session
 
 PROVES = r"""
@@ -43,7 +43,6 @@ def the_launcher_tells_each_crate_and_builds_once(repository):
     expect(repository.run("hostext", "a", "b c"), (b"a b c\n", BUILT_IT, 23))
     repository.tool("rt", "exit 1")
     expect(repository.run("hostext", "a"), (b"a\n", b"", 23))
-    time.sleep(0.01)
     repository.write("crates/beside/src/lib.rt", b"edited")
     shutil.rmtree(repository.home / ".cache")
     expect(repository.run("hostext", "a"), (b"a\n", b"", 23))
@@ -61,12 +60,46 @@ def a_build_that_fails_is_told_with_the_end_of_what_the_kit_says(repository):
         raise Failed(f"it tells {shortened(told)}, whose end isn't {shortened(last)}")
 
 
-def an_edit_while_it_builds_is_newer_than_the_program(repository):
-    repository.tool("rt", "sleep 0.05\necho edited >../low/src/lib.rt\nsleep 0.05\n" + BUILDS)
-    expect(repository.run("hostext"), (b"\n", BUILT_IT, 23))
+def after_an_edit_while_it_builds_it_builds_again(repository):
+    """Also where the edit is taken back, and the source has the time that it had."""
+    source = "../low/src/lib.rt"
+    put_back = f"cp -p {source} ../kept\necho edited >{source}\n{BUILDS}\ncp -p ../kept {source}"
+    for builds in f"echo edited >{source}\n{BUILDS}", put_back:
+        repository.tool("rt", builds)
+        repository.write("crates/low/src/lib.rt", builds.encode())
+        expect(repository.run("hostext"), (b"\n", BUILT_IT, 23))
+        repository.tool("rt", BUILDS)
+        expect(repository.run("hostext"), (b"\n", BUILT_IT, 23))
+        expect(repository.run("hostext"), (b"\n", b"", 23))
+
+
+def a_source_that_is_put_back_with_an_older_time_is_seen(repository):
+    source = repository.place / "crates/low/src/lib.rt"
     repository.tool("rt", BUILDS)
     expect(repository.run("hostext"), (b"\n", BUILT_IT, 23))
-    expect(repository.run("hostext"), (b"\n", b"", 23))
+    before = source.read_bytes()
+    for replaced in True, False:
+        if replaced:
+            source.unlink()
+        source.write_bytes(b"an older one, %d" % replaced)
+        os.utime(source, (0, 0))
+        expect(repository.run("hostext"), (b"\n", BUILT_IT, 23))
+        expect(repository.run("hostext"), (b"\n", b"", 23))
+    repository.build("ext_cli", ECHO)
+    source.write_bytes(before)
+    source.write_bytes(b"an older one, 0")
+    expect(repository.run("hostext", "a"), (b"carried a\n", b"", 0))
+
+
+def a_program_of_other_bytes_than_were_built_is_not_run(repository):
+    """As one that somebody built of other sources, which are those of before again."""
+    repository.tool("rt", BUILDS)
+    repository.build("ext_cli", ECHO)
+    repository.write("crates/ext_cli/out/ext_cli", ECHO.replace(b"carried", b"other"))
+    expect(repository.run("hostext"), (b"\n", BUILT_IT, 23))
+    repository.build("ext_cli", ECHO)
+    (repository.place / "crates/ext_cli/out/made-from").unlink()
+    expect(repository.run("hostext"), (b"\n", BUILT_IT, 23))
 
 
 def two_launches_at_once_build_once(repository):
@@ -80,14 +113,14 @@ def two_launches_at_once_build_once(repository):
         raise Failed("it was built twice")
 
 
-def the_built_program_goes_before_the_carried_one_where_it_is_newer(repository):
+def the_built_program_goes_before_the_carried_one_where_it_is_of_these_sources(repository):
     repository.carry("hostext", ECHO)
     carried = b"carried a\n", b"", 0
     expect(repository.run("hostext", "a"), carried)
-    built = repository.write("crates/ext_cli/out/ext_cli", b"#!/bin/sh\necho built\n")
-    os.utime(built, (0, 0))
+    script = b"#!/bin/sh\necho built\n"
+    repository.write("crates/ext_cli/out/ext_cli", script)
     expect(repository.run("hostext", "a"), carried)
-    os.utime(built)
+    os.utime(repository.build("ext_cli", script), (0, 0))
     expect(repository.run("hostext", "a"), (b"built\n", b"", 0))
 
 
@@ -140,11 +173,54 @@ def the_program_that_publishes_is_launched_by_the_same_rules(repository):
     shutil.rmtree(repository.place / "crates/ext_pubcli/out")
     (repository.bin / "rt").unlink()
     expect(repository.run("hostext_publish"), needs_the_kit(b"no program is carried here"))
-    repository.write(f"{CARRIED}/hostext", ECHO)
-    repository.carry("hostext_publish", ECHO)
+    carry_both(repository)
     expect(repository.run("hostext_publish", "a"), (b"carried a\n", b"", 0))
     repository.write("crates/ext_pubcli/src/main.rt", b"edited")
     expect(repository.run("hostext_publish", "a"), needs_the_kit(OTHER_SOURCES))
+
+
+def carry_both(repository):
+    for name in "hostext", "hostext_publish":
+        repository.carry(name, ECHO)
+
+
+def nothing_is_run_whose_sum_was_not_compared(repository):
+    """Neither to see whether carried programs run here."""
+    repository.write("crates/ext_pubcli/src/main.rt", b"publishes")
+    repository.write("crates.txt", b"low:\next_cli: low\next_pubcli: low\n")
+    carry_both(repository)
+    other = b"#!/bin/sh\necho ran >>%s/ran\n" % os.fsencode(repository.place)
+    repository.write(f"{CARRIED}/hostext", other)
+    expect(repository.run("hostext", "a"), needs_the_kit(OTHER_BYTES))
+    shows = b"dist/x86_64-linux/hostext, which shows whether the carried programs run here, has other bytes than dist/x86_64-linux/made-from says"
+    expect(repository.run("hostext_publish", "a"), needs_the_kit(shows))
+    carry_both(repository)
+    repository.write(f"{CARRIED}/hostext_publish", other)
+    expect(repository.run("hostext_publish", "a"), needs_the_kit(OTHER_BYTES))
+    if (repository.place / "ran").exists():
+        raise Failed("a program ran whose sum wasn't compared")
+
+
+def a_script_that_a_shell_reads_from_elsewhere_is_refused(repository):
+    """The folder in which it is called has what would be read by its name, and a file with the name of the shell."""
+    carry_both(repository)
+    elsewhere = repository.home / "elsewhere/tools"
+    elsewhere.mkdir(parents=True)
+    for folder in elsewhere, elsewhere.parent / "tools/tools":
+        folder.mkdir(exist_ok=True)
+        (folder / "programs.sh").write_text("echo ran\n")
+    for path in "hostext", "hostext_publish", "tools/program", "tools/carry":
+        for folder in elsewhere.parent, elsewhere:
+            (folder / "sh").touch()
+            with open(repository.place / path, "rb") as script:
+                child = subprocess.run(["sh"], stdin=script, cwd=folder, env=repository.around(), capture_output=True, timeout=SECONDS)
+            name = path.replace("_publish", "").removeprefix("tools/").encode()
+            told = b"%s: it can't tell where it stands: call it by its path\n" % name
+            expect((child.stdout, child.stderr, child.returncode), (b"", told, 125))
+    link = repository.home / "link"
+    link.symlink_to(repository.place / "hostext")
+    child = subprocess.run([link, "a"], cwd=repository.home, env=repository.around(), capture_output=True, timeout=SECONDS)
+    expect((child.stdout, child.stderr, child.returncode), (b"carried a\n", b"", 0))
 
 
 NAMES_ITSELF = VERSION, b"", 0
@@ -190,7 +266,7 @@ def a_clone_with_a_changed_source_builds(repository):
     expect(repository.run("hostext", "--version"), NAMES_ITSELF)
     source.with_name("more.rt").touch()
     expect(repository.run("hostext", "--version"), needs_the_kit(OTHER_SOURCES))
-    repository.tool("rt", 'mkdir out; printf "#!/bin/sh\\necho built\\n" >out/ext_cli; chmod 755 out/ext_cli')
+    repository.tool("rt", 'mkdir -p out; printf "#!/bin/sh\\necho built\\n" >out/ext_cli; chmod 755 out/ext_cli')
     told = b"hostext: %s\n%shostext: built (TIME)\n" % (OTHER_SOURCES, BEGINS)
     expect(repository.run("hostext", "--version"), (b"built\n", told, 0))
 
@@ -234,8 +310,10 @@ def a_launch_costs_little_beside_the_program(repository):
 
 IN_A_SMALL_ONE = [
     *(the_launcher_tells_each_crate_and_builds_once, a_build_that_fails_is_told_with_the_end_of_what_the_kit_says),
-    *(an_edit_while_it_builds_is_newer_than_the_program, two_launches_at_once_build_once),
-    *(the_built_program_goes_before_the_carried_one_where_it_is_newer, without_the_kit_two_lines_say_what_is_needed),
+    *(after_an_edit_while_it_builds_it_builds_again, two_launches_at_once_build_once),
+    *(a_source_that_is_put_back_with_an_older_time_is_seen, a_program_of_other_bytes_than_were_built_is_not_run),
+    *(the_built_program_goes_before_the_carried_one_where_it_is_of_these_sources, without_the_kit_two_lines_say_what_is_needed),
+    *(nothing_is_run_whose_sum_was_not_compared, a_script_that_a_shell_reads_from_elsewhere_is_refused),
     *(the_program_has_the_input_and_the_folder_of_the_launch, on_another_machine_it_builds),
     *(without_a_tool_that_tells_times_it_looks_each_time, the_program_that_publishes_is_launched_by_the_same_rules),
 ]

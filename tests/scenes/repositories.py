@@ -13,7 +13,7 @@ from pathlib import Path
 
 from scenes.running import SECONDS, TOP, Skipped
 
-TOOLS = "awk date find flock head mkdir mktemp readlink rm sh sha256sum sort stat tail touch uname xargs".split()
+TOOLS = "awk date find flock mkdir mktemp readlink rm sh sha256sum sort stat tail uname xargs".split()
 PARTS = "src", "specs", "proofs"
 CARRIED = "dist/x86_64-linux"
 
@@ -34,7 +34,7 @@ class Repository:
             if not found:
                 raise Skipped(f"there is no {tool}")
             (self.bin / tool).symlink_to(found)
-        for path in ("hostext", "hostext_publish", "tools/programs.sh", "tools/carry", "tools/program", "dist/programs"):
+        for path in ("hostext", "hostext_publish", "tools/programs.sh", "tools/carry", "tools/exchange.py", "tools/program", "dist/programs"):
             shutil.copy(TOP / path, self.place / path)
 
     def tool(self, name, lines):
@@ -82,8 +82,16 @@ class Repository:
     def carry(self, name, content):
         """Carries a program that was made of the sources as they are now."""
         self.write(f"{CARRIED}/{name}", content)
+        record = self.place / CARRIED / "made-from"
+        others = record.read_text().splitlines(keepends=True) if record.exists() else []
         line = f"{name}: sources {self.sum_of_sources(self.programs()[name])} built - carried {digest(content)}\n"
-        self.write(f"{CARRIED}/made-from", line.encode())
+        record.write_text("".join([*(other for other in others if not other.startswith(f"{name}:")), line]))
+
+    def build(self, crate, content):
+        """A program that was built of the sources as they are now."""
+        line = f"{crate}: sources {self.sum_of_sources(crate)} built {digest(content)}\n"
+        self.write(f"crates/{crate}/out/made-from", line.encode())
+        return self.write(f"crates/{crate}/out/{crate}", content)
 
 
 def end(child):
