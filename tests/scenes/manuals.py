@@ -294,7 +294,8 @@ def what_the_manual_has_besides_is_told(program):
     is_told(check_refusals, COMMANDS, "none\\-on", "none\\-off")
     is_told(check_orders, COMMANDS, "Refused by 8, 4 and 7", "Refused by 4, 8 and 7")
     is_told(check_publishing, PUBLISHING, "out\\-kind", "out\\-kinds")
-    is_told(check_publishing, PUBLISHING, "-help", "-version")
+    is_told(check_publishing, PUBLISHING, "-help", "-helps")
+    is_told(check_publishing, PUBLISHING, "-version", "-versions")
     is_told(check_transfers, FORMATS, "&%a", "&%b")
     is_told(check_images, FORMATS, "/var/lib/confexts", "/var/lib/confext")
 

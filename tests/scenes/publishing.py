@@ -15,13 +15,13 @@ import time
 from scenes.devices import become_nobody
 from scenes.locks import ended, locked, waits
 from scenes.reasons import EXPLAIN, SEE, explains
-from scenes.running import ABC, EMPTY, SECONDS, Failed, Skipped, expect, named, publisher, run, shortened, tree_text
+from scenes.running import ABC, EMPTY, SECONDS, VERSION, Failed, Skipped, expect, named, publisher, run, shortened, tree_text
 from scenes.stores import DONE, Place, digest, in_a_place, left_overs, what_stands
 from scenes.uses import tree_of
 
 HELP = b"hostext_publish STORE OUT ABS RES NAME\n"
 WORDS = "the words are ABS RES NAME, where ABS begins with a slash, RES is a path without one, and NAME is a name that doesn't end in .tree"
-CALL = "it is called as hostext_publish STORE OUT ABS RES NAME, or with --help alone"
+CALL = "it is called as hostext_publish STORE OUT ABS RES NAME, or with --help or --version alone"
 CLASH = "one of STORE and OUT is the other or stands below it: publishing would write into the store, or a web server serve it"
 KILLS, FILES = 200, 200
 SUMS, NEXT = "SHA256SUMS", "SHA256SUMS.next"
@@ -420,19 +420,20 @@ def words_that_ask_nothing_are_usage(site, place):
         reason = f"{WORDS}: one is missing" if word is None else f"{WORDS}: not `{word}`"
         explains(site.told(*words), f"usage {number}", reason, 2)
         explains(site.told(*words, store="gone", out="gone"), f"usage {number}", reason, 2)
-    for words in [], ["--version"], ["--help", ""], [b"\xff", b"x", b"/usr", b"r", b"x"]:
+    for words in [], ["--versions"], ["--help", ""], ["--version", "--help", "/usr", "r", "x.tree"], [b"\xff", b"x", b"/usr", b"r", b"x"]:
         child = subprocess.run([site.program, *words], env=without_explaining(), capture_output=True, timeout=SECONDS)
         expect((child.stdout, child.stderr, child.returncode), (b"", b"hostext: usage 1\n", 2))
-    for words in [], ["--version"]:
+    for words in [], ["--versions"]:
         child = subprocess.run([site.program, *words], env=EXPLAIN, capture_output=True, timeout=SECONDS)
         explains((child.stderr.decode().splitlines(), child.returncode), "usage 1", CALL, 2)
     holds(site.out, {})
 
 
-def the_help_is_one_line(site, _place):
-    expect(run(site.program, [b"--help"]), (HELP, b"", 0))
-    with open("/dev/full", "wb") as full:
-        expect(run(site.program, [b"--help"], stdout=full)[1:], (b"hostext: write fault\n", 4))
+def the_help_is_one_line_and_the_version_that_of_the_other_program(site, _place):
+    for word, wanted in (b"--help", HELP), (b"--version", b"hostext_publish" + VERSION.removeprefix(b"hostext")):
+        expect(run(site.program, [word]), (wanted, b"", 0))
+        with open("/dev/full", "wb") as full:
+            expect(run(site.program, [word], stdout=full)[1:], (b"hostext: write fault\n", 4))
 
 
 # Faults.
@@ -566,7 +567,7 @@ CALLS = [
     *(what_an_earlier_run_left_goes_and_all_else_stays, everybody_may_read_what_is_published_and_nobody_else_the_store),
     *(modes_are_what_the_umask_leaves, the_store_is_shared_and_out_is_for_one_run_alone, runs_that_are_started_together_are_all_listed),
     *(refusals_come_in_their_order, a_manifest_that_would_be_too_long_is_refused, what_fits_a_path_is_published),
-    *(one_folder_in_the_other_is_usage, words_that_ask_nothing_are_usage, the_help_is_one_line, each_device_that_fails_is_told),
+    *(one_folder_in_the_other_is_usage, words_that_ask_nothing_are_usage, the_help_is_one_line_and_the_version_that_of_the_other_program, each_device_that_fails_is_told),
     *(a_folder_that_cannot_be_written_is_told, a_full_file_system_leaves_the_old_manifest, more_left_overs_than_one_run_removes_take_two),
     the_reason_is_told_to_a_terminal,
     a_kill_at_any_moment_leaves_the_old_manifest_or_the_new_one,

@@ -13,7 +13,8 @@ COMPARE = [b".", b".", b"compare"]
 MOST_ENTRIES = 262_144
 
 # What `--version` writes.
-VERSION = b"hostext 0.2.0\nproved with rattle-kit-13f logic dac8208d650f15bf\n"
+LICENCES = b"SPDX-License-Identifier: MIT OR Apache-2.0\n"
+VERSION = b"hostext 0.2.0\nproved with rattle-kit-13f logic dac8208d650f15bf\n" + LICENCES
 
 # The digests of no byte, and of `abc`.
 EMPTY = "e3b0c44298fc1c149afbf4c8996fb92427ae41e4649b934ca495991b7852b855"

@@ -1,8 +1,9 @@
 // What `--help` and `--version` print.
 
-/// The version, and the kit that the program is proved with, as README and dist/x86_64-linux/made-from have it.
+/// The version; the kit that the program is proved with, as README and dist/x86_64-linux/made-from have it; and the licences.
 pub(crate) const VERSION: &str = "hostext 0.2.0
-proved with rattle-kit-13f logic dac8208d650f15bf";
+proved with rattle-kit-13f logic dac8208d650f15bf
+SPDX-License-Identifier: MIT OR Apache-2.0";
 
 pub(crate) const HELP: &str = "usage: hostext STORE DEPOT COMMAND ..
 

@@ -10,6 +10,7 @@
 
 mod ending;
 mod folders;
+mod help;
 mod reasons;
 
 use ending::report;
@@ -20,11 +21,9 @@ use ext_published::{AskErr, read_words};
 use ext_reasons::{Ending, WaitingLine, faulty, lock};
 use ext_text::{OutOfMemory, Text, Words};
 use folders::nesting_between;
+use help::{HELP, VERSION};
 use std::process::ExitCode;
 use std::{env, io};
-
-// What `--help` writes, without the newline.
-const HELP: &str = "hostext_publish STORE OUT ABS RES NAME";
 
 fn main(rt: HostRuntime) -> ExitCode {
     let ending = outcome(&rt);
@@ -50,17 +49,22 @@ fn outcome(rt: &HostRuntime) -> Ending<PubStatus> {
 fn ending_of(rt: &HostRuntime, arguments: env::Args) -> Result<Ending<PubStatus>, OutOfMemory> {
     let arguments = arguments.collect::<Vec<String>>(rt.alloc())?;
     match arguments.as_slice() {
-        [_program, only] if only.as_str() == "--help" => Ok(help(rt)),
+        [_program, only] => lone_option(rt, only.as_str()),
         [_program, store, out, words @ ..] => run_words(rt, store, out, words),
         _ => reasons::without_folders(rt.alloc()),
     }
 }
 
-// Writes how the program is called.
-fn help(rt: &HostRuntime) -> Ending<PubStatus> {
-    match rt.println(HELP) {
-        Ok(()) => Ending::of(PubStatus::Done),
-        Err(_) => Ending::of(PubStatus::WriteFault),
+// What a lone argument asks for.
+fn lone_option(rt: &HostRuntime, argument: &str) -> Result<Ending<PubStatus>, OutOfMemory> {
+    let printed = match argument {
+        "--help" => rt.println(HELP),
+        "--version" => rt.println(VERSION),
+        _ => return reasons::without_folders(rt.alloc()),
+    };
+    match printed {
+        Ok(()) => Ok(Ending::of(PubStatus::Done)),
+        Err(_) => Ok(Ending::of(PubStatus::WriteFault)),
     }
 }
 

@@ -16,7 +16,7 @@ const WORDS: &str =
 pub(crate) fn without_folders(alloc: Global) -> Result<Ending<PubStatus>, OutOfMemory> {
     let reason = allocated(String::from_str(
         alloc,
-        "it is called as hostext_publish STORE OUT ABS RES NAME, or with --help alone",
+        "it is called as hostext_publish STORE OUT ABS RES NAME, or with --help or --version alone",
     ))?;
     Ok(Ending::because(PubStatus::Usage { place: 1 }, reason))
 }
