@@ -1,9 +1,8 @@
 """The documents beside the sources: that what the sources have stands in the documents. The files are read as texts, by their lines
 and words, and nothing of them is proved or built."""
-import hashlib
 import re
 
-from scenes.running import LICENCES, TOP, Failed, named, publisher, run
+from scenes.running import TOP, Failed, named, run
 
 # A line that makes names of definitions known, as `ghost use Rattle.ext_text.specs.Path.{IsPath, path_text as text};`.
 GHOST_USE = re.compile(r"ghost use Rattle\.(ext_\w+)\.specs\.([A-Z]\w*)\.\{([^}]*)\};")
@@ -15,9 +14,6 @@ BEGINNINGS = re.compile(
     re.M,
 )
 CLAUSE = re.compile(r"\b(?:requires|ensures)\b[^{]*\{")
-# The text of the Apache License 2.0, word for word.
-APACHE = "cfc7749b96f63bd31c3c42b5c471bf756814053e847c10f3eb003417bc523d30"
-HOLDERS = "Copyright 2026 The hostext authors"
 
 
 class Sources:
@@ -347,18 +343,6 @@ def check_kit(sources, written):
     nothing_is_missing(f"--version names `{kit}`, and not the kit of", {path for path, line in lines.items() if line not in sources.text(path)})
 
 
-def check_licences(sources):
-    """The two texts, and the section of README: it leads to both, ends with their names, and names each crate of the kit."""
-    if hashlib.sha256(sources.text("LICENSE-APACHE").encode()).hexdigest() != APACHE:
-        raise Failed("LICENSE-APACHE has another text")
-    told = section(sources.text("README.md"), "Licence").strip()
-    crates = {name for line in sources.text("crates.txt").splitlines() if line[:1].isalpha() for name in line.partition(":")[2].split()}
-    wanted = {HOLDERS, "(LICENSE-MIT)", "(LICENSE-APACHE)", *(f"`{name}`" for name in crates - set(crates_of(sources)))}
-    nothing_is_missing("README.md has nothing of the licence for", {words for words in wanted if words not in told})
-    if not told.endswith(f"\n\n{LICENCES.decode().strip()}") or f"\n\n{HOLDERS}\n\n" not in sources.text("LICENSE-MIT"):
-        raise Failed("the names of the licences, or their holders, stand elsewhere")
-
-
 def help_of(program):
     return run(program, [b"--help"])[0].decode()
 
@@ -387,15 +371,6 @@ def the_version_names_the_kit_of_the_documents(program):
     for path, begin in ("README.md", "Proved with: "), ("dist/x86_64-linux/made-from", "kit: "):
         if (TOP / path).exists():
             is_missed(check_kit, path, begin, written)
-
-
-def the_licences_are_those_that_the_programs_name(program):
-    for one in program, publisher():
-        if not run(one, [b"--version"])[0].endswith(b"\n" + LICENCES):
-            raise Failed(f"{one} names other licences")
-    check_licences(Sources())
-    for path, begin in ("README.md", "Copyright"), ("README.md", "SPDX"), ("README.md", "Its programs"), ("LICENSE-MIT", "Copyright"), ("LICENSE-APACHE", "   END OF"):
-        is_missed(check_licences, path, begin)
 
 
 def each_decision_begins_with_a_question(_program):
@@ -442,6 +417,5 @@ def a_row_that_is_taken_away_is_missed(program):
 
 scenes = named(
     *(each_definition_that_a_contract_cites_is_on_a_row, each_crate_is_in_the_map_and_on_its_floor, each_refusal_status_and_command_is_told),
-    *(the_version_names_the_kit_of_the_documents, the_licences_are_those_that_the_programs_name),
-    *(each_decision_begins_with_a_question, a_row_that_is_taken_away_is_missed),
+    *(the_version_names_the_kit_of_the_documents, each_decision_begins_with_a_question, a_row_that_is_taken_away_is_missed),
 )
