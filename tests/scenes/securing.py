@@ -57,6 +57,13 @@ def what_is_published_is_said_to_be_public_at_once(_program):
             raise Failed(f"{path} doesn't say at once that what is published is public")
 
 
+def readme_says_at_once_what_changes_and_what_entries_have(_program):
+    first = Sources().text("README.md").split("\n\n")[1]
+    for words in "changes nothing on the machine that it runs on", "modes, bytes or targets, and no owners, no times and no attributes":
+        if words not in first:
+            raise Failed(f"the first paragraph of README.md doesn't say {words!r}")
+
+
 def check_licences(sources):
     """The two texts, and the section of README: it leads to both, ends with their names, and names each crate of the kit."""
     if hashlib.sha256(sources.text("LICENSE-APACHE").encode()).hexdigest() != APACHE:
@@ -170,6 +177,7 @@ STORES = [
 ]
 DOCUMENTS = named(
     *(each_row_of_security_names_what_shows_it, what_is_published_is_said_to_be_public_at_once),
+    readme_says_at_once_what_changes_and_what_entries_have,
     *(the_licences_are_those_that_the_programs_name, the_licences_are_those_that_readme_names),
 )
 OF_STORES = named(*map(in_a_place, STORES))
