@@ -57,11 +57,12 @@ _hostext_quote() {
     done
 }
 
-# Replies those of the texts that begin with the word.
+# Replies those of the texts that begin with the word. A control byte can't be quoted in a way that readline leaves alone: a newline
+# would end the line, and what is after it would be run.
 _hostext_reply() {
     local word=${words[-1]} text quoted
     for text; do
-        [[ $text == "$word"* ]] || continue
+        [[ $text == "$word"* && $text != *[[:cntrl:]]* ]] || continue
         _hostext_quote "${text:shared}"
         COMPREPLY+=("$quoted")
     done
@@ -90,14 +91,14 @@ _hostext_entries() {
         /^[dofl] / && name !~ /\// { print ($1 == "o" ? "d" : $1), name }'
 }
 
-# Replies the paths of the store that are of one of the kinds. A directory is also the way to what is in it.
+# Replies the paths of the store that are of one of the kinds. A directory is also the way to what is in it. No path ends in a slash.
 _hostext_paths() {
     local folder=${words[-1]%/*} line kind name
     [[ $folder != */ ]] || return
     while IFS= read -r line; do
         kind=${line%% *} name=${line#* }
         case $kind in
-            d) [[ $1 == *d* ]] && _hostext_reply "$folder/$name" || _hostext_reply "$folder/$name/" ;;
+            d) _hostext_reply "$folder/$name" ;;
             *) [[ $1 != *"$kind"* ]] || _hostext_reply "$folder/$name" ;;
         esac
         [[ $kind != d || $folder/$name != "${words[-1]}"* ]] || _hostext_option -o nospace

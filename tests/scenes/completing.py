@@ -127,12 +127,12 @@ def each_word_of_a_command_is_offered(place, folder):
 def paths_of_the_store_are_offered_by_their_kinds(place, folder):
     offered(
         folder,
-        *((f"hostext s d {command} /", wanted) for command, wanted in (("cat", ["/etc/", "/usr/"]), ("tree", ["/etc", "/usr"]), ("remove", ["/etc", "/usr"]))),
-        ("hostext s d cat ", ["/etc/", "/usr/"]),
-        ("hostext s d cat /usr/s", ["/usr/sub/"]),
+        *((f"hostext s d {command} /", wanted) for command, wanted in (("cat", ["/etc", "/usr"]), ("tree", ["/etc", "/usr"]), ("remove", ["/etc", "/usr"]))),
+        ("hostext s d cat ", ["/etc", "/usr"]),
+        ("hostext s d cat /usr/s", ["/usr/sub"]),
         ("hostext s d tree /usr/s", ["/usr/sub"]),
         ("hostext s d remove /usr/s", ["/usr/sub", "/usr/sublink"]),
-        ("hostext s d cat /usr/sub/", ["/usr/sub/dir/", "/usr/sub/dirt"]),
+        ("hostext s d cat /usr/sub/", ["/usr/sub/dir", "/usr/sub/dirt"]),
         ("hostext s d remove /usr/sub/d", ["/usr/sub/dir", "/usr/sub/dirt"]),
         ("hostext s d import-fs host /usr/", ["/usr/sub"]),
         *((f"hostext s d {words}", []) for words in ("cat /gone/", "cat /usr/sub/dirt/", "cat usr", "cat //", "cat /usr /")),
@@ -238,10 +238,40 @@ def paths_and_folders_for_publishing_are_offered(place, folder):
     )
 
 
+def make_hostile(place):
+    """A depot, made by hand, whose names would end a line and begin another. No store has such names."""
+    for name in "x\nplanted", "y\rplanted", "z\x1b[2J", "\nplanted":
+        (place.depot / f"{name}.tree").write_bytes(b"hostext-tree 1\nend\n")
+        (place.depot / "images" / name).mkdir()
+
+
+def names_with_control_bytes_are_not_offered(place, folder):
+    make_hostile(place)
+    offered(
+        folder,
+        ("hostext s d import-fs ", ["host", "images/", "other:x"]),
+        ("hostext s d import-fs images/", ["images/tool\\ 1", "images/tool\\$2"]),
+        *((f"hostext s d import-fs {begun}", []) for begun in ("x", "'x", '"y', "z")),
+        ("hostext_publish s d /usr images/", []),
+    )
+
+
+def nothing_of_a_name_is_run(place, folder):
+    """A word is completed, and the line is run as it then stands."""
+    make_hostile(place)
+    (folder / "bin/planted").write_text("#!/bin/sh\ntouch ran\n")
+    (folder / "bin/planted").chmod(0o755)
+    with in_bash(folder) as shell:
+        for begun in "x", "y":
+            shell.run(f"false && hostext s d import-fs {begun}\t")
+    if (folder / "ran").exists():
+        raise Failed("a part of a name was run")
+
+
 def the_store_may_stand_in_quotes_a_variable_or_the_home(place, folder):
     (folder / "my $t").symlink_to("store")
     for store in "'my $t'", '"my \\$t"', "my\\ \\$t", "~/s", "$HOME/s", "${HOME}/s", '"$HOME/s"', f"{folder}/s":
-        offered(folder, (f"hostext {store} d cat /usr/s", ["/usr/sub/"]))
+        offered(folder, (f"hostext {store} d cat /usr/s", ["/usr/sub"]))
     for store in "$(touch ran; echo s)", "`touch ran; echo s`":
         offered(folder, (f"hostext {store} d cat /usr/s", []))
     if (folder / "ran").exists():
@@ -261,7 +291,7 @@ def a_store_that_is_none_or_is_locked_is_not_waited_for(place, folder):
     handle = os.open(place.store, os.O_RDONLY)
     try:
         fcntl.flock(handle, fcntl.LOCK_EX)
-        offered(folder, ("hostext s d cat /usr/s", ["/usr/sub/"]))
+        offered(folder, ("hostext s d cat /usr/s", ["/usr/sub"]))
     finally:
         os.close(handle)
 
@@ -362,7 +392,7 @@ def each_name_is_completed(shell):
 def the_words_around_are_completed(shell):
     """Folders, commands, directories on the way, resources and components: each line is done once the words are completed."""
     shows(shell, "hostext sto\t dep\t che\t", "ok ")
-    shows(shell, "hostext s d ca\t /us\tsu\tdir/\t", "file")
+    shows(shell, "hostext s d ca\t /us\t/su\t/dir/\t", "file")
     shows(shell, "hostext s d tr\t /usr/su\t", "hostext-tree 1")
     shows(shell, "hostext s d import-fs im\ttool\\ \t /sr", "done")
     shows(shell, "hostext s d sysext st\t", "unmerged")
@@ -404,7 +434,8 @@ def zsh_waits_for_no_store(place, folder):
 
 CALLS = [
     *(each_word_of_a_command_is_offered, paths_of_the_store_are_offered_by_their_kinds, names_are_quoted_as_the_word_was_begun),
-    *(resources_of_the_depot_and_components_are_offered, versions_that_an_update_may_install_are_offered, images_of_portable_services_are_offered_by_their_states, paths_and_folders_for_publishing_are_offered, the_store_may_stand_in_quotes_a_variable_or_the_home),
+    *(resources_of_the_depot_and_components_are_offered, versions_that_an_update_may_install_are_offered, images_of_portable_services_are_offered_by_their_states, paths_and_folders_for_publishing_are_offered),
+    *(names_with_control_bytes_are_not_offered, nothing_of_a_name_is_run, the_store_may_stand_in_quotes_a_variable_or_the_home),
     *(a_store_that_is_none_or_is_locked_is_not_waited_for, a_program_that_does_not_end_is_not_waited_for),
     *(bash_completes_on_a_terminal, zsh_completes_on_a_terminal, zsh_waits_for_no_store),
 ]
