@@ -1,4 +1,8 @@
-"""Manifests and tree texts, read by the rules of docs/FORMATS.md: what they list, or the first faulty line, counted from 1."""
+"""Manifests and tree texts, read by the rules of docs/FORMATS.md: what they list, or the first faulty line, counted from 1.
+
+A text is read line by line, and no list of its lines is made: of short lines that would take a hundred times the text's bytes.
+"""
+import io
 import re
 
 from entries import MOST_ENTRIES, MOST_FILE_BYTES, MOST_TARGET_BYTES, Refused, check_path, check_text
@@ -36,9 +40,8 @@ def listed_of(line):
 
 
 def lines_of(text):
-    """The lines of a text whose last one may lack its newline."""
-    lines = text.split(b"\n")
-    return lines if lines[-1] else lines[:-1]
+    """The lines of a text, of which the last one may lack its newline."""
+    return (line.removesuffix(b"\n") for line in io.BytesIO(text))
 
 
 def read_manifest(text):
@@ -105,31 +108,48 @@ class Order:
             raise Refused("version 2 has an opaque directory or a whiteout")
 
 
-def read_entries(lines, order):
-    """The entries of these lines up to an `end`."""
-    found = []
+def whole_lines_of(text):
+    """The lines of a text that end in a newline."""
+    return (line[:-1] for line in io.BytesIO(text) if line.endswith(b"\n"))
+
+
+def entries_in(text):
+    """The entries of a tree text, one after another: of each the kind, its fields, and the path's names."""
+    lines = whole_lines_of(text)
+    header = HEADER.fullmatch(next(lines, b""))
+    if not header:
+        raise Faulty(1, "it is not the first line of a tree text")
+    order, at = Order(header[1]), 1
     for at, line in enumerate(lines, 2):
-        try:
-            if line == b"end":
-                order.end()
-                return found
-            entry = entry_of(line)
-            order.take(entry[0], entry[2])
-        except Refused as reason:
-            raise Faulty(at, reason) from None
-        if len(found) == MOST_ENTRIES:
-            raise Faulty(at, f"a tree has at most {MOST_ENTRIES:,} entries")
-        found.append(entry)
-    raise Faulty(len(lines) + 2, "the text stops early")
+        if line == b"end":
+            end_at(at, order)
+            break
+        yield entry_at(at, line, order)
+    else:
+        raise Faulty(at + 1, "the text stops early")
+    if not text.endswith(b"\nend\n") or next(lines, None) is not None:
+        raise Faulty(at + 1, "something follows the end")
+
+
+def end_at(at, order):
+    try:
+        order.end()
+    except Refused as reason:
+        raise Faulty(at, reason) from None
+
+
+def entry_at(at, line, order):
+    """The entry of a line, whose number is two more than that of the entries before it."""
+    try:
+        entry = entry_of(line)
+        order.take(entry[0], entry[2])
+    except Refused as reason:
+        raise Faulty(at, reason) from None
+    if at - 2 == MOST_ENTRIES:
+        raise Faulty(at, f"a tree has at most {MOST_ENTRIES:,} entries")
+    return entry
 
 
 def read_tree(text):
-    """The entries of a tree text: of each the kind, its fields, and the path's names."""
-    *lines, rest = text.split(b"\n")
-    header = HEADER.fullmatch(lines[0] if lines else b"")
-    if not header:
-        raise Faulty(1, "it is not the first line of a tree text")
-    found = read_entries(lines[1:], Order(header[1]))
-    if rest or len(lines) > len(found) + 2:
-        raise Faulty(len(found) + 3, "something follows the end")
-    return found
+    """The entries of a tree text in a list."""
+    return list(entries_in(text))

@@ -3,17 +3,28 @@
 Bytes are asked for as they stand, and never compressed. Where an answer breaks off, the next request asks for the rest. A server that
 fails, or that can't be reached, is asked a few times more. No answer is read beyond its limit by more than a byte, and a redirect
 leads to no other scheme.
+
+No server holds a request for ever. Its answer has to begin in time, after a few answers of 1xx at the most, and what is asked for
+has to come at a least rate, in however many answers.
 """
 import base64
+import functools
 import http.client
+import io
 import re
+import socket
 import ssl
 import time
 from urllib import parse, request
 
 from entries import Refused, shown
 
+# How long a call on a connection may take, and an answer until its head is whole.
 SECONDS = 30
+# The bytes of a body that have to come in each span of so many seconds, but for the last one.
+SPAN, LEAST = 60, 61_440
+# How many heads an answer may have, each but the last of an answer of 1xx, and how many bytes may come without a piece of a body.
+MOST_HEADS, MOST_AROUND = 16, 1_048_576
 PIECE = 65_536
 MOST_REDIRECTS = 5
 REDIRECTS = {301, 302, 303, 307, 308}
@@ -23,6 +34,7 @@ FAULTS = OSError, UnicodeError, http.client.HTTPException
 # The seconds before each further request, where the one before brought nothing.
 WAITS = 0, 1, 2, 4
 RANGE = re.compile(r"bytes ([0-9]+)-[0-9]+/(?:[0-9]+|\*)")
+SCHEME = re.compile(r"[A-Za-z][A-Za-z0-9+.-]*://")
 PORTS = {"http": 80, "https": 443}
 
 
@@ -32,6 +44,90 @@ class Unreached(Refused):
 
 class Broken(Exception):
     """A request that failed where the next one may go through."""
+
+
+class Slow(Exception):
+    """What is asked for comes at less than the least rate."""
+
+
+class Pace:
+    """How long the next bytes may take. It goes on from one answer to the next of what is asked for, and counts bodies alone."""
+
+    def begin(self):
+        """Something else is asked for."""
+        self.since, self.count = time.monotonic(), 0
+        self.head_by, self.around = None, 0
+
+    def wait_for_head(self):
+        self.head_by, self.around = time.monotonic() + SECONDS, 0
+
+    def has_head(self):
+        self.head_by = None
+
+    def has_piece(self):
+        self.around = 0
+
+    def left(self, until):
+        """The seconds to the next moment at which something has to have come, of which the last is given."""
+        now = time.monotonic()
+        if now >= self.since + SPAN:
+            if self.count < LEAST:
+                raise Slow
+            self.since, self.count = now, 0
+        if self.head_by and now >= self.head_by:
+            raise TimeoutError("the head of the answer takes too long")
+        return max(0.001, min(until, self.since + SPAN, self.head_by or until) - now)
+
+    def add(self, count):
+        self.around += count
+        if self.head_by is None:
+            self.count += count
+        if self.around > MOST_AROUND:
+            raise http.client.HTTPException("the answer has too much beside its body")
+
+
+class Paced(io.RawIOBase):
+    """What comes over a connection, as fast as the pace wants it."""
+
+    def __init__(self, plain, connection, pace):
+        self.plain, self.connection, self.pace = plain, connection, pace
+
+    def readable(self):
+        return True
+
+    def readinto(self, buffer):
+        until = time.monotonic() + SECONDS
+        while True:
+            self.connection.settimeout(self.pace.left(until))
+            try:
+                count = self.connection.recv_into(buffer)
+                break
+            except socket.timeout:
+                if time.monotonic() >= until:
+                    raise
+        self.pace.add(count)
+        return count
+
+    def close(self):
+        super().close()
+        self.plain.close()
+
+
+class Answer(http.client.HTTPResponse):
+    """An answer that is read at a pace."""
+
+    def __init__(self, connection, *words, pace, **named):
+        super().__init__(connection, *words, **named)
+        # the object that it reads by keeps the connection open, and so stays
+        self.fp = io.BufferedReader(Paced(self.fp.detach(), connection, pace))
+        self.heads = 0
+
+    def _read_status(self):
+        """Each answer of 100 is passed over by a further call of this."""
+        self.heads += 1
+        if self.heads > MOST_HEADS:
+            raise http.client.HTTPException(f"more than {MOST_HEADS - 1} answers come before the one that was asked for")
+        return super()._read_status()
 
 
 class Text:
@@ -73,10 +169,21 @@ def proxy_of(parts):
     named = request.getproxies().get(parts.scheme)
     if not named or request.proxy_bypass(parts.netloc):
         return None
-    proxy = parse.urlsplit(named if "://" in named else f"http://{named}")
-    if proxy.scheme != "http" or not proxy.hostname:
-        raise Refused(f"the proxy {shown(named)} is none by http")
+    try:
+        proxy = parse.urlsplit(named if "://" in named else f"http://{named}")
+        is_one = proxy.scheme == "http" and proxy.hostname and proxy.port != 0
+    except ValueError:
+        is_one = False
+    if not is_one:
+        raise Refused(f"the proxy {shown(without_user(named))} is none by http")
     return proxy
+
+
+def without_user(named):
+    """The name of a proxy without its user and password, also where it is no URL."""
+    before, at, host = named.rpartition("@")
+    scheme = SCHEME.match(before)
+    return (scheme[0] if at and scheme else "") + host
 
 
 def headers_of(proxy):
@@ -84,7 +191,7 @@ def headers_of(proxy):
     if not proxy or proxy.username is None:
         return {}
     user = f"{parse.unquote(proxy.username)}:{parse.unquote(proxy.password or '')}"
-    return {"Proxy-Authorization": "Basic " + base64.b64encode(user.encode()).decode()}
+    return {"Proxy-Authorization": "Basic " + base64.b64encode(user.encode(errors="surrogateescape")).decode()}
 
 
 def connection_to(parts, proxy):
@@ -141,6 +248,7 @@ class Client:
 
     def __init__(self):
         self.host = self.connection = None
+        self.pace = Pace()
 
     def close(self):
         if self.connection:
@@ -152,6 +260,10 @@ class Client:
         if self.host != host:
             self.close()
             self.host, self.connection = host, connection_to(parts, proxy)
+            self.connection.response_class = functools.partial(Answer, pace=self.pace)
+        if self.connection.sock:
+            # the last call may have had less time
+            self.connection.sock.settimeout(SECONDS)
         return self.connection
 
     def answer_of(self, url, start):
@@ -163,8 +275,12 @@ class Client:
         target = url if is_plain else parse.urlunsplit(("", "", parts.path or "/", parts.query, ""))
         try:
             connection = self.connect(parts, proxy)
+            self.pace.wait_for_head()
             connection.request("GET", target, headers=headers)
-            return connection.getresponse()
+            self.pace.wait_for_head()
+            response = connection.getresponse()
+            self.pace.has_head()
+            return response
         except ssl.SSLCertVerificationError as error:
             raise Unreached(f"{url}: {error.verify_message}") from None
         except FAULTS as error:
@@ -193,6 +309,7 @@ class Client:
         if length is not None and length > body.limit - body.size:
             raise longer(url, body)
         for piece in pieces_of(response, body.limit + 1 - body.size):
+            self.pace.has_piece()
             body.append(piece)
         if body.size > body.limit:
             raise longer(url, body)
@@ -224,6 +341,7 @@ def receive(client, url, body):
     """Fetches a body, from where it is. Each request that breaks off is followed by another, as long as they bring something, and a
     few times where they don't. Tells whether the answers said where it ends, and whether it is of one piece."""
     idle, pieces = 0, 1 if body.size == 0 else 2
+    client.pace.begin()
     while True:
         before = body.size
         try:
@@ -238,6 +356,9 @@ def receive(client, url, body):
             if idle:
                 time.sleep(WAITS[idle - 1])
             pieces += 1
+        except Slow:
+            client.close()
+            raise Unreached(f"{url}: less than {LEAST:,} bytes of it come in {SPAN} seconds") from None
         except BaseException:
             client.close()
             raise

@@ -166,7 +166,7 @@ def words_that_are_none_are_usage(place):
     for words in ([], ["http://h"], ["h", "d"], ["file:///etc", "d"], ["ftp://h/", "d"], ["http://", "d"], ["http://u@h/", "d"], ["http://h/?q", "d"], ["http://h:x/", "d"], ["--jobs", "0", "http://h", "d"], ["--jobs", "65", "http://h", "d"]):
         written, said, status = fetch(place, *words)
         expect((written, b"", status), (b"", b"", 2))
-        if not said.startswith(b"usage: fetch [--keyring FILE] [--allow-older] [--jobs N] URL DEPOT [RESOURCE ..]\n"):
+        if not said.startswith(b"usage: fetch [--keyring FILE] [--allow-older] [--public] [--quiet] [--jobs N] URL DEPOT [RESOURCE ..]\n"):
             raise Failed(f"of {words} it says {said}")
     expect((fetch(place, "--help")[2], (place.depot / "d").exists()), (0, False))
 
@@ -184,18 +184,48 @@ def read_all(handle):
         found += piece
 
 
+def shown_on_a_terminal(place, url, *words, **more):
+    """What a run shows on a terminal, into a fresh depot."""
+    ours, theirs = pty.openpty()
+    depot = beside(place, f"depot{len(words)}{len(more)}")
+    child = subprocess.Popen(fetch_words(place, *words, url, depot), stderr=theirs, env=around(**more))
+    os.close(theirs)
+    shown = read_all(ours)
+    os.close(ours)
+    expect((b"", b"", child.wait(SECONDS)), FINE)
+    return shown
+
+
 def on_a_terminal_a_line_tells_how_far_it_is_and_goes(place):
+    """Once half a second has gone; and not at all where it is turned off, or the run is quick."""
     published = publish(beside(place, "out"), {"foo": b"x" * 3_000_000})
+
+    def slow(request):
+        content = request.content()
+        request.head("200 OK", f"Content-Length: {len(content)}")
+        request.send(content[:1_000_000])
+        time.sleep(1)
+        request.send(content[1_000_000:])
+
     with serving(published) as served:
-        ours, theirs = pty.openpty()
-        child = subprocess.Popen(fetch_words(place, served.url, place.depot), stderr=theirs, env=around())
-        os.close(theirs)
-        shown = read_all(ours)
-        os.close(ours)
-        status = child.wait(SECONDS)
-    lines = shown.split(b"\r\x1b[K")
-    if status or lines[0] or lines[-1] or len(lines) < 3 or not lines[1].startswith(b"fetch: 0 of 1 files, 0.") or b"\n" in shown:
-        raise Failed(f"it ends with {status} and shows {shown}")
+        served.odd["foo"] = slow
+        shown = shown_on_a_terminal(place, served.url)
+        lines = shown.split(b"\r\x1b[K")
+        if lines[0] or lines[-1] or len(lines) < 3 or not lines[1].startswith((b"fetch: 0 of 1 files, 0.", b"fetch: 0 of 1 files, 1.")) or b"\n" in shown:
+            raise Failed(f"it shows {shown}")
+        for words, more in (("--quiet",), {}), ((), {"HOSTEXT_PROGRESS": "no"}):
+            if shown := shown_on_a_terminal(place, served.url, *words, **more):
+                raise Failed(f"with {words} and {more} it shows {shown}")
+
+
+def quiet_runs_tell_why_they_fail_and_nothing_else(place):
+    published = publish(beside(place, "out"), {"foo": b"foo", "bar": b"bar"})
+    (published / "SHA256SUMS").write_bytes((published / "SHA256SUMS").read_bytes() + f"{ABC}  ..\n".encode())
+    with serving(published) as served:
+        lines = "passed over: 1 names that no file can have, as ..", "the manifest stays away: of what it lists the depot lacks 1 resource"
+        expect(fetch(place, served.url, place.depot, "foo"), (b"", told(*lines), 0))
+        expect(fetch(place, "--quiet", served.url, place.depot, "foo"), FINE)
+        expect(fetch(place, "--quiet", served.url, place.depot, "no"), (b"", told("no: the manifest doesn't list it"), 1))
 
 
 def redirects_of_the_same_scheme_are_followed(place):
@@ -229,6 +259,24 @@ def a_proxy_is_asked_where_the_variables_name_one(place):
     expect_like(place.depot, published)
 
 
+def no_proxy_is_told_with_its_password(place):
+    for named, shown in (
+        ("socks5://user:secret@h", "socks5://h"),
+        ("http://user:secret@h:x", "http://h:x"),
+        ("http://user:secret@[::1", "http://[::1"),
+        ("http://user:sec://ret@h:0", "http://h:0"),
+        ("user:secret@h:99999999", "h:99999999"),
+        ("user:sec://ret@", ""),
+        ("http://", "http://"),
+        ("[", "["),
+    ):
+        expect(fetch(place, "http://host.invalid/", place.depot, env=around(http_proxy=named)), (b"", told(f"the proxy {shown} is none by http"), 1))
+    # a password that is no UTF-8 is passed on as it stands
+    with serving(publish(beside(place, "out"), {"foo": b"foo"})) as served:
+        proxy = os.fsencode(served.url).replace(b"//", b"//user:\xff@")
+        expect(fetch(place, "http://host.invalid/", place.depot, env=around(http_proxy=os.fsdecode(proxy))), FINE)
+
+
 def make_certificate(folder):
     key, made = folder / "key", folder / "certificate"
     words = ["openssl", "req", "-x509", "-newkey", "rsa:2048", "-nodes", "-keyout", key, "-out", made, "-days", "2", "-subj", "/CN=x", "-addext", "subjectAltName=IP:127.0.0.1"]
@@ -254,6 +302,7 @@ CALLS = [
     *(a_published_folder_is_fetched_and_imported, what_is_there_is_not_fetched_again, of_a_new_version_only_what_is_new_is_fetched),
     *(named_resources_come_alone_and_the_manifest_with_the_last, names_that_stand_for_nothing_are_passed_over, what_was_fetched_is_offered),
     *(two_at_once_take_turns, words_that_are_none_are_usage, on_a_terminal_a_line_tells_how_far_it_is_and_goes, redirects_of_the_same_scheme_are_followed),
-    *(a_proxy_is_asked_where_the_variables_name_one, by_https_the_certificate_is_looked_at),
+    *(quiet_runs_tell_why_they_fail_and_nothing_else, a_proxy_is_asked_where_the_variables_name_one, no_proxy_is_told_with_its_password),
+    by_https_the_certificate_is_looked_at,
 ]
 scenes = named(*map(in_a_place, CALLS))

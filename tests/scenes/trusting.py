@@ -5,9 +5,9 @@ import subprocess
 import sys
 from contextlib import contextmanager
 
-from scenes.running import SECONDS, Failed, Skipped, expect, named
+from scenes.running import SECONDS, Failed, Skipped, expect, named, tree_text
 from scenes.serving import around, expect_like, fetch, fetch_words, publish, serving, stands, told
-from scenes.stores import in_a_place
+from scenes.stores import digest, in_a_place
 from scenes.tools import beside
 
 FINE = b"", b"", 0
@@ -160,6 +160,49 @@ def an_older_manifest_that_lacks_something_is_refused(place):
             raise Failed("the older manifest didn't come")
 
 
+def an_older_manifest_is_refused_where_one_resource_is_fetched(place):
+    """The manifest stays away then, so that nothing in the depot but the kept time says which one was the last."""
+    texts = {version: tree_text(f"f 644 1 {digest(version)} a") for version in (b"1", b"2")}
+    old = publish(beside(place, "old"), {"bar": b"a"}, [("x", texts[b"1"], {"a": b"1"})])
+    new = publish(beside(place, "new"), {"bar": b"a", "foo": b"a"}, [("x", texts[b"2"], {"a": b"2"})])
+    more = publish(beside(place, "more"), {"bar": b"a", "foo": b"a", "other": b"o"}, [("x", texts[b"2"], {"a": b"2"})])
+    away, older = "the manifest stays away: of what it lists the depot lacks ", "SHA256SUMS: it is older than one of which the depot has something: --allow-older takes it"
+    kept = place.depot / ".fetch-signed"
+    with keys_of(place) as keys:
+        keys.make("ours")
+        ring = keys.ring("ours")
+        for folder, at in (old, FIRST), (new, SECOND), (more, FIRST):
+            keys.sign(folder, "ours", at=at)
+
+        def fetched(folder, *words, options=()):
+            with serving(folder) as served:
+                return fetch(place, "--keyring", ring, *options, served.url, place.depot, *words)
+
+        expect(fetched(old, "x"), (b"", told(away + "1 resource"), 0))
+        expect(fetched(new, "x"), (b"", told(away + "2 resources"), 0))
+        before = stands(place.depot)
+        # also where all is fetched, and where it lists all and more
+        for folder, words in (old, ("x",)), (old, ()), (more, ("x",)):
+            expect(fetched(folder, *words), (b"", told(older), 1))
+        if stands(place.depot) != before:
+            raise Failed("the depot is another than before")
+        kept.write_text("soon\n")
+        expect(fetched(new, "x"), (b"", told(f"{kept}: it tells no time: --allow-older takes what comes"), 1))
+        expect(fetched(new, "x", options=("--allow-older",)), (b"", told(away + "2 resources"), 0))
+        # the signature of the whole depot tells the time
+        expect(fetched(new), FINE)
+        expect_like(place.depot, new)
+        # an older one that lists all and more is taken, and the newer time stays known
+        expect(fetched(more), FINE)
+        if not kept.exists():
+            raise Failed("the newest time is lost")
+        lacks = "SHA256SUMS: it is older than the depot's, and lacks what that lists as foo: --allow-older takes it"
+        expect(fetched(old, "x"), (b"", told(lacks), 1))
+        expect(fetched(old, "x", options=("--allow-older",)), FINE)
+        if (place.depot / "x/a").read_bytes() != b"1":
+            raise Failed("the older one didn't come")
+
+
 def without_a_ring_a_signature_of_another_manifest_goes(place):
     published = publish(beside(place, "out"), {"foo_1": b"one"})
     with keys_of(place) as keys, serving(published) as served:
@@ -176,6 +219,7 @@ def without_a_ring_a_signature_of_another_manifest_goes(place):
 
 CALLS = [
     *(only_a_good_signature_by_a_key_of_the_ring_counts, a_signature_also_says_where_a_manifest_ends, without_gpgv_or_the_ring_it_is_told),
-    *(an_older_manifest_that_lacks_something_is_refused, without_a_ring_a_signature_of_another_manifest_goes),
+    *(an_older_manifest_that_lacks_something_is_refused, an_older_manifest_is_refused_where_one_resource_is_fetched),
+    without_a_ring_a_signature_of_another_manifest_goes,
 ]
 scenes = named(*map(in_a_place, CALLS))
