@@ -11,7 +11,7 @@ from scenes.running import SECONDS, TOP, Failed, Skipped, expect, named, publish
 from scenes.stores import digest
 from scenes.tools import limited_to
 
-TOOLS = "fetch", "pack", "tree-text", "unpack"
+TOOLS = "fetch", "pack", "tree-text", "unpack", "update"
 RECORD = "share/hostext/installed"
 
 

@@ -6,12 +6,13 @@ import shutil
 import subprocess
 from pathlib import Path
 
-from scenes.installing import begin, checked, image, offer
+from scenes.installing import begin, offer
 from scenes.installing import TOOL as TRANSFER
 from scenes.people import DONE, in_a_folder, install
 from scenes.running import SECONDS, TOP, Failed, Skipped, expect, named, shortened
 from scenes.stores import DONE as WROTE_DONE
 from scenes.stores import HOST, in_a_place
+from scenes.uses import tree_of
 
 CHECK, UPDATE = "hostext-check@", "hostext-update@"
 UNITS = "lib/systemd/system"
@@ -46,8 +47,8 @@ def systemd_has_nothing_to_say_of_the_units(program, folder):
             for name in CHECK, UPDATE:
                 if (found := verified(root, *instances(name, escaped))) != ("", 0):
                     raise Failed(f"with {prefix} it says {shortened(found)}")
-        Path(f"{root}{prefix}/bin/hostext").rename(root / "gone")
-        for name in CHECK, UPDATE:
+        for name, program_of_it in (CHECK, "hostext"), (UPDATE, "hostext-update"):
+            Path(f"{root}{prefix}/bin/{program_of_it}").rename(root / "gone")
             if "not executable" not in verified(root, instances(name, "srv-host")[0])[0]:
                 raise Failed(f"with {prefix} the program isn't looked for")
 
@@ -83,7 +84,7 @@ def the_units_say_what_is_promised(_program):
     }
     check = {**both, "ExecStart": [":/usr/bin/hostext /%I . check"], "ReadWritePaths": None}
     update = {
-        **{**both, "ExecStart": [":/usr/bin/hostext /%I . sysupdate update", ":/usr/bin/hostext /%I . sysext refresh"]},
+        **{**both, "ExecStart": [":/usr/bin/hostext-update /%I ."]},
         **{"ReadWritePaths": ["/%I"], "WorkingDirectory": ["/%I.depot"]},
     }
     for name, wanted in (CHECK, check), (UPDATE, update):
@@ -113,15 +114,21 @@ def allowed_calls(name):
     return found
 
 
+def words_of(place, start):
+    """A command of a unit over a store, with the program or the tool that it names."""
+    named = {":/usr/bin/hostext": place.program, ":/usr/bin/hostext-update": TOP / "tools/update"}
+    first, *others = start.split()
+    return [named[first], *(str(place.store) if word == "/%I" else word for word in others)]
+
+
 def started(place, name):
     """The lines of strace of the commands that a unit starts one after another, over a store and a depot, with what they write."""
     if not shutil.which("strace"):
         raise Skipped("there is no strace")
     told, lines, written = place.store.with_name("calls"), [], b""
     for start in unit_of(name)["ExecStart"]:
-        words = [str(place.store) if word == "/%I" else word for word in start.split()[1:]]
-        around = {**os.environ, "HOSTEXT_EXPLAIN": "yes"}
-        ended = subprocess.run(["strace", "-f", "-qq", "-y", "-o", told, place.program, *words], env=around, cwd=place.depot, capture_output=True, timeout=SECONDS)
+        around = {**os.environ, "HOSTEXT": str(place.program), "HOSTEXT_EXPLAIN": "yes"}
+        ended = subprocess.run(["strace", "-f", "-qq", "-y", "-o", told, *words_of(place, start)], env=around, cwd=place.depot, capture_output=True, timeout=SECONDS)
         if b"ptrace" in ended.stderr.lower():
             raise Skipped("strace may not trace here")
         expect((b"", ended.stderr, ended.returncode), (b"", b"", 0))
@@ -147,30 +154,103 @@ def a_check_makes_no_call_that_its_unit_refuses(place):
 def an_update_makes_no_call_that_its_unit_refuses(place):
     """The depot is its working folder, and all that it opens to write, makes, renames or removes stands in the store."""
     begin(place, tool=TRANSFER)
-    for version, merged in (1, b"merged 1\ntool-1\n"), (2, b"merged 2\ntool-1\ntool-2\n"), (3, b"merged 2\ntool-2\ntool-3\n"):
+    for version, merged in (1, b""), (2, b"merged 2\ntool-1\ntool-2\n"), (3, b"merged 2\ntool-2\ntool-3\n"):
         offer(place, version)
         lines, written = started(place, UPDATE)
         expect((written,), (b"updated %d\n" % version + merged,))
+        if version == 1:
+            place.expect(("sysext merge", b"merged 1\ntool-1\n"))
         writes = [line for line in lines if re.search(r"O_WRONLY|O_RDWR|O_CREAT|(?:mkdir|rename|unlink|rmdir)\w*\(", line)]
         outside = [line for line in writes if f'"{place.store}/' not in line and f"<{place.store}/" not in line]
         if outside or not writes:
             raise Failed(f"it writes outside of the store: {shortened(outside)}")
 
 
-def after_an_update_that_was_refused_the_next_one_does_all(place):
-    """A service ends at the first of its commands that fails. Where nothing is new it merges again, so that it does what a stop left."""
+def in_turn(place):
+    """What the commands of the unit that updates write, one after another up to the first that fails, and the status of the last."""
+    written = b""
+    for start in unit_of(UPDATE)["ExecStart"]:
+        ended = subprocess.run(words_of(place, start), env={**os.environ, "HOSTEXT": str(place.program)}, cwd=place.depot, capture_output=True, timeout=SECONDS)
+        written += ended.stdout
+        if ended.returncode:
+            break
+    return written, ended.stderr, ended.returncode
+
+
+def three_runs_without_a_new_version_make_no_generation(place):
+    """Whether nothing is merged, or both classes are."""
     begin(place, tool=TRANSFER)
     offer(place, 1)
-    (place.depot / "images/tool-1/usr/tool").unlink()
-    place.expect(("sysupdate update", b"refused 24 not-in-depot images/tool-1/usr/tool\n"))
+    expect(in_turn(place), (b"updated 1\n", b"", 0))
+    conf = {"etc/extension-release.d/extension-release.conf": b"ID=debian\n", "etc/own": b"own"}
+    place.resource("conf", tree_of(conf), conf)
+    place.expect(("import-fs conf /var/lib/confexts/conf", WROTE_DONE))
+    for merge in (), (("sysext merge", b"merged 1\ntool-1\n"), ("confext merge", b"merged 1\nconf\n")):
+        place.expect(*merge)
+        before = place.stands()
+        for _ in range(3):
+            expect(in_turn(place), (b"unchanged\n", b"", 0))
+        place.holds(before)
+    # the next version is shown, of both classes
+    offer(place, 2)
+    expect(in_turn(place), (b"updated 2\nmerged 2\ntool-1\ntool-2\nmerged 1\nconf\n", b"", 0))
+
+
+def what_was_unmerged_is_not_merged_by_an_update(place):
+    begin(place, tool=TRANSFER)
     offer(place, 1)
-    for update in b"updated 1\n", b"unchanged\n":
-        expect((started(place, UPDATE)[1],), (update + b"merged 1\ntool-1\n",))
-    place.expect(("cat /usr/tool", b"tool 1\n"), ("check", checked(6, b"ID=debian\n", TRANSFER, *2 * [*image(1).values()])))
+    expect(in_turn(place), (b"updated 1\n", b"", 0))
+    place.expect(("sysext merge", b"merged 1\ntool-1\n"), ("sysext unmerge", b"unmerged\n"))
+    offer(place, 2)
+    expect(in_turn(place), (b"updated 2\n", b"", 0))
+    place.expect(("sysext status", b"unmerged\n"), ("cat /usr/tool", b"refused 8 no-entry /usr/tool\n"))
+
+
+def after_an_update_that_was_refused_the_next_one_does_all(place):
+    begin(place, tool=TRANSFER)
+    offer(place, 1)
+    expect(in_turn(place), (b"updated 1\n", b"", 0))
+    place.expect(("sysext merge", b"merged 1\ntool-1\n"))
+    offer(place, 2)
+    (place.depot / "images/tool-2/usr/tool").unlink()
+    before = place.run("tree")
+    expect(in_turn(place), (b"refused 24 not-in-depot images/tool-2/usr/tool\n", b"", 1))
+    expect(place.run("tree"), before)
+    offer(place, 2)
+    expect(in_turn(place), (b"updated 2\nmerged 2\ntool-1\ntool-2\n", b"", 0))
+    place.expect(("cat /usr/tool", b"tool 2\n"))
+
+
+def the_tool_that_updates_ends_with_the_first_status_that_is_not_0(place):
+    """A program that isn't hostext answers here: for each command a line and a status."""
+    answers = place.store.with_name("answers")
+    told = place.store.with_name("told")
+    for wanted, said, status in (
+        ({}, b"updated 2\nmerged 1\nmerged 1\n", 0),
+        ({"update": 5}, b"updated 2\n", 5),
+        ({"status": 7}, b"updated 2\n", 7),
+        ({"refresh": 1}, b"updated 2\nmerged 1\nmerged 1\n", 1),
+    ):
+        cases = "".join(f"*{word}) echo {line}; exit {wanted.get(word, 0)} ;;\n" for word, line in (("update", "updated 2"), ("status", "merged 1" if "status" not in wanted else "''"), ("refresh", "merged 1")))
+        answers.write_text(f'#!/bin/sh\necho "$@" >>{told}\ncase "$*" in\n{cases}esac\n')
+        answers.chmod(0o755)
+        expect(update_of(answers, "s t", "d"), (said, b"", status))
+    if "s t d sysext refresh\n" not in told.read_text() or "s t d confext refresh\n" not in told.read_text():
+        raise Failed(f"it asks {told.read_text()}")
+    for words in (), ("s",), ("s", "d", "1"), ("--force", "s", "d"):
+        expect(update_of(answers, *words), (b"", b"usage: update STORE DEPOT\n", 2))
+    expect(update_of(answers, "--help")[2:], (0,))
+
+
+def update_of(program, *words):
+    ended = subprocess.run([TOP / "tools/update", *words], env={**os.environ, "HOSTEXT": str(program)}, capture_output=True, timeout=SECONDS)
+    return ended.stdout, ended.stderr, ended.returncode
 
 
 scenes = named(
     *map(in_a_folder, (systemd_has_nothing_to_say_of_the_units, what_they_may_reach_is_little)),
     the_units_say_what_is_promised,
-    *map(in_a_place, (a_check_makes_no_call_that_its_unit_refuses, an_update_makes_no_call_that_its_unit_refuses, after_an_update_that_was_refused_the_next_one_does_all)),
+    *map(in_a_place, (a_check_makes_no_call_that_its_unit_refuses, an_update_makes_no_call_that_its_unit_refuses)),
+    *map(in_a_place, (three_runs_without_a_new_version_make_no_generation, what_was_unmerged_is_not_merged_by_an_update)),
+    *map(in_a_place, (after_an_update_that_was_refused_the_next_one_does_all, the_tool_that_updates_ends_with_the_first_status_that_is_not_0)),
 )
