@@ -1,15 +1,13 @@
-"""What the tools share: the entries of a real folder, and the lines that a tree text has for them.
-
-Directories, files and symbolic links come in path order (lists of names, names byte by byte, so `a/b` comes before `a-b`);
-a link is not followed. As overlayfs keeps them, a character device with the number 0/0 is a whiteout, and a directory is
-opaque where its extended attribute trusted.overlay.opaque or user.overlay.opaque is `y`; the first of the two only root can
-see.
+"""What the tools share: the limits and lines of tree texts, files that are read once, handles of folders, and how a tool tells what it
+can't do.
 """
 import hashlib
 import os
 import re
 import stat
 import sys
+
+import ending
 
 MOST_ENTRIES = 262_144
 MOST_FILE_BYTES = 1_073_741_824
@@ -19,9 +17,10 @@ MOST_NAME_BYTES = 255
 MOST_TARGET_BYTES = 4_096
 NO_NAMES = frozenset((b"", b".", b".."))
 CONTROL = re.compile(rb"[\x00-\x1f\x7f]")
-OPAQUE = ("trusted.overlay.opaque", "user.overlay.opaque")
 PIECE = 1 << 20
 FOLDER_ONLY = os.O_RDONLY | os.O_DIRECTORY | os.O_NOFOLLOW
+# What was no file when it was opened is seen by its handle; a pipe that has come meanwhile holds nobody up.
+FILE_ONLY = os.O_RDONLY | os.O_NOFOLLOW | os.O_NONBLOCK | os.O_NOCTTY
 
 
 class Refused(Exception):
@@ -42,11 +41,15 @@ def reasons_of(error):
 
 
 def run_tool(name, call):
-    """Calls a tool. Where it fails each reason has a line on standard error, and the status is 1."""
+    """Calls a tool. Where it fails each reason has a line on standard error, and the status is 1; where a signal ends it the status is
+    that which a shell tells of it."""
+    ending.catch()
     try:
         call()
     except (Refused, OSError) as error:
         sys.exit("\n".join(f"{name}: {reason}" for reason in reasons_of(error)))
+    except ending.Stopped as stopped:
+        sys.exit(128 + stopped.args[0])
 
 
 def check_text(text, what):
@@ -73,122 +76,36 @@ def no_copy(piece):
     """What becomes of a file's bytes where they are read for their digest alone."""
 
 
+def open_file(path, folder=None):
+    """The handle of a file, which may be one below the handle of a folder, and its status."""
+    handle = os.open(path, FILE_ONLY, dir_fd=folder)
+    status = os.fstat(handle)
+    if stat.S_ISREG(status.st_mode):
+        return handle, status
+    os.close(handle)
+    raise Refused("it is no file")
+
+
 def stamp_of(path, copy=no_copy, folder=None):
     """The size and the digest of a file, read once; each piece of it is handed to `copy`. Its path may be one below the handle of a
     folder."""
-    digest = hashlib.sha256()
-    size = 0
-    handle = os.open(path, os.O_RDONLY | os.O_NOFOLLOW, dir_fd=folder)
-    with open(handle, "rb") as file:
-        while piece := file.read(PIECE):
-            size += len(piece)
-            if size > MOST_FILE_BYTES:
-                raise Refused(f"more than {MOST_FILE_BYTES:,} bytes")
-            digest.update(piece)
-            copy(piece)
-    return size, digest.hexdigest()
+    handle, status = open_file(path, folder)
+    try:
+        return stamp_at(handle, status.st_size, copy)
+    finally:
+        os.close(handle)
 
 
-def is_opaque(full):
-    for attribute in OPAQUE:
-        try:
-            if os.getxattr(full, attribute, follow_symlinks=False) == b"y":
-                return True
-        except OSError:
-            # there is no such attribute here, or none that may be seen
-            pass
-    return False
-
-
-def target_of(full):
-    target = os.readlink(full)
-    check_text(target, "its target")
-    if not 1 <= len(target) <= MOST_TARGET_BYTES:
-        raise Refused(f"a target of no byte or of more than {MOST_TARGET_BYTES:,}")
-    return target
-
-
-def is_whiteout(status):
-    return stat.S_ISCHR(status.st_mode) and status.st_rdev == 0
-
-
-def is_special(status):
-    """Whether it is a device, a socket or a pipe, of which a tree text has none."""
-    kinds = stat.S_ISDIR, stat.S_ISREG, stat.S_ISLNK
-    return not is_whiteout(status) and not any(is_kind(status.st_mode) for is_kind in kinds)
-
-
-def check_entry(full, names, status):
-    """Refuses what a tree text can't hold, and what may not be read."""
-    check_path(names)
-    if is_special(status):
-        raise Refused("neither a directory nor a file nor a link nor a whiteout")
-    if stat.S_ISLNK(status.st_mode):
-        target_of(full)
-    if stat.S_ISREG(status.st_mode):
-        if status.st_size > MOST_FILE_BYTES:
+def stamp_at(handle, expected, copy):
+    """The same of an open file, which is read to its end, whatever size was expected."""
+    digest, size = hashlib.sha256(), 0
+    while piece := os.read(handle, PIECE if size > expected else min(PIECE, expected + 1 - size)):
+        size += len(piece)
+        if size > MOST_FILE_BYTES:
             raise Refused(f"more than {MOST_FILE_BYTES:,} bytes")
-        os.close(os.open(full, os.O_RDONLY | os.O_NOFOLLOW))
-
-
-def names_in(folder, names):
-    """The places in a folder with their names, the last one first."""
-    return [(os.path.join(folder, name), (*names, name)) for name in sorted(os.listdir(folder), reverse=True)]
-
-
-def is_taken(_full, _names, _status):
-    return True
-
-
-def look_through(folder, takes=is_taken):
-    """Each place below a folder with its names, in path order, by a stack of what is still to be visited. What `takes` is false
-    of is left out, with all below it. Where a tree text can't hold all the rest, every reason is told at once."""
-    waiting, places, reasons = names_in(folder, ()), [], []
-    while waiting:
-        full, names = waiting.pop()
-        try:
-            status = os.lstat(full)
-            if not takes(full, names, status):
-                continue
-            places.append((full, names))
-            check_entry(full, names, status)
-            if stat.S_ISDIR(status.st_mode):
-                waiting.extend(names_in(full, names))
-        except (Refused, OSError) as error:
-            said = error.args[0] if isinstance(error, Refused) else error.strerror
-            reasons.append(f"{shown(full)}: {said}")
-    if len(places) > MOST_ENTRIES:
-        reasons.append(f"{shown(folder)}: {len(places):,} entries, where a tree has at most {MOST_ENTRIES:,}")
-    if reasons:
-        raise Refused(*reasons)
-    return places
-
-
-def entry_line(full, names, stamp):
-    """The line of what stands at a place. `stamp` gives the size and the digest of a file."""
-    path = b"/".join(names)
-    status = os.lstat(full)
-    mode = b"%o" % stat.S_IMODE(status.st_mode)
-    if stat.S_ISDIR(status.st_mode):
-        return b"%b %b %b\n" % (b"o" if is_opaque(full) else b"d", mode, path)
-    if stat.S_ISREG(status.st_mode):
-        size, digest = stamp(full, names)
-        return b"f %b %d %b %b\n" % (mode, size, digest.encode(), path)
-    if stat.S_ISLNK(status.st_mode):
-        target = target_of(full)
-        return b"l %d %b %b\n" % (len(target), target, path)
-    if is_whiteout(status):
-        return b"w %b\n" % path
-    raise Refused("it changed meanwhile")
-
-
-def entry_lines(places, stamp=lambda full, names: stamp_of(full)):
-    """The lines of these places. `stamp` gives the size and the digest of a file at a place."""
-    for full, names in places:
-        try:
-            yield entry_line(full, names, stamp)
-        except Refused as reason:
-            raise Refused(f"{shown(full)}: {reason}") from None
+        digest.update(piece)
+        copy(piece)
+    return size, digest.hexdigest()
 
 
 def tree_text(lines):
@@ -206,7 +123,9 @@ class Folders:
     """Handles of the folders on the way to an entry: each is opened in the one above it, and no link is followed."""
 
     def __init__(self, root):
-        self.names, self.handles = (), [os.open(root, os.O_RDONLY | os.O_DIRECTORY)]
+        """The root is told by its path or by a handle, which stays open."""
+        handle = os.dup(root) if isinstance(root, int) else os.open(root, os.O_RDONLY | os.O_DIRECTORY)
+        self.names, self.handles = (), [handle]
 
     def __enter__(self):
         return self

@@ -87,12 +87,15 @@ def pack_and_unpack_give_a_folder_back(place):
 
 
 def a_tree_text_is_asked_for_by_one_folder(place):
+    usage = b"usage: tree-text [--quiet] FOLDER\n"
     written, told, status = tool(place, "tree-text", "--help")
-    expect((written[:36], told, status), (b"Prints the tree text of a folder: tr", b"", 0))
-    expect(tool(place, "tree-text"), (b"", b"usage: tree-text FOLDER\n", 2))
-    expect(tool(place, "unpack", "r"), (b"", b"usage: unpack STORE ABS FOLDER\n", 2))
-    if tool(place, "pack", "r")[2] != 2:
-        raise Failed("pack of one word does not fail")
+    expect((written[: len(usage)], told, status), (usage, b"", 0))
+    lacking = b"error: the following arguments are required:"
+    expect(tool(place, "tree-text"), (b"", b"%btree-text: %b FOLDER\n" % (usage, lacking), 2))
+    usage = b"usage: unpack [--keep-setid] [--quiet] STORE ABS FOLDER\n"
+    expect(tool(place, "unpack", "r"), (b"", b"%bunpack: %b ABS, FOLDER\n" % (usage, lacking), 2))
+    usage = b"usage: pack [OPTION ..] FOLDER DEPOT RES\n"
+    expect(tool(place, "pack", "r"), (b"", b"%bpack: %b DEPOT, RES\n" % (usage, lacking), 2))
 
 
 def a_path_is_told_as_it_is_with_control_characters_escaped(place):
@@ -111,9 +114,10 @@ def all_that_no_tree_text_holds_is_told_at_once(place):
     (folder / "z").symlink_to("a\tb")
     kind = "neither a directory nor a file nor a link nor a whiteout"
     rows = ("pipe", kind), ("usr/a\\x1b", "a control byte in its name"), ("usr/socket", kind), ("z", "a control byte in its target")
-    for name, words in ("pack", (folder, place.depot, "r")), ("tree-text", (folder,)):
+    helps = "pack: --leave-out-special leaves out devices, sockets and pipes\n"
+    for name, words, advice in ("pack", (folder, place.depot, "r"), helps), ("tree-text", (folder,), ""):
         told = "".join(f"{name}: {folder}/{path}: {reason}\n" for path, reason in rows)
-        expect(tool(place, name, *words), (b"", told.encode(), 1))
+        expect(tool(place, name, *words), (b"", (told + advice).encode(), 1))
     holds_nothing(place.depot)
 
 
@@ -335,8 +339,8 @@ def a_few_commands_read_all_files(place):
     around, notes = noting(place)
     tools = beside(place, "tools")
     shutil.copytree(TOOLS, tools)
-    whole = (tools / "unpack").read_text()
-    (tools / "unpack").write_text(whole.replace("MOST_SOURCE = 16_777_216", "MOST_SOURCE = 40"))
+    whole = (tools / "reading.py").read_text()
+    (tools / "reading.py").write_text(whole.replace("MOST_SOURCE = 16_777_216", "MOST_SOURCE = 40"))
     for tool_there, batches in (TOOLS / "unpack", 1), (tools / "unpack", 2):
         notes.unlink(missing_ok=True)
         expect(tool(place, tool_there, place.store, "/srv", beside(place, f"out{batches}"), **around), (b"", b"", 0))

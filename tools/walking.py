@@ -1,0 +1,230 @@
+"""The entries of a real folder, and the lines that a tree text has for them.
+
+Directories, files and symbolic links come in path order (lists of names, names byte by byte, so `a/b` comes before `a-b`). As overlayfs
+keeps them, a character device with the number 0/0 is a whiteout, and a directory is opaque where its extended attribute
+trusted.overlay.opaque or user.overlay.opaque is `y`; the first of the two only root can see.
+
+Others may change the folder meanwhile. So no path is followed: each directory is opened in the one above it, and no link is. A folder
+is walked twice, and a directory is entered the second time only if it is the one of the first.
+"""
+import errno
+import os
+import stat
+from contextlib import contextmanager
+from typing import NamedTuple, Optional
+
+from entries import MOST_ENTRIES, MOST_FILE_BYTES, MOST_TARGET_BYTES, Folders, Refused, check_path, check_text, no_copy, open_file, shown, stamp_at
+
+OPAQUE = ("trusted.overlay.opaque", "user.overlay.opaque")
+CHANGED = "it changed meanwhile"
+# How calls fail at an entry that is of another kind by now.
+OTHER_KINDS = errno.ELOOP, errno.ENOTDIR, errno.EINVAL, errno.ENXIO
+
+
+class Place(NamedTuple):
+    """Where an entry stands: its names in the folder, and its path in the tree; its kind, and what tells a directory from another one.
+    A directory that the tree has and the folder hasn't has no names."""
+
+    names: tuple
+    path: tuple
+    kind: int
+    identity: Optional[tuple] = None
+
+
+class Known(Folders):
+    """Handles of folders that are known: none is entered that another one stands for now."""
+
+    def __init__(self, root, places):
+        super().__init__(root)
+        self.known = {place.names: place.identity for place in places if place.identity}
+
+    def entered(self, name):
+        handle = super().entered(name)
+        if identity_of(os.fstat(handle)) == self.known[(*self.names, name)]:
+            return handle
+        os.close(handle)
+        raise Refused(CHANGED)
+
+
+def identity_of(status):
+    return status.st_dev, status.st_ino
+
+
+def is_opaque(handle):
+    for attribute in OPAQUE:
+        try:
+            if os.getxattr(handle, attribute) == b"y":
+                return True
+        except OSError:
+            # there is no such attribute here, or none that may be seen
+            pass
+    return False
+
+
+def target_of(name, folder):
+    target = os.readlink(name, dir_fd=folder)
+    check_text(target, "its target")
+    if not 1 <= len(target) <= MOST_TARGET_BYTES:
+        raise Refused(f"a target of no byte or of more than {MOST_TARGET_BYTES:,}")
+    return target
+
+
+def is_whiteout(status):
+    return stat.S_ISCHR(status.st_mode) and status.st_rdev == 0
+
+
+def is_special(status):
+    """Whether it is a device, a socket or a pipe, of which a tree text has none."""
+    kinds = stat.S_ISDIR, stat.S_ISREG, stat.S_ISLNK
+    return not is_whiteout(status) and not any(is_kind(status.st_mode) for is_kind in kinds)
+
+
+def is_taken(_names, _status):
+    return True
+
+
+def no_look(_names, _status, _handle):
+    """What is made of an entry beside its line."""
+
+
+@contextmanager
+def no_copies(_path):
+    """What becomes of the bytes of files that are read for their digests alone."""
+    yield no_copy
+
+
+@contextmanager
+def told_at(full):
+    """A call that fails is told with the whole path; one that finds another kind of entry tells that it changed."""
+    try:
+        yield
+    except OSError as error:
+        if error.errno in OTHER_KINDS:
+            raise Refused(CHANGED) from None
+        error.filename = full
+        raise
+
+
+class Walk:
+    """A folder by its handle. What `takes` is false of is left out, with all below it. `look` is called with each entry of the rest
+    while its handle is open: that of a link or a whiteout is no more than its path by a handle."""
+
+    def __init__(self, folder, tells, takes=is_taken, look=no_look):
+        self.folder, self.tells, self.takes, self.look, self.has_special = folder, tells, takes, look, False
+        self.handle = os.open(folder, os.O_RDONLY | os.O_DIRECTORY)
+
+    def __enter__(self):
+        return self
+
+    def __exit__(self, *_):
+        os.close(self.handle)
+
+    def full(self, names):
+        return os.path.join(self.folder, *names)
+
+    def places(self):
+        """Each place below the folder, in path order, by a stack of what is still to be visited. Where a tree text can't hold all that
+        is taken, every reason is told at once."""
+        found, reasons = [], []
+        with Folders(self.handle) as folders:
+            waiting = names_in(self.handle, ())
+            while waiting:
+                names = waiting.pop()
+                try:
+                    waiting.extend(self.visit(folders, names, found))
+                except (Refused, OSError) as error:
+                    said = error.args[0] if isinstance(error, Refused) else error.strerror
+                    reasons.append(f"{shown(self.full(names))}: {said}")
+        if len(found) > MOST_ENTRIES:
+            reasons.append(f"{shown(self.folder)}: {len(found):,} entries, where a tree has at most {MOST_ENTRIES:,}")
+        if reasons:
+            raise Refused(*reasons)
+        return found
+
+    def visit(self, folders, names, found):
+        """Looks at a place, and gives those in it, the last one first."""
+        folder = folders.at(names[:-1])
+        status = os.stat(names[-1], dir_fd=folder, follow_symlinks=False)
+        if not self.takes(names, status):
+            return []
+        kind = stat.S_IFMT(status.st_mode)
+        found.append(Place(names, names, kind, identity_of(status) if kind == stat.S_IFDIR else None))
+        self.tells.looked()
+        check_path(names)
+        if is_special(status):
+            self.has_special = True
+            raise Refused("neither a directory nor a file nor a link nor a whiteout")
+        if kind == stat.S_IFDIR:
+            return self.enter(folders, names, found)
+        if kind == stat.S_IFREG:
+            self.look_at_file(names, folder)
+        else:
+            if kind == stat.S_IFLNK:
+                target_of(names[-1], folder)
+            self.look(names, status, b"/proc/self/fd/%d/%b" % (folder, names[-1]))
+        return []
+
+    def enter(self, folders, names, found):
+        handle = folders.at(names)
+        status = os.fstat(handle)
+        found[-1] = found[-1]._replace(identity=identity_of(status))
+        self.look(names, status, handle)
+        return names_in(handle, names)
+
+    def look_at_file(self, names, folder):
+        """Looks at a file, which is opened to see that it may be read."""
+        handle, status = open_file(names[-1], folder)
+        try:
+            if status.st_size > MOST_FILE_BYTES:
+                raise Refused(f"more than {MOST_FILE_BYTES:,} bytes")
+            self.look(names, status, handle)
+        finally:
+            os.close(handle)
+
+    def lines(self, places, copies=no_copies):
+        """The lines of these places. The bytes of a file go where `copies` lets them at its path in the tree."""
+        with Known(self.handle, places) as folders:
+            for place in places:
+                try:
+                    yield self.line(folders, place, copies)
+                except Refused as reason:
+                    raise Refused(f"{shown(self.full(place.names))}: {reason}") from None
+
+    def line(self, folders, place, copies):
+        path = b"/".join(place.path)
+        if not place.names:
+            return b"d 755 %b\n" % path
+        full, name = self.full(place.names), place.names[-1]
+        with told_at(full):
+            if place.kind == stat.S_IFDIR:
+                return directory_line(folders.at(place.names), path)
+            folder = folders.at(place.names[:-1])
+            if place.kind == stat.S_IFLNK:
+                target = target_of(name, folder)
+                return b"l %d %b %b\n" % (len(target), target, path)
+            if place.kind == stat.S_IFCHR:
+                return whiteout_line(os.stat(name, dir_fd=folder, follow_symlinks=False), path)
+            handle, status = open_file(name, folder)
+        try:
+            with copies(place.path) as copy, told_at(full):
+                size, digest = stamp_at(handle, status.st_size, copy)
+        finally:
+            os.close(handle)
+        self.tells.read(size)
+        return b"f %o %d %b %b\n" % (stat.S_IMODE(status.st_mode), size, digest.encode(), path)
+
+
+def directory_line(handle, path):
+    kind = b"o" if is_opaque(handle) else b"d"
+    return b"%b %o %b\n" % (kind, stat.S_IMODE(os.fstat(handle).st_mode), path)
+
+
+def whiteout_line(status, path):
+    if not is_whiteout(status):
+        raise Refused(CHANGED)
+    return b"w %b\n" % path
+
+
+def names_in(handle, names):
+    """The names of what stands in a folder, the last one first."""
+    return [(*names, name) for name in sorted(map(os.fsencode, os.listdir(handle)), reverse=True)]
