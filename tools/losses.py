@@ -8,14 +8,8 @@ from walking import OPAQUE
 MOST_SHOWN = 3
 CAPABILITY = "security.capability"
 OWNER, CAPABILITIES, ATTRIBUTES = "owners", "file capabilities", "other extended attributes"
-LINKS, HOLES = "hard links, which become files of their own", "files with holes, which are filled"
+LINKS, HOLES = "hard links, which become files of their own", "holes, which are filled"
 KINDS = OWNER, CAPABILITIES, ATTRIBUTES, LINKS, HOLES
-
-
-def several(count, what, paths):
-    """A line that has a number, and a few paths."""
-    more = ", .." if count > len(paths) else ""
-    return f"{count:,} {what}: {', '.join(map(shown, paths))}{more}"
 
 
 class Found:
@@ -28,6 +22,10 @@ class Found:
         self.count += 1
         if len(self.first) < MOST_SHOWN:
             self.first.append(path)
+
+    def __str__(self):
+        more = ", .." if self.count > len(self.first) else ""
+        return f"{self.count:,} ({', '.join(map(shown, self.first))}{more})"
 
 
 class Losses:
@@ -71,7 +69,7 @@ class Losses:
         return is_own or (user, group) == (0, 0)
 
     def lines(self):
-        told = [f"lost: {several(found.count, kind, found.first)}" for kind, found in self.found.items() if found.count]
+        told = [f"lost: {kind}: {found}" for kind, found in self.found.items() if found.count]
         if self.top_mode != 0o755:
             told.append(f"lost: the mode {self.top_mode:o} of {shown(self.folder)} itself")
         return told

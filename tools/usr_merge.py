@@ -28,11 +28,11 @@ def below_usr(folder, places):
     usr = found.setdefault(USR, Place((), USR, stat.S_IFDIR))
     if not is_directory(usr):
         raise Refused(f"{shown(os.path.join(folder, *USR))}: no directory, so nothing can be put below it")
-    join(folder, found, [place for place in places if place.path[0] in beside])
+    add(folder, found, [place for place in places if place.path[0] in beside])
     return sorted(found.values(), key=lambda place: place.path)
 
 
-def join(folder, found, moved):
+def add(folder, found, moved):
     """Adds what is moved to what is found. Where both have an entry that isn't a directory in both, all such paths are told."""
     reasons = []
     for place in moved:

@@ -11,7 +11,7 @@ import errno
 import os
 import stat
 from contextlib import contextmanager
-from typing import NamedTuple, Optional
+from typing import NamedTuple
 
 from entries import MOST_ENTRIES, MOST_FILE_BYTES, MOST_TARGET_BYTES, Folders, Refused, check_path, check_text, no_copy, open_file, shown, stamp_at
 
@@ -22,31 +22,32 @@ OTHER_KINDS = errno.ELOOP, errno.ENOTDIR, errno.EINVAL, errno.ENXIO
 
 
 class Place(NamedTuple):
-    """Where an entry stands: its names in the folder, and its path in the tree; its kind, and what tells a directory from another one.
-    A directory that the tree has and the folder hasn't has no names."""
+    """Where an entry stands: its names in the folder, and its path in the tree; and its kind. A directory that the tree has and the
+    folder hasn't has no names."""
 
     names: tuple
     path: tuple
     kind: int
-    identity: Optional[tuple] = None
 
 
 class Known(Folders):
     """Handles of folders that are known: none is entered that another one stands for now."""
 
-    def __init__(self, root, places):
+    def __init__(self, root, known):
         super().__init__(root)
-        self.known = {place.names: place.identity for place in places if place.identity}
+        self.known = known
 
     def entered(self, name):
         handle = super().entered(name)
-        if identity_of(os.fstat(handle)) == self.known[(*self.names, name)]:
+        if identity_of(handle) == self.known[(*self.names, name)]:
             return handle
         os.close(handle)
         raise Refused(CHANGED)
 
 
-def identity_of(status):
+def identity_of(handle):
+    """What tells a directory from another one."""
+    status = os.fstat(handle)
     return status.st_dev, status.st_ino
 
 
@@ -111,6 +112,7 @@ class Walk:
 
     def __init__(self, folder, tells, takes=is_taken, look=no_look):
         self.folder, self.tells, self.takes, self.look, self.has_special = folder, tells, takes, look, False
+        self.known = {}
         self.handle = os.open(folder, os.O_RDONLY | os.O_DIRECTORY)
 
     def __enter__(self):
@@ -148,14 +150,14 @@ class Walk:
         if not self.takes(names, status):
             return []
         kind = stat.S_IFMT(status.st_mode)
-        found.append(Place(names, names, kind, identity_of(status) if kind == stat.S_IFDIR else None))
+        found.append(Place(names, names, kind))
         self.tells.looked()
         check_path(names)
         if is_special(status):
             self.has_special = True
             raise Refused("neither a directory nor a file nor a link nor a whiteout")
         if kind == stat.S_IFDIR:
-            return self.enter(folders, names, found)
+            return self.enter(folders, names)
         if kind == stat.S_IFREG:
             self.look_at_file(names, folder)
         else:
@@ -164,11 +166,10 @@ class Walk:
             self.look(names, status, b"/proc/self/fd/%d/%b" % (folder, names[-1]))
         return []
 
-    def enter(self, folders, names, found):
+    def enter(self, folders, names):
         handle = folders.at(names)
-        status = os.fstat(handle)
-        found[-1] = found[-1]._replace(identity=identity_of(status))
-        self.look(names, status, handle)
+        self.known[names] = identity_of(handle)
+        self.look(names, os.fstat(handle), handle)
         return names_in(handle, names)
 
     def look_at_file(self, names, folder):
@@ -183,7 +184,7 @@ class Walk:
 
     def lines(self, places, copies=no_copies):
         """The lines of these places. The bytes of a file go where `copies` lets them at its path in the tree."""
-        with Known(self.handle, places) as folders:
+        with Known(self.handle, self.known) as folders:
             for place in places:
                 try:
                     yield self.line(folders, place, copies)
