@@ -13,6 +13,9 @@ from scenes.running import SECONDS, TOP, Failed, Skipped, named, publisher
 from scenes.sessions import commands_of, follow
 
 COMMANDS, FORMATS, PUBLISHING = "man/hostext.1", "man/hostext-formats.5", "man/hostext_publish.1"
+# The tools that have a page, by their names in tools.
+TOOLS = "pack", "tree-text", "unpack"
+PAGES = COMMANDS, FORMATS, PUBLISHING, *(f"man/hostext-{name}.1" for name in TOOLS)
 RULES = "docs/FORMATS.md"
 MACRO = re.compile(r"[A-Z][a-z]")
 DELIMITERS = ",", ".", ";", ":"
@@ -324,7 +327,7 @@ def mandoc_has_nothing_to_say(_program):
     """Which other pages stand on this machine is nothing of these."""
     if not shutil.which("mandoc"):
         raise Skipped("there is no mandoc")
-    for path in COMMANDS, FORMATS, PUBLISHING:
+    for path in PAGES:
         ended = subprocess.run(["mandoc", "-T", "lint", TOP / path], stdout=subprocess.PIPE, stderr=subprocess.STDOUT, timeout=SECONDS)
         said = [line for line in ended.stdout.decode().splitlines() if not any(words in line for words in OF_THE_MACHINE)]
         if said:
@@ -332,10 +335,30 @@ def mandoc_has_nothing_to_say(_program):
 
 
 def each_page_that_is_named_and_ours_is_there(_program):
-    for path in COMMANDS, FORMATS, PUBLISHING:
+    for path in PAGES:
         for name, number in re.findall(r"^\.Xr (hostext\S*) (\d)", (TOP / path).read_text(), re.M):
             if not (TOP / f"man/{name}.{number}").is_file():
                 raise Failed(f"{path} names {name}({number}), which isn't there")
+
+
+def check_tool(sources, name):
+    """The options and the variables of a tool are those that its help and its text have, and its statuses those of all of them."""
+    manual = page(sources, f"man/hostext-{name}.1")
+    shown = subprocess.run([TOP / "tools" / name, "--help"], capture_output=True, check=True, timeout=SECONDS).stdout.decode()
+    options = re.findall(r"^  (?:-h, )?(--[a-z-]+)", shown, re.M)
+    alike(f"options of {name}", [item.split()[0] for item in manual.items("OPTIONS")], options)
+    alike(f"variables of {name}", manual.items("ENVIRONMENT"), re.findall(r"\bHOSTEXT(?:_\w+)?\b", shown))
+    same(f"the statuses of {name}", manual.items("EXIT STATUS"), ["0", "1", "2", "129, 130, 143"])
+
+
+def each_option_of_a_tool_is_in_its_manual_and_no_other(_program):
+    for name in TOOLS:
+        check_tool(Sources(), name)
+
+
+def an_option_that_the_manual_of_a_tool_lacks_is_missed(_program):
+    for name, begin in ("pack", ".It Fl -public"), ("unpack", ".It Fl -keep"), ("tree-text", ".It Fl -quiet"), ("unpack", ".It Ev HOSTEXT\n"):
+        is_missed(lambda sources: check_tool(sources, name), f"man/hostext-{name}.1", begin)
 
 
 TRANSFER = "host/etc/sysupdate.d/tool.transfer"
@@ -348,6 +371,8 @@ def make_images(folder):
         shutil.copytree(TOP / "examples/depot/images/tool-2", folder / name)
     release = folder / "tool-3/usr/lib/extension-release.d/extension-release.tool-2"
     release.rename(release.with_name("extension-release.tool-3"))
+    for name in "tool-2", "tool-3":
+        (folder / name).chmod(0o755)
 
 
 def the_examples_write_what_they_show(program):
@@ -378,5 +403,6 @@ def follow_examples(path, programs):
 scenes = named(
     *(each_command_option_status_and_refusal_is_in_the_manual_and_no_other, the_manual_of_formats_has_what_the_formats_are),
     *(a_line_of_the_manual_that_is_taken_away_is_missed, what_the_manual_has_besides_is_told, mandoc_has_nothing_to_say, each_page_that_is_named_and_ours_is_there),
+    *(each_option_of_a_tool_is_in_its_manual_and_no_other, an_option_that_the_manual_of_a_tool_lacks_is_missed),
     *(the_examples_write_what_they_show, the_examples_of_publishing_write_what_they_show),
 )

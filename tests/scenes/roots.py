@@ -50,7 +50,7 @@ class Clock:
 
 
 def a_whole_root_comes_back_but_for_what_was_left_out(place):
-    """Owners and times don't come back either: the store keeps none."""
+    """Owners and times don't come back either: the store keeps none. Modes do where setuid and setgid are to stay."""
     root = os.environ.get("HOSTEXT_ROOT")
     if not root or not Path(root).is_dir():
         raise Skipped("HOSTEXT_ROOT names no folder with the root of a system")
@@ -58,7 +58,8 @@ def a_whole_root_comes_back_but_for_what_was_left_out(place):
     written, told, status = tool(place, "pack", "--leave-out-special", root, place.depot, "root", timeout=SECONDS)
     clock.step("pack")
     expect((written, status), (b"", 0))
-    left_out = {os.path.relpath(line.removeprefix("pack: left out: "), root) for line in told.decode().splitlines()}
+    begin = "pack: left out: "
+    left_out = {os.path.relpath(line.removeprefix(begin), root) for line in told.decode().splitlines() if line.startswith(begin)}
     text = (place.depot / "root.tree").read_bytes()
     files = [line.split(b" ") for line in text.splitlines() if line.startswith(b"f ")]
     place.expect(("init x86-64 system", DONE), ("import-fs root /", DONE))
@@ -67,7 +68,7 @@ def a_whole_root_comes_back_but_for_what_was_left_out(place):
     clock.step("check")
     place.expect(("tree", text))
     clock.step("tree")
-    expect(tool(place, "unpack", place.store, "/", out, timeout=SECONDS), (b"", b"", 0))
+    expect(tool(place, "unpack", "--keep-setid", place.store, "/", out, timeout=SECONDS), (b"", b"", 0))
     clock.step("unpack")
     if (found := set(differing(root, out))) != left_out:
         raise Failed(f"these differ, or don't though they were left out: {shortened(sorted(found ^ left_out))}")
