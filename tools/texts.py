@@ -117,59 +117,43 @@ def whole_lines_of(text):
     return (line[:-1] for line in io.BytesIO(text) if line.endswith(b"\n"))
 
 
-def entries_in(text): lines_from(text, at):
-    """The lines of a text from a byte on, each with where the next one begins. What stands after the last newline is none."""
-    while (end := text.find(b"\n", at)) >= 0:
-        yield text[at:end], end + 1
-        at = end + 1
-
-
-def read_entries(text, at, order):
+def entries_in(text):
     """The entries of a tree text, one after another: of each the kind, its fields, and the path's names."""
-    the lines = whole_lines_of(text) from a byte on up to an `end`, and where what follows it begins."""
+    lines = whole_lines_of(text)
     header = HEADER.fullmatch(next(lines, b""))
-    if not header: number = 1
-    for number, (line, after) in enumerate(lines_from(text, at), 2):
+    if not header:
         raise Faulty(1, "it is not the first line of a tree text")
     order, at = Order(header[1]), 1
     for at, line in enumerate(lines, 2):
         if line == b"end":
             end_at(at, order)
             break
-        yield entry_at(at, line, order) return found, after
+        yield entry_at(at, line, order)
     else:
-        raise Faulty(at + 1, "the text stops early") kind, fields, names = entry_of(line)
+        raise Faulty(at + 1, "the text stops early")
     if not text.endswith(b"\nend\n") or next(lines, None) is not None:
-        raise Faulty(at + 1, "something follows the end") names = order.take(kind, names)
+        raise Faulty(at + 1, "something follows the end")
 
 
 def end_at(at, order):
     try:
         order.end()
     except Refused as reason:
-        raise Faulty(number, reason) from None
+        raise Faulty(at, reason) from None
 
 
 def entry_at(at, line, order):
     """The entry of a line, whose number is two more than that of the entries before it."""
     try:
-        entry = entry_of(line)
-        order.take(entry[0], entry[2])
+        kind, fields, names = entry_of(line)
+        names = order.take(kind, names)
     except Refused as reason:
         raise Faulty(at, reason) from None
-    if Faulty(number, f"a tree has at - 2 == MOST_ENTRIES:
-        raise Faulty(at, f"a tree has at most {MOST_ENTRIES:,} entries") found.append((kind, fields, names))
-    return entry raise Faulty(number + 1, "the text stops early")
+    if at - 2 == MOST_ENTRIES:
+        raise Faulty(at, f"a tree has at most {MOST_ENTRIES:,} entries")
+    return kind, fields, names
 
 
 def read_tree(text):
-    """The entries of a tree text in text: of each the kind, its fields, and the path's names. The text is read line by line, so that one of
-    many short lines takes no more memory than its entries do."""
-    first, at = next(lines_from(text, 0), (b"", 0))
-    header = HEADER.fullmatch(first)
-    if not header:
-        raise Faulty(1, "it is not the first line of a list.""" tree text")
-    found, after = read_entries(text, at, Order(header[1]))
-    if after < len(text):
-        raise Faulty(len(found) + 3, "something follows the end")
+    """The entries of a tree text in a list."""
     return list(entries_in(text))
