@@ -56,7 +56,7 @@ def files_wanted():
     """What has to be installed of what stands in the repository, by its path below PREFIX."""
     tools = [name for name in TOOLS if (TOP / "tools" / name).exists()]
     pages = [path for path in (TOP / "man").iterdir()]
-    documents = [path for path in (TOP / "README.md", TOP / "CHANGELOG.md", TOP / "LICENSE", *(TOP / "docs").glob("*.md"), *(TOP / "docs/figures").glob("*.svg")) if path.exists()]
+    documents = [path for path in (TOP / "README.md", TOP / "CHANGELOG.md", TOP / "SECURITY.md", TOP / "LICENSE", TOP / "LICENSE-MIT", TOP / "LICENSE-APACHE", *(TOP / "docs").glob("*.md"), *(TOP / "docs/figures").glob("*.svg")) if path.exists()]
     bash = "share/bash-completion/completions/hostext"
     completions = [("hostext.bash", bash), ("hostext.bash", f"{bash}_publish"), ("_hostext", "share/zsh/site-functions/_hostext")]
     return {
@@ -268,14 +268,77 @@ def a_package_is_written_below_its_folder(program, folder):
         raise Failed(f"there stand {sorted(stands(folder))}")
     for unit in (place / "lib/systemd/system").glob("*.service"):
         starts = [line for line in unit.read_text().splitlines() if line.startswith("ExecStart=")]
-        if not starts or "/usr/local/bin/hostext " not in starts[0]:
+        program_of_it = "hostext" if unit.name.startswith("hostext-check@") else "hostext-update"
+        if len(starts) != 1 or f":/usr/local/bin/{program_of_it} " not in starts[0]:
             raise Failed(f"{unit.name} starts {starts}")
     expect(install(program, "--remove", f"DESTDIR={folder}/package", "/usr/local"), DONE)
     if os.listdir(folder):
         raise Failed(f"there stand {sorted(stands(folder))}")
 
 
+def licences_and_what_is_said_of_security_are_installed(program, folder):
+    """And the page of a tool that is new, where they stand in the repository."""
+    copy, prefix = folder / "copy", folder / "to"
+    copy_of_the_repository(copy)
+    documents = "LICENSE-MIT", "LICENSE-APACHE", "SECURITY.md"
+    for path in (*documents, "man/hostext-pack.1", "tools/more.py"):
+        (copy / path).write_text(f"{path}\n")
+    expect(install(program, prefix, tools=copy), DONE)
+    for path in (*(f"share/doc/hostext/{name}" for name in documents), "share/man/man1/hostext-pack.1", "lib/hostext/more.py"):
+        if stat.S_IMODE((prefix / path).stat().st_mode) != 0o644:
+            raise Failed(f"{path} has another mode")
+
+
+NO_RECORDS = [
+    *(b"", b"[]", b"{}", b'{"files": {}}', b'{"files": [], "folders": []}', b'{"files": {}, "folders": {}}', b"[" * 100_000, b"\xff"),
+    *(b'{"files": {"bin/a": "x"}, "folders": []}', b'{"files": {"bin/a": [1]}, "folders": []}', b'{"files": {}, "folders": [1]}', b'{"files": {}, "folders": "bin"}'),
+    *(b'{"files": {"%b": []}, "folders": []}' % path for path in (b"/etc/a", b"../a", b"bin/../../a", b"./a", b"", b"bin//a", b"a\\u0000", b"a\\ud800", b"a\\udcff")),
+    *(b'{"files": {}, "folders": ["%b"]}' % path for path in (b"/etc", b"../a", b"bin/..", b"../../etc", b"", b"a\\ud800")),
+]
+
+
+def a_record_that_leads_out_of_the_folder_is_refused(program, folder):
+    """Nothing that it names is taken away then, neither by an installation nor by --remove. A pipe in its place is not waited for."""
+    prefix, outside, empty = folder / "to", folder / "outside", folder / "empty"
+    expect(install(program, prefix), DONE)
+    record = prefix / RECORD
+    outside.write_bytes(b"abc")
+    empty.mkdir()
+    of_it = [b'{"files": {"%b": ["%b"]}, "folders": ["%b"]}' % (path, digest(b"abc").encode(), folders) for path, folders in ((b"../outside", b"bin"), (os.fsencode(outside), b"bin"), (b"bin/a", b"../empty"))]
+    for text in (*NO_RECORDS, *of_it, None):
+        record.unlink()
+        os.mkfifo(record) if text is None else record.write_bytes(text)
+        before = stands(prefix / "bin"), stands(outside), stands(empty)
+        for words in (), ("--remove",):
+            expect(install(program, *words, prefix), (b"", os.fsencode(f"install: {record}: it tells of no installation\n"), 1))
+        if (stands(prefix / "bin"), stands(outside), stands(empty)) != before:
+            raise Failed(f"with {shortened(text)} something changed")
+
+
+def a_link_out_of_the_folder_is_not_followed(program, folder):
+    """Neither by an installation nor by --remove. One that stays in the folder is."""
+    prefix, elsewhere = folder / "to", folder / "elsewhere"
+    (prefix / "real").mkdir(parents=True)
+    elsewhere.mkdir()
+    (prefix / "bin").symlink_to(elsewhere)
+    written, told, status = install(program, prefix)
+    line = f"install: {prefix}/bin/hostext: a link on the way to it leads out of PREFIX"
+    if (written, status) != (b"", 1) or line not in told.decode().splitlines() or os.listdir(elsewhere) or sorted(os.listdir(prefix)) != ["bin", "real"]:
+        raise Failed(f"it ends with {status} and tells {shortened(told)}")
+    (prefix / "bin").unlink()
+    (prefix / "bin").symlink_to("real")
+    expect(install(program, prefix), DONE)
+    (prefix / "real").rename(elsewhere / "real")
+    (prefix / "bin").unlink()
+    (prefix / "bin").symlink_to(elsewhere / "real")
+    before = stands(elsewhere)
+    written, told, status = install(program, "--remove", prefix)
+    if (written, status) != (b"", 0) or f"install: a link leads there, out of PREFIX, and stays: {prefix}/bin/hostext" not in told.decode().splitlines() or stands(elsewhere) != before:
+        raise Failed(f"it ends with {status} and tells {shortened(told)}")
+
+
 CALLS = [
+    *(licences_and_what_is_said_of_security_are_installed, a_record_that_leads_out_of_the_folder_is_refused, a_link_out_of_the_folder_is_not_followed),
     *(what_stands_in_the_repository_is_installed, programs_and_tools_run_from_where_they_are_installed),
     *(a_link_to_an_installed_tool_finds_the_program, modes_are_the_same_whatever_the_umask, removing_leaves_a_folder_as_it_was),
     *(what_others_put_there_or_changed_stays, nothing_changes_where_it_is_refused, a_place_that_cannot_be_written_is_told),
