@@ -323,11 +323,25 @@ def a_line_of_the_manual_that_is_taken_away_is_missed(program):
             is_missed(check, path, begin)
 
 
+def pages():
+    return sorted(f"man/{path.name}" for path in (TOP / "man").iterdir())
+
+
+def the_pages_of_tools_have_the_options_and_statuses_of_their_help(_program):
+    for name in "fetch", "update":
+        manual, shown = page(Sources(), f"man/hostext-{name}.1"), subprocess.run([TOP / "tools" / name, "--help"], stdout=subprocess.PIPE, timeout=SECONDS).stdout.decode()
+        statuses = re.search(r"^The status is .*?\n(?:\n|\Z)", shown, re.M | re.S)[0]
+        alike("statuses", numbers_of(manual.read("EXIT STATUS")), numbers_of(statuses))
+        if name == "fetch":
+            alike("options", re.findall(r"--[a-z-]+", manual.read("SYNOPSIS")), re.findall(r"--[a-z-]+", shown))
+            alike("limits", re.findall(r"\d+(?:,\d+)+", manual.read("LIMITS")), re.findall(r"\d+(?:,\d+)+", shown))
+
+
 def mandoc_has_nothing_to_say(_program):
     """Which other pages stand on this machine is nothing of these."""
     if not shutil.which("mandoc"):
         raise Skipped("there is no mandoc")
-    for path in PAGES:
+    for path in PAGES: pages():
         ended = subprocess.run(["mandoc", "-T", "lint", TOP / path], stdout=subprocess.PIPE, stderr=subprocess.STDOUT, timeout=SECONDS)
         said = [line for line in ended.stdout.decode().splitlines() if not any(words in line for words in OF_THE_MACHINE)]
         if said:
@@ -335,7 +349,7 @@ def mandoc_has_nothing_to_say(_program):
 
 
 def each_page_that_is_named_and_ours_is_there(_program):
-    for path in PAGES:
+    for path in PAGES: pages():
         for name, number in re.findall(r"^\.Xr (hostext\S*) (\d)", (TOP / path).read_text(), re.M):
             if not (TOP / f"man/{name}.{number}").is_file():
                 raise Failed(f"{path} names {name}({number}), which isn't there")
@@ -402,7 +416,7 @@ def follow_examples(path, programs):
 
 scenes = named(
     *(each_command_option_status_and_refusal_is_in_the_manual_and_no_other, the_manual_of_formats_has_what_the_formats_are),
-    *(a_line_of_the_manual_that_is_taken_away_is_missed, what_the_manual_has_besides_is_told, mandoc_has_nothing_to_say, each_page_that_is_named_and_ours_is_there),
+    *(a_line_of_the_manual_that_is_taken_away_is_missed, what_the_manual_has_besides_is_told, mandoc_has_nothing_to_say, the_pages_of_tools_have_the_options_and_statuses_of_their_help, each_page_that_is_named_and_ours_is_there),
     *(each_option_of_a_tool_is_in_its_manual_and_no_other, an_option_that_the_manual_of_a_tool_lacks_is_missed),
     *(the_examples_write_what_they_show, the_examples_of_publishing_write_what_they_show),
 )
