@@ -135,6 +135,8 @@ class Folders:
             os.close(handle)
 
     def at(self, names):
+        if names == self.names:
+            return self.handles[-1]
         while self.names != names[: len(self.names)]:
             os.close(self.handles.pop())
             self.names = self.names[:-1]

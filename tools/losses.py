@@ -3,29 +3,13 @@ import os
 import stat
 
 from entries import shown
+from telling import Found
 from walking import OPAQUE
 
-MOST_SHOWN = 3
 CAPABILITY = "security.capability"
 OWNER, CAPABILITIES, ATTRIBUTES = "owners", "file capabilities", "other extended attributes"
 LINKS, HOLES = "hard links, which become files of their own", "holes, which are filled"
 KINDS = OWNER, CAPABILITIES, ATTRIBUTES, LINKS, HOLES
-
-
-class Found:
-    """How many entries there are of a kind, and the first of them."""
-
-    def __init__(self):
-        self.count, self.first = 0, []
-
-    def add(self, path):
-        self.count += 1
-        if len(self.first) < MOST_SHOWN:
-            self.first.append(path)
-
-    def __str__(self):
-        more = ", .." if self.count > len(self.first) else ""
-        return f"{self.count:,} ({', '.join(map(shown, self.first))}{more})"
 
 
 class Losses:

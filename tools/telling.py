@@ -7,8 +7,27 @@ import os
 import sys
 import time
 
+from entries import shown
+
 BEFORE = 0.5
 BETWEEN = 0.2
+MOST_SHOWN = 3
+
+
+class Found:
+    """How many entries there are of a kind, and the first of them."""
+
+    def __init__(self):
+        self.count, self.first = 0, []
+
+    def add(self, path):
+        self.count += 1
+        if len(self.first) < MOST_SHOWN:
+            self.first.append(path)
+
+    def __str__(self):
+        more = ", .." if self.count > len(self.first) else ""
+        return f"{self.count:,} ({', '.join(map(shown, self.first))}{more})"
 
 
 class Teller:

@@ -10,12 +10,12 @@ is walked twice, and a directory is entered the second time only if it is the on
 import errno
 import os
 import stat
-from contextlib import contextmanager
 from typing import NamedTuple
 
 from entries import MOST_ENTRIES, MOST_FILE_BYTES, MOST_TARGET_BYTES, Folders, Refused, check_path, check_text, no_copy, open_file, shown, stamp_at
 
 OPAQUE = ("trusted.overlay.opaque", "user.overlay.opaque")
+KEPT_KINDS = stat.S_IFDIR, stat.S_IFREG, stat.S_IFLNK
 CHANGED = "it changed meanwhile"
 # How calls fail at an entry that is of another kind by now.
 OTHER_KINDS = errno.ELOOP, errno.ENOTDIR, errno.EINVAL, errno.ENXIO
@@ -76,8 +76,7 @@ def is_whiteout(status):
 
 def is_special(status):
     """Whether it is a device, a socket or a pipe, of which a tree text has none."""
-    kinds = stat.S_ISDIR, stat.S_ISREG, stat.S_ISLNK
-    return not is_whiteout(status) and not any(is_kind(status.st_mode) for is_kind in kinds)
+    return stat.S_IFMT(status.st_mode) not in KEPT_KINDS and not is_whiteout(status)
 
 
 def is_taken(_names, _status):
@@ -88,22 +87,19 @@ def no_look(_names, _status, _handle):
     """What is made of an entry beside its line."""
 
 
-@contextmanager
-def no_copies(_path):
+def no_copies(_path, read):
     """What becomes of the bytes of files that are read for their digests alone."""
-    yield no_copy
+    return read(no_copy)
 
 
-@contextmanager
-def told_at(full):
-    """A call that fails is told with the whole path; one that finds another kind of entry tells that it changed."""
-    try:
-        yield
-    except OSError as error:
-        if error.errno in OTHER_KINDS:
-            raise Refused(CHANGED) from None
+def told_at(full, error):
+    """What is told of a call that failed: with the whole path, where it knows the last name or none. One that finds another kind of
+    entry tells that it changed."""
+    if error.errno in OTHER_KINDS:
+        return Refused(f"{shown(full)}: {CHANGED}")
+    if b"/" not in os.fsencode(error.filename or b""):
         error.filename = full
-        raise
+    return error
 
 
 class Walk:
@@ -183,32 +179,31 @@ class Walk:
             os.close(handle)
 
     def lines(self, places, copies=no_copies):
-        """The lines of these places. The bytes of a file go where `copies` lets them at its path in the tree."""
+        """The lines of these places. `copies` has a file read, whose path in the tree it gets."""
         with Known(self.handle, self.known) as folders:
             for place in places:
                 try:
                     yield self.line(folders, place, copies)
                 except Refused as reason:
                     raise Refused(f"{shown(self.full(place.names))}: {reason}") from None
+                except OSError as error:
+                    raise told_at(self.full(place.names), error) from None
 
     def line(self, folders, place, copies):
-        path = b"/".join(place.path)
+        path, kind = b"/".join(place.path), place.kind
         if not place.names:
             return b"d 755 %b\n" % path
-        full, name = self.full(place.names), place.names[-1]
-        with told_at(full):
-            if place.kind == stat.S_IFDIR:
-                return directory_line(folders.at(place.names), path)
-            folder = folders.at(place.names[:-1])
-            if place.kind == stat.S_IFLNK:
-                target = target_of(name, folder)
-                return b"l %d %b %b\n" % (len(target), target, path)
-            if place.kind == stat.S_IFCHR:
-                return whiteout_line(os.stat(name, dir_fd=folder, follow_symlinks=False), path)
-            handle, status = open_file(name, folder)
+        if kind == stat.S_IFDIR:
+            return directory_line(folders.at(place.names), path)
+        name, folder = place.names[-1], folders.at(place.names[:-1])
+        if kind == stat.S_IFLNK:
+            target = target_of(name, folder)
+            return b"l %d %b %b\n" % (len(target), target, path)
+        if kind == stat.S_IFCHR:
+            return whiteout_line(os.stat(name, dir_fd=folder, follow_symlinks=False), path)
+        handle, status = open_file(name, folder)
         try:
-            with copies(place.path) as copy, told_at(full):
-                size, digest = stamp_at(handle, status.st_size, copy)
+            size, digest = copies(place.path, lambda copy: stamp_at(handle, status.st_size, copy))
         finally:
             os.close(handle)
         self.tells.read(size)
