@@ -250,6 +250,18 @@ def everybody_may_read_what_is_published_and_nobody_else_the_store(site, place):
     has_modes(place.store, 0o700, 0o600)
 
 
+def files_that_only_their_owner_may_read_are_counted_where_they_are_published(site, place):
+    """By their modes on the host, whatever the umask: a directory of such a mode is none, and neither is what wasn't published."""
+    modes = {"a": "600", "b": "0", "c": "4700", "d/e": "400", "f": "640", "g": "604", "h": "644", "i": "610"}
+    lines = sorted([*(f"f {mode} 3 {ABC} usr/{path}" for path, mode in modes.items()), "d 700 usr/d", "l 1 a usr/k"], key=lambda line: line.split(" ")[-1].split("/"))
+    place.resource("host", tree_text("d 755 usr", *lines, f"f 600 3 {ABC} usra"), {**{f"usr/{path}": b"abc" for path in modes}, "usra": b"abc"})
+    place.expect(("init x86-64 system", DONE), ("import-fs host /", DONE), ("import-fs host /other", DONE))
+    for words, count, files in (("/usr", "r", "x"), 4, 8), (("/usr/a", "r", "y"), 1, 1), (("/usr/d", "r", "d"), 1, 1), (("/usr/f", "r", "f"), 0, 1), (("/", "r", "all"), 10, 18):
+        told = f"hostext: published are also files that only their owner may read on the host: {count}\n".encode() if count else b""
+        expect(site.run(*words), (f"published {files} {3 * files}\n".encode(), told, 0))
+    expect(site.run("/usr", "r", "x"), (b"refused 34 listed x\n", b"", 1))
+
+
 def has_modes(top, of_folders, of_files):
     for path in top.rglob("*"):
         mode = stat.S_IMODE(path.lstat().st_mode)
@@ -565,7 +577,8 @@ CALLS = [
     *(a_directory_and_a_file_are_published_listed_and_imported, eleven_thousand_files_come_out_as_they_were),
     *(the_root_an_empty_directory_and_an_empty_file_are_published, a_view_is_published_as_it_is_seen, an_update_takes_what_was_published),
     *(what_an_earlier_run_left_goes_and_all_else_stays, everybody_may_read_what_is_published_and_nobody_else_the_store),
-    *(modes_are_what_the_umask_leaves, the_store_is_shared_and_out_is_for_one_run_alone, runs_that_are_started_together_are_all_listed),
+    *(files_that_only_their_owner_may_read_are_counted_where_they_are_published, modes_are_what_the_umask_leaves),
+    *(the_store_is_shared_and_out_is_for_one_run_alone, runs_that_are_started_together_are_all_listed),
     *(refusals_come_in_their_order, a_manifest_that_would_be_too_long_is_refused, what_fits_a_path_is_published),
     *(one_folder_in_the_other_is_usage, words_that_ask_nothing_are_usage, the_help_is_one_line_and_the_version_that_of_the_other_program, each_device_that_fails_is_told),
     *(a_folder_that_cannot_be_written_is_told, a_full_file_system_leaves_the_old_manifest, more_left_overs_than_one_run_removes_take_two),

@@ -10,6 +10,8 @@ from scenes.sites import SECONDS, TOLD_SO, Judge, expected, standing
 
 SOURCE = Path(__file__).with_name("refuse.c")
 OUT_OF_MEMORY = "hostext: out of memory"
+# What a run that publishes tells where it was done and found no memory to count.
+UNCOUNTED = b"hostext: couldn't tell how many of these files only their owner may read\n"
 # So many requests at most are refused of a use in the short run.
 FEW = 12
 
@@ -110,7 +112,7 @@ class RefusingRun:
         written, told, status = self.memory.refuse(number, self.yard.words(self.run))
         lines = {**TOLD_SO, 7: OUT_OF_MEMORY}
         if status not in lines:
-            expected((written, told, status), (self.run.reply, b"", int(self.run.is_refused)))
+            expected((written, told.replace(UNCOUNTED, b"", 1), status), (self.run.reply, b"", int(self.run.is_refused)))
         elif told.decode() != f"{lines[status]}\n" or (written and not (status == 4 and self.run.reply.startswith(written))):
             raise Failed(f"it ends with {status} {shortened(told)}, and writes {shortened(written)}")
         if standing(self.yard.place.store) != self.yard.store:

@@ -20,3 +20,18 @@ fn print_status(rt: &HostRuntime, status: &PubStatus) {
         PubStatus::Unfinished => rt.eprintln("hostext: unfinished"),
     };
 }
+
+/// Tells how many of the published files only their owner may read on the host, where there are some, or that it isn't known.
+pub(crate) fn tell_owners(rt: &HostRuntime, count: Option<u64>) {
+    let _ = match count {
+        Some(0) => Ok(()),
+        Some(count) => {
+            eprintln!(rt;
+                "hostext: published are also files that only their owner may read on the host: {count}"
+            )
+        }
+        None => rt.eprintln(
+            "hostext: couldn't tell how many of these files only their owner may read",
+        ),
+    };
+}

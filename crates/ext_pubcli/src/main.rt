@@ -5,25 +5,29 @@
 //! folders must exist, and neither may stand in the other.
 //!
 //! STORE is locked together with others that read it, and OUT for this run alone: from the first look at each, OUT to the end, and
-//! STORE until the reply is written. What is made in OUT has the modes that the umask leaves, so that a web server can read it.
+//! STORE until the reply is written. What is made in OUT has the modes that the umask leaves, so that a web server can read it. Where
+//! files were published that only their owner may read on the host, a line on standard error tells how many.
 #![tactic(auto)]
 
 mod ending;
 mod folders;
 mod help;
+mod index_read;
 mod reasons;
+mod watched;
 
-use ending::report;
+use ending::{report, tell_owners};
 use ext_folder::{FolderDisk, Hold, LockedDisk, Nesting, ReleasingSink};
 use ext_io::StdSink;
 use ext_publish::{PubStatus, publish};
-use ext_published::{AskErr, read_words};
+use ext_published::{AskErr, Asked, read_words};
 use ext_reasons::{Ending, WaitingLine, faulty, lock};
 use ext_text::{OutOfMemory, Text, Words};
 use folders::nesting_between;
 use help::{HELP, VERSION};
 use std::process::ExitCode;
 use std::{env, io};
+use watched::Watched;
 
 fn main(rt: HostRuntime) -> ExitCode {
     let ending = outcome(&rt);
@@ -80,7 +84,7 @@ fn run_words(
         texts.push(Text::from_bytes(rt.alloc(), word.as_bytes())?)?;
     }
     match read_words(rt.alloc(), &texts) {
-        Ok(_asked) => run_folders(rt, store, out, &texts),
+        Ok(asked) => run_folders(rt, store, out, &asked, &texts),
         Err(AskErr::OutOfMemory) => Err(OutOfMemory),
         Err(AskErr::Usage { place }) => reasons::faulty_words(rt.alloc(), words, place),
     }
@@ -91,13 +95,14 @@ fn run_folders(
     rt: &HostRuntime,
     store: &String,
     out: &String,
+    asked: &Asked,
     words: &Words,
 ) -> Result<Ending<PubStatus>, OutOfMemory> {
     match nesting_between(rt, out.as_str(), store.as_str())? {
         Nesting::Within => reasons::clashing_folders(rt.alloc()),
         Nesting::Unseen(trouble) => faulty(rt.alloc(), PubStatus::OutFault, &trouble),
         Nesting::OtherUnseen(trouble) => { faulty(rt.alloc(), PubStatus::DiskFault, &trouble) }
-        Nesting::Apart => run_apart(rt, store, out, words),
+        Nesting::Apart => run_apart(rt, store, out, asked, words),
     }
 }
 
@@ -106,6 +111,7 @@ fn run_apart(
     rt: &HostRuntime,
     store: &String,
     out: &String,
+    asked: &Asked,
     words: &Words,
 ) -> Result<Ending<PubStatus>, OutOfMemory> {
     let of_store = lock(rt, store.as_str(), Hold::Shared);
@@ -114,15 +120,19 @@ fn run_apart(
     let store_root = Text::from_bytes(rt.alloc(), store.as_bytes())?;
     let out_root = Text::from_bytes(rt.alloc(), out.as_bytes())?;
     let disk = FolderDisk::private(*rt, store_root);
-    let mut disk = LockedDisk::new(disk, of_store, WaitingLine::for_store(*rt));
+    let disk = LockedDisk::new(disk, of_store, WaitingLine::for_store(*rt));
+    let mut disk = Watched::new(rt.alloc(), disk);
     let made = FolderDisk::new(*rt, out_root);
     let mut made = LockedDisk::new(made, of_out, WaitingLine::for_out(*rt));
     let status = publish(rt.alloc(), words, &mut sink, &mut disk, &mut made);
+    if matches!(status, PubStatus::Done) {
+        tell_owners(rt, disk.index().owners_files(rt.alloc(), asked.path()));
+    }
     reasons::ending_with(
         rt.alloc(),
         status,
         store.as_str(),
-        disk.trouble(),
+        disk.inner().trouble(),
         made.trouble(),
     )
 }
