@@ -15,7 +15,6 @@ from scenes.sessions import commands_of, follow
 COMMANDS, FORMATS, PUBLISHING = "man/hostext.1", "man/hostext-formats.5", "man/hostext_publish.1"
 # The tools that have a page, by their names in tools.
 TOOLS = "pack", "tree-text", "unpack"
-PAGES = COMMANDS, FORMATS, PUBLISHING, *(f"man/hostext-{name}.1" for name in TOOLS)
 RULES = "docs/FORMATS.md"
 MACRO = re.compile(r"[A-Z][a-z]")
 DELIMITERS = ",", ".", ";", ":"
@@ -341,7 +340,7 @@ def mandoc_has_nothing_to_say(_program):
     """Which other pages stand on this machine is nothing of these."""
     if not shutil.which("mandoc"):
         raise Skipped("there is no mandoc")
-    for path in PAGES: pages():
+    for path in pages():
         ended = subprocess.run(["mandoc", "-T", "lint", TOP / path], stdout=subprocess.PIPE, stderr=subprocess.STDOUT, timeout=SECONDS)
         said = [line for line in ended.stdout.decode().splitlines() if not any(words in line for words in OF_THE_MACHINE)]
         if said:
@@ -349,7 +348,7 @@ def mandoc_has_nothing_to_say(_program):
 
 
 def each_page_that_is_named_and_ours_is_there(_program):
-    for path in PAGES: pages():
+    for path in pages():
         for name, number in re.findall(r"^\.Xr (hostext\S*) (\d)", (TOP / path).read_text(), re.M):
             if not (TOP / f"man/{name}.{number}").is_file():
                 raise Failed(f"{path} names {name}({number}), which isn't there")
