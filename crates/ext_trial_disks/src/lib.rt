@@ -19,5 +19,5 @@ pub use disk_calls::call_text;
 pub use kept_words::{compare, copy, give, give_piece};
 pub use looking::{calls_text, file_text, kind_text, most_bytes, sizes_text, whole_text};
 pub use outcome::{Outcome, append_bad_store, append_field};
-pub use placing::{put_file, put_files, put_folder, sync};
+pub use placing::{below, cut, put_file, put_files, put_folder, sync};
 pub use store_words::{clean, current_text, left_over_text, paths_text};

@@ -13,7 +13,7 @@ use std::alloc::Global;
 ///
 /// # Errors
 /// `Unreadable` where it has none, and `OutOfMemory`.
-pub(crate) fn cut(alloc: Global, bytes: &[u8]) -> Result<(Path, Name), Trouble> {
+pub fn cut(alloc: Global, bytes: &[u8]) -> Result<(Path, Name), Trouble> {
     let (dir, last) = match bytes.iter().rposition(|byte| *byte == b'/') {
         Some(at) => around(bytes, at),
         None => (b"".as_slice(), bytes),
@@ -34,7 +34,7 @@ fn around(bytes: &[u8], at: usize) -> (&[u8], &[u8]) {
 ///
 /// # Errors
 /// `Unreadable` where it would be too long, and `OutOfMemory`.
-pub(crate) fn below(dir: &Path, name: &Name) -> Result<Path, Trouble>
+pub fn below(dir: &Path, name: &Name) -> Result<Path, Trouble>
     ensures { IfOk result (λ path. path ≡ dir.now ++ name.now ∷ []) }
 {
     match dir.child(name) {

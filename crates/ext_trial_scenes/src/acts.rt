@@ -8,7 +8,11 @@ use ext_text::{Path, Text, Words};
 use ext_trial_disks::{Outcome, call_text, carry_change, put_file, put_files, put_folder, sync};
 use ext_trial_plans::Change;
 use std::alloc::Global;
+use std::collections::BTreeMap;
 use std::mem;
+
+/// The files of a depot.
+pub(crate) type Files = BTreeMap<Path, Text>;
 
 /// The devices of a scene.
 pub(crate) type MemoryDevices = MemoryStreams<MemoryDisk, MemoryDepot>;
@@ -48,14 +52,10 @@ pub(crate) fn empty_disk(alloc: Global) -> MemoryDisk {
 ///
 /// # Errors
 /// `OutOfMemory`.
-pub(crate) fn depot_of(
-    alloc: Global,
-    files: &[(Path, Text)],
-    fails: Calls,
-) -> Result<MemoryDepot, Trouble> {
+pub(crate) fn depot_of(alloc: Global, files: &Files, fails: Calls) -> Result<MemoryDepot, Trouble> {
     let mut depot = MemoryDepot::new(alloc, fails);
-    for file in files {
-        depot.put(file.0.copy()?, file.1.copy()?)?;
+    for (at, bytes) in files.iter() {
+        depot.put(at.copy()?, bytes.copy()?)?;
     }
     Ok(depot)
 }
@@ -64,10 +64,7 @@ pub(crate) fn depot_of(
 ///
 /// # Errors
 /// `OutOfMemory`.
-pub(crate) fn fresh_devices(
-    alloc: Global,
-    files: &[(Path, Text)],
-) -> Result<MemoryDevices, Trouble> {
+pub(crate) fn fresh_devices(alloc: Global, files: &Files) -> Result<MemoryDevices, Trouble> {
     let depot = depot_of(alloc, files, Calls::new(alloc))?;
     Ok(beside_streams(alloc, empty_disk(alloc), depot))
 }

@@ -1,10 +1,10 @@
 // What a store tells before a change, after each line of a batch, and after a change.
-use crate::acts::{Act, MemoryDevices, act_all, act_on, empty_disk};
+use crate::acts::{Act, Files, MemoryDevices, act_all, act_on, empty_disk};
 use crate::batches::{lines_of, reply_of_line};
 use crate::streams::{Streams, run_over};
 use ext_case::Trouble;
 use ext_disk::MemoryDisk;
-use ext_text::{Path, Text, Words};
+use ext_text::{Text, Words};
 use ext_trial_disks::{Outcome, standing_text};
 use std::alloc::Global;
 
@@ -13,7 +13,7 @@ use std::alloc::Global;
 pub(crate) struct Play<'a> {
     pub(crate) before: &'a [Act],
     pub(crate) change: &'a Act,
-    pub(crate) files: &'a [(Path, Text)],
+    pub(crate) files: &'a Files,
 }
 
 /// What a store tells. First it tells of a command its tree and a check of its files, and of a change what it stands for.

@@ -14,6 +14,7 @@ mod ends;
 mod every;
 mod exits;
 mod laws;
+mod resources;
 mod scene;
 mod streams;
 mod words;

@@ -5,6 +5,7 @@ mod runs;
 
 use crate::acts::{Act, MemoryDevices, depot_of, stop_disk};
 use crate::exits::Stream;
+use crate::resources::Resource;
 use crate::streams::{Streams, beside_streams};
 use ext_case::Trouble;
 use ext_depot::MemoryDepot;
@@ -13,6 +14,7 @@ use ext_io::Calls;
 use ext_text::{Path, Text};
 use ext_trial_disks::Outcome;
 use std::alloc::Global;
+use std::collections::BTreeMap;
 use std::mem;
 
 /// The devices of a case, what was done to them, and how the last command ended.
@@ -26,7 +28,10 @@ pub struct Scene {
     streams: Streams,
     // How many bytes a call of a stream moves, for each run of a command.
     pieces: Vec<usize>,
-    files: Vec<(Path, Text)>,
+    /// The files of the depot.
+    pub(crate) files: BTreeMap<Path, Text>,
+    /// The resource that statements put entries into.
+    pub(crate) resource: Option<Resource>,
     acts: Vec<Act>,
     // They are made when they are needed first.
     devices: Option<MemoryDevices>,
@@ -43,7 +48,8 @@ impl Scene {
             stop: None,
             streams: Streams::new(Text::new(alloc)),
             pieces: Vec::new(alloc),
-            files: Vec::new(alloc),
+            files: BTreeMap::new(alloc),
+            resource: None,
             acts: Vec::new(alloc),
             devices: None,
             unsaid: None,
@@ -131,7 +137,7 @@ impl Scene {
         if let Some(devices) = &mut self.devices {
             devices.depot.put(path.copy()?, bytes.copy()?)?;
         }
-        self.files.push((path, bytes))?;
+        self.files.insert(path, bytes)?;
         Ok(())
     }
 
@@ -155,7 +161,7 @@ impl Scene {
         let disk_fails = mem::replace(&mut self.disk_fails, Calls::new(alloc));
         let depot_fails = mem::replace(&mut self.depot_fails, Calls::new(alloc));
         let disk = MemoryDisk::new(alloc, disk_fails, self.stop);
-        let depot = depot_of(alloc, self.files.as_slice(), depot_fails)?;
+        let depot = depot_of(alloc, &self.files, depot_fails)?;
         Ok(beside_streams(alloc, disk, depot))
     }
 

@@ -3,6 +3,8 @@ use crate::acts::Act;
 use crate::command_words::may_change_text;
 use crate::device_words::{after_stop, fail, pick_of, put_on_disk, sizes, stop};
 use crate::laws::call_laws;
+use crate::resources;
+use crate::resources::is_entry;
 use crate::scene::Scene;
 use ext_case::{Trouble, none, number, number_text, one, one_and_more, path, size, two};
 use ext_disk::{DiskOp, MemoryDisk};
@@ -27,7 +29,12 @@ pub fn answer(
     word: &str,
     arguments: &[Text],
 ) -> Result<Option<Text>, Trouble> {
+    if is_entry(word) {
+        return Ok(Some(resources::put(alloc, scene, word, arguments)?));
+    }
     let text = match word {
+        "resource" => resources::begin(alloc, scene, arguments),
+        "listed" => resources::list(alloc, scene, arguments),
         "disk" => put_on_disk(alloc, scene, arguments),
         "depot" => put_in_depot(alloc, scene, arguments),
         "input" => give_input(alloc, scene, arguments),

@@ -26,7 +26,7 @@ impl Scene {
     /// # Errors
     /// `Unreadable` where something of it is not done, and `OutOfMemory`.
     pub(crate) fn left_by_stop(&self, alloc: Global, pick: Pick) -> Result<Text, Trouble> {
-        let mut devices = fresh_devices(alloc, self.files.as_slice())?;
+        let mut devices = fresh_devices(alloc, &self.files)?;
         act_all(alloc, self.acts.as_slice(), &mut devices)?;
         stop_disk(alloc, &mut devices, pick)?;
         whole_text(alloc, &mut devices.disk)

@@ -17,7 +17,7 @@ impl Scene {
             [before @ .., change] if is_change(change) => Ok(Play {
                 before,
                 change,
-                files: self.files.as_slice(),
+                files: &self.files,
             }),
             _ => Err(Trouble::Unreadable("the statement before is no change")),
         }
