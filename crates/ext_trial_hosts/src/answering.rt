@@ -1,15 +1,7 @@
 // A word is carried out.
-use crate::commands::{batch_line, words};
-use crate::held::held;
-use crate::hosts::host;
 use crate::indexes::index;
 use crate::laws::call_laws;
-use crate::records::record;
-use crate::refusals::refusal;
-use crate::releases::release;
-use crate::replies::reply;
-use crate::searches::{search, why};
-use crate::subject::Subject;
+use crate::told::told;
 use ext_case::Trouble;
 use ext_text::Text;
 use std::alloc::Global;
@@ -19,28 +11,13 @@ use std::alloc::Global;
 /// # Errors
 /// `Unreadable` where the word takes other arguments, and `OutOfMemory`.
 pub fn answer(alloc: Global, word: &str, arguments: &[Text]) -> Result<Option<Text>, Trouble> {
-    match Subject::read(word) {
-        Some(subject) => Ok(Some(answer_on(alloc, subject, arguments)?)),
-        None if word == "laws" => Ok(on_laws(alloc, arguments)),
-        None => Ok(None),
-    }
-}
-
-// What a word on this subject writes.
-fn answer_on(alloc: Global, subject: Subject, arguments: &[Text]) -> Result<Text, Trouble> {
-    match subject {
-        Subject::Host => host(alloc, arguments),
-        Subject::Held => held(alloc, arguments),
-        Subject::Release => release(alloc, arguments),
-        Subject::Find => search(alloc, arguments),
-        Subject::WhyBroken => why(alloc, arguments),
-        Subject::Record => record(alloc, arguments),
-        Subject::Index => index(alloc, arguments),
-        Subject::Words => words(alloc, arguments),
-        Subject::BatchLine => batch_line(alloc, arguments),
-        Subject::Reply => reply(alloc, arguments),
-        Subject::Refusal => refusal(alloc, arguments),
-    }
+    let text = match word {
+        "index" => index(alloc, arguments),
+        "told" => told(alloc, arguments),
+        "laws" => return Ok(on_laws(alloc, arguments)),
+        _ => return Ok(None),
+    }?;
+    Ok(Some(text))
 }
 
 // Calls the laws of hosts, which write nothing.

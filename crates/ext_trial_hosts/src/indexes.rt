@@ -1,6 +1,5 @@
 // Texts of indexes.
-use crate::releases::fault_line;
-use ext_case::{Trouble, number_line, one_and_more, small};
+use ext_case::{Trouble, append_str, number_line, small, string, two_and_more};
 use ext_host::Host;
 use ext_index::{IndexErr, index_size, read_index, write_index};
 use ext_text::Text;
@@ -13,13 +12,11 @@ use std::alloc::Global;
 /// # Errors
 /// `Unreadable` where the arguments are other ones, and `OutOfMemory`.
 pub(crate) fn index(alloc: Global, arguments: &[Text]) -> Result<Text, Trouble> {
-    let (what, rest) = one_and_more(arguments)?;
-    let shown = Shown::read(what.bytes())?;
-    let (generation, texts) = one_and_more(rest)?;
+    let (what, generation, texts) = two_and_more(arguments)?;
     let generation = small(generation)?;
     let bytes = joined(alloc, texts)?;
     match read_index(alloc, bytes.bytes(), generation) {
-        Ok((host, number)) => shown.text(alloc, generation, &host, number),
+        Ok((host, number)) => shown(alloc, what, generation, &host, number),
         Err(IndexErr::Broken { line }) => fault_line(alloc, line),
         Err(IndexErr::OutOfMemory) => Err(Trouble::OutOfMemory),
     }
@@ -34,35 +31,26 @@ fn joined(alloc: Global, texts: &[Text]) -> Result<Text, Trouble> {
     Ok(joined)
 }
 
-// What is shown of an index that was read.
-#[derive(Clone, Copy)]
-enum Shown {
-    Index,
-    Number,
-    Size,
+// What is asked of an index that was read.
+fn shown(
+    alloc: Global,
+    what: &Text,
+    generation: u32,
+    host: &Host,
+    number: u32,
+) -> Result<Text, Trouble> {
+    match string(what)? {
+        "read" => Ok(write_index(alloc, host, generation)?),
+        "number" => number_line(alloc, u64::from(number)),
+        "size" => number_line(alloc, index_size(host, generation)),
+        _ => Err(Trouble::Unreadable("no such word after index")),
+    }
 }
 
-impl Shown {
-    fn read(word: &[u8]) -> Result<Shown, Trouble> {
-        match word {
-            b"read" => Ok(Shown::Index),
-            b"number" => Ok(Shown::Number),
-            b"size" => Ok(Shown::Size),
-            _ => Err(Trouble::Unreadable("no such word after index")),
-        }
-    }
-
-    fn text(
-        self,
-        alloc: Global,
-        generation: u32,
-        host: &Host,
-        number: u32,
-    ) -> Result<Text, Trouble> {
-        match self {
-            Shown::Index => Ok(write_index(alloc, host, generation)?),
-            Shown::Number => number_line(alloc, u64::from(number)),
-            Shown::Size => number_line(alloc, index_size(host, generation)),
-        }
-    }
+fn fault_line(alloc: Global, line: u64) -> Result<Text, Trouble> {
+    let number = number_line(alloc, line)?;
+    let mut text = Text::new(alloc);
+    append_str(&mut text, "fault ")?;
+    text.append(number.bytes())?;
+    Ok(text)
 }
