@@ -37,10 +37,7 @@ pub(crate) fn answer(
     arguments: &[Text],
 ) -> Result<Option<Text>, Trouble> {
     let alloc = rt.alloc();
-    if let Some(text) = ext_trial_texts::answer(alloc, word, arguments)? {
-        return Ok(Some(text));
-    }
-    if let Some(text) = ext_trial_readers::answer(alloc, word, arguments)? {
+    if let Some(text) = ext_trial_values::answer(alloc, word, arguments)? {
         return Ok(Some(text));
     }
     if let Some(text) = ext_trial_hosts::answer(alloc, word, arguments)? {
@@ -82,7 +79,7 @@ fn of_file(rt: &HostRuntime, arguments: &[Text]) -> Result<Option<Text>, Trouble
     let mut words = Words::new(rt.alloc());
     words.push(asked.copy()?)?;
     words.push(Text::from_vec(bytes))?;
-    ext_trial_readers::answer(rt.alloc(), string(word)?, words.as_slice())
+    ext_trial_values::answer(rt.alloc(), string(word)?, words.as_slice())
 }
 
 // Runs a command over the two folders.
