@@ -3,9 +3,11 @@ commands need nothing that they keep from them. No manager starts them here."""
 import os
 import re
 import shutil
+import signal
 import subprocess
 from pathlib import Path
 
+from scenes.breaking import hears_interrupts, wait_for
 from scenes.installing import begin, offer
 from scenes.installing import TOOL as TRANSFER
 from scenes.people import DONE, in_a_folder, install
@@ -242,6 +244,19 @@ def the_tool_that_updates_ends_with_the_first_status_that_is_not_0(place):
     expect(update_of(answers, "--help")[2:], (0,))
 
 
+def the_tool_that_updates_is_ended_between_two_commands(place):
+    """The command that runs goes on to its end, and none follows."""
+    answers, told = place.store.with_name("answers"), place.store.with_name("told")
+    answers.write_text(f"#!/bin/sh\necho \"$@\" >>{told}\nsleep 1\necho updated 2\necho ended >>{told}\n")
+    answers.chmod(0o755)
+    for number, status in (signal.SIGTERM, 143), (signal.SIGINT, 130):
+        told.unlink(missing_ok=True)
+        child = subprocess.Popen([TOP / "tools/update", "s", "d"], env={**os.environ, "HOSTEXT": str(answers)}, stdout=subprocess.DEVNULL, preexec_fn=hears_interrupts)
+        wait_for(lambda: told.exists() and told.read_text())
+        child.send_signal(number)
+        expect((child.wait(SECONDS), told.read_text()), (status, "s d sysupdate update\nended\n"))
+
+
 def update_of(program, *words):
     ended = subprocess.run([TOP / "tools/update", *words], env={**os.environ, "HOSTEXT": str(program)}, capture_output=True, timeout=SECONDS)
     return ended.stdout, ended.stderr, ended.returncode
@@ -253,4 +268,5 @@ scenes = named(
     *map(in_a_place, (a_check_makes_no_call_that_its_unit_refuses, an_update_makes_no_call_that_its_unit_refuses)),
     *map(in_a_place, (three_runs_without_a_new_version_make_no_generation, what_was_unmerged_is_not_merged_by_an_update)),
     *map(in_a_place, (after_an_update_that_was_refused_the_next_one_does_all, the_tool_that_updates_ends_with_the_first_status_that_is_not_0)),
+    *map(in_a_place, (the_tool_that_updates_is_ended_between_two_commands,)),
 )
