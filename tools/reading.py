@@ -10,7 +10,7 @@ from entries import PIECE, Refused, shown, write_all
 # The most bytes of lines that a batch takes.
 MOST_SOURCE = 16_777_216
 # How many commands that read one file each run at the same time.
-SIDE_BY_SIDE = min(8, os.cpu_count() or 1)
+SIDE_BY_SIDE = max(2, min(8, os.cpu_count() or 1))
 LINES = "lines"
 
 

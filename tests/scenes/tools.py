@@ -351,6 +351,20 @@ def a_few_commands_read_all_files(place):
             raise Failed(f"what was unpacked is {shortened(text_of(place, beside(place, f'out{batches}')))}")
 
 
+def files_that_no_line_holds_are_read_side_by_side(place):
+    """The program is a script that reads no file until it was started twice, and then gives them in the order of the tree."""
+    names = [f"a {at}" for at in range(20)]
+    text = tree_text(*(f"f 644 {len(name)} {digest(name.encode())} {name}" for name in sorted(names)))
+    place.resource("r", text, {name: name.encode() for name in names})
+    place.expect(("init x86-64 system", DONE), ("import-fs r /", DONE))
+    notes, out = beside(place, "notes"), beside(place, "out")
+    waits = f'for at in $(seq 1000); do [ $(wc -l <"{notes}") -gt 1 ] && break; sleep 0.01; done; [ $at -lt 1000 ] || exit 1'
+    fake = script(beside(place, "fake"), f'[ $3 = tree ] || {{ echo "$4" >>"{notes}"; {waits}; }}\nexec "{place.program}" "$@"')
+    expect(tool(place, "unpack", place.store, "/", out, env={**os.environ, "HOSTEXT": str(fake)}), (b"", b"", 0))
+    if text_of(place, out) != text or sorted(notes.read_text().split("\n")) != sorted(["", *(f"/{name}" for name in names)]):
+        raise Failed(f"what was unpacked is {shortened(text_of(place, out))}")
+
+
 def a_tree_that_changes_meanwhile_is_told(place):
     """By a command between the one that writes the text and the one that writes the files."""
     place.resource("r", tree_text(f"f 644 3 {ABC} a", f"f 644 0 {EMPTY} b", f"f 644 3 {ABC} c", f"f 644 0 {EMPTY} d"), {"a": b"abc", "b": b"", "c": b"abc", "d": b""})
@@ -385,6 +399,6 @@ CALLS = [
     *(unpack_that_fails_leaves_no_half_of_a_folder, the_whole_text_is_looked_through_before_a_file_is_read),
     *(whiteouts_and_opaque_directories_come_back, marks_that_cannot_be_made_are_told_before_anything_is_written),
     *(who_is_not_root_unpacks_directories_that_may_not_be_written, the_program_is_found_once),
-    *(a_few_commands_read_all_files, a_tree_that_changes_meanwhile_is_told, a_fault_while_files_are_read_is_told),
+    *(a_few_commands_read_all_files, files_that_no_line_holds_are_read_side_by_side, a_tree_that_changes_meanwhile_is_told, a_fault_while_files_are_read_is_told),
 ]
 scenes = named(*map(in_a_place, CALLS))
