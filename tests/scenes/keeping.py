@@ -165,10 +165,10 @@ def what_stands_beside_usr_is_put_below_it(place):
 
 
 def what_stands_in_both_is_refused(place):
-    folder = split(beside(place, "folder"), "bin/a", "bin/b/c", "bin/d/", "usr/bin/a", "usr/bin/b", "usr/bin/d/", "lib64/x")
+    folder = split(beside(place, "folder"), "bin/a", "bin/b/c", "bin/d/", "usr/bin/a", "usr/bin/b", "usr/bin/d/", "bin/f", "usr/bin/f/", "lib64/x")
     (folder / "bin/e").symlink_to("a")
     (folder / "usr/bin/e").symlink_to("a")
-    told = "".join(f"pack: {folder}/bin/{name}: {folder}/usr/bin/{name} stands there too\n" for name in "abe")
+    told = "".join(f"pack: {folder}/bin/{name}: {folder}/usr/bin/{name} stands there too\n" for name in "abef")
     expect(tool(place, "pack", "--usr-merge", folder, place.depot, "r"), (b"", told.encode(), 1))
     (folder / "usr").rename(folder / "var")
     (folder / "usr").symlink_to("var")

@@ -3,10 +3,8 @@
 A neighbour's change comes at a moment of its own: Python is started with a hook that does it once, where the first file is read, or the
 program is a script that does it before the files come."""
 import os
-import resource
 import shutil
 import signal
-import stat
 import subprocess
 import sys
 import time
@@ -14,7 +12,7 @@ import time
 from scenes.devices import NOBODY
 from scenes.keeping import mode_of, need_root
 from scenes.progress import LONG, Plain, Terminal, screen
-from scenes.running import ABC, EMPTY, SECONDS, Failed, expect, named, shortened, tree_text
+from scenes.running import ABC, SECONDS, Failed, expect, named, shortened, tree_text
 from scenes.stores import DONE, in_a_place
 from scenes.tools import TOOLS, as_it_was, beside, holds_nothing, left, script, text_of, tool
 
@@ -208,6 +206,26 @@ def the_folder_of_a_run_that_goes_on_stays(place):
         raise Failed(f"there stand {left(depot)} and {left(out)}")
 
 
+TAKES = """import fcntl, os, pathlib
+first = fcntl.flock
+def once(*words):
+    fcntl.flock = first
+    [path.rmdir() for path in pathlib.Path({!r}).glob(".pack-*")]
+    return first(*words)
+fcntl.flock = once
+"""
+
+
+def a_folder_that_went_before_it_was_locked_is_made_anew(place):
+    """As another run takes it away that looks for what was left."""
+    folder, depot = theirs(beside(place, "folder")), beside(place, "packed")
+    around = hooked(place, "")
+    (beside(place, "hook") / "sitecustomize.py").write_text(TAKES.format(str(depot)))
+    expect(tool(place, "pack", folder, depot, "r", env=around), FINE)
+    if left(depot) != ["r", "r.tree"] or (depot / "r.tree").read_bytes() != text_of(place, folder):
+        raise Failed(f"there stand {left(depot)}")
+
+
 def what_no_run_left_stays(place):
     """A link, a file, a folder with something else in it, one that others may enter, and one of another user."""
     folder, depot, elsewhere = theirs(beside(place, "folder")), beside(place, "packed"), beside(place, "elsewhere")
@@ -309,7 +327,7 @@ CALLS = [
     *(a_directory_that_is_swapped_meanwhile_is_not_entered, a_file_that_is_swapped_meanwhile_is_not_read),
     *(nothing_is_changed_where_somebody_leads_the_folder_of_a_run_elsewhere, root_unpacks_in_no_folder_in_which_everybody_may_write),
     *(a_signal_leaves_nothing_behind, a_signal_that_was_ignored_at_the_start_stays_so, what_a_kill_left_goes_with_the_next_run),
-    *(the_folder_of_a_run_that_goes_on_stays, what_no_run_left_stays, paths_that_no_call_takes_are_packed_and_unpacked),
+    *(the_folder_of_a_run_that_goes_on_stays, a_folder_that_went_before_it_was_locked_is_made_anew, what_no_run_left_stays, paths_that_no_call_takes_are_packed_and_unpacked),
     *(a_text_of_20_megabytes_takes_a_small_multiple_of_memory, progress_is_told_on_a_terminal_alone),
 ]
 scenes = named(*map(in_a_place, CALLS))
