@@ -1,7 +1,6 @@
 """The edits of the crates: that each changes a text that stands once in its file, and that the gate tries few. And tools/try-edits,
 in a small repository whose `rt` is a script: that crates are tried side by side over libraries that were built before, which edits it
 names as refused only at an answer file, and which crates a change touches."""
-import os
 import re
 import shutil
 import subprocess
@@ -45,9 +44,8 @@ esac
 """
 
 
-# Says of each edit that a goal refuses it, and writes down the priority that it has.
+# Says of each edit that a goal refuses it.
 RT_THAT_REFUSES = f"""
-nice >"$ROOM/priority"
 [ "$1" = must-fail ] || exit
 for edit in "crates/$2/must-fail"/*; do
     echo "rt: must-fail $2/${{edit##*/}}: {SAID['a_goal']}"
@@ -115,7 +113,7 @@ def repository_with_a_change(folder):
     (made.bin / "python3").symlink_to(Path(sys.executable).resolve())
     made.tool("git", 'exec git "$@"')
     made.tool("cp", 'exec cp "$@"')
-    made.tool("rt", f"ROOM={made.home}\n{RT_THAT_REFUSES}")
+    made.tool("rt", RT_THAT_REFUSES)
     commit = "git init -q && git add crates crates.txt && git -c user.name=a -c user.email=a@b commit -qm before && git tag before"
     subprocess.run(["sh", "-c", commit], cwd=made.place, env=made.around(), check=True, stdin=subprocess.DEVNULL)
     for crate, (path, content, _) in CHANGES.items():
@@ -141,8 +139,6 @@ def the_edits_of_the_crates_that_a_change_touches_are_tried(repository):
     said = "".join(refusals_of(crate, *edits) for crate, edits in touched.items())
     ended = repository.run("tools/try-edits", "--jobs", "1", "--changed", "before")
     expect(ended, (f"{begin}\n{said}{end[1:]}".encode(), b"", 0))
-    if int((repository.home / "priority").read_text()) != min(19, os.nice(0) + 10):
-        raise Failed("edits are tried at another priority")
     written, told, status = repository.run("tools/try-edits", "--changed", "after")
     if written or status != 1 or not told.startswith(b"try-edits: git show: "):
         raise Failed(f"of a revision that there isn't it writes {written} and {told}, and ends with {status}")
