@@ -226,6 +226,25 @@ def a_folder_that_went_before_it_was_locked_is_made_anew(place):
         raise Failed(f"there stand {left(depot)}")
 
 
+def what_came_to_stand_there_meanwhile_stays(place):
+    """A run that ends first has the name, and the other one leaves nothing."""
+    (_, (folder, depot, resource), _), *_ = made(place)
+    slow = Slow(place, "pack", folder, depot, resource)
+    shutil.rmtree(folder / "z")
+    expect(tool(place, "pack", folder, depot, resource), FINE)
+    stands = (depot / "r.tree").read_bytes()
+    (folder / "z").mkdir()
+    told, status = f"pack: {folder}/z: it changed meanwhile\n", 1
+    expect(slow.end(), (b"", told.encode(), status))
+    second = Slow(place, "pack", theirs(beside(place, "more")), depot, "s")
+    expect(tool(place, "pack", folder, depot, "s"), FINE)
+    shutil.rmtree(depot / "s")
+    (depot / "s/a").mkdir(parents=True)
+    expect(second.end(), (b"", f"pack: {depot}/s: Directory not empty\n".encode(), 1))
+    if left(depot) != ["r", "r.tree", "s", "s.tree"] or (depot / "r.tree").read_bytes() != stands or left(depot / "s") != ["a"]:
+        raise Failed(f"there stand {left(depot)}")
+
+
 def what_no_run_left_stays(place):
     """A link, a file, a folder with something else in it, one that others may enter, and one of another user."""
     folder, depot, elsewhere = theirs(beside(place, "folder")), beside(place, "packed"), beside(place, "elsewhere")
@@ -327,7 +346,7 @@ CALLS = [
     *(a_directory_that_is_swapped_meanwhile_is_not_entered, a_file_that_is_swapped_meanwhile_is_not_read),
     *(nothing_is_changed_where_somebody_leads_the_folder_of_a_run_elsewhere, root_unpacks_in_no_folder_in_which_everybody_may_write),
     *(a_signal_leaves_nothing_behind, a_signal_that_was_ignored_at_the_start_stays_so, what_a_kill_left_goes_with_the_next_run),
-    *(the_folder_of_a_run_that_goes_on_stays, a_folder_that_went_before_it_was_locked_is_made_anew, what_no_run_left_stays, paths_that_no_call_takes_are_packed_and_unpacked),
+    *(the_folder_of_a_run_that_goes_on_stays, what_came_to_stand_there_meanwhile_stays, a_folder_that_went_before_it_was_locked_is_made_anew, what_no_run_left_stays, paths_that_no_call_takes_are_packed_and_unpacked),
     *(a_text_of_20_megabytes_takes_a_small_multiple_of_memory, progress_is_told_on_a_terminal_alone),
 ]
 scenes = named(*map(in_a_place, CALLS))
