@@ -7,12 +7,30 @@ and open to nobody else, and to have nothing that the tool doesn't make.
 import fcntl
 import os
 import stat
-from contextlib import suppress
+from contextlib import contextmanager, suppress
 
 import ending
 from entries import FOLDER_ONLY, Refused
 
 MODE = 0o700
+
+
+@contextmanager
+def made(path):
+    """A folder that is made where it is missing, with those above it. Where what is done there fails, they go again."""
+    missing, above = [], path
+    while not os.path.lexists(above):
+        missing.append(above)
+        above = os.path.dirname(above) or os.curdir
+    try:
+        os.makedirs(path, exist_ok=True)
+        yield
+    except BaseException:
+        for folder in missing:
+            # something may stand in it by now
+            with suppress(OSError):
+                os.rmdir(folder)
+        raise
 
 
 class Room:

@@ -198,6 +198,23 @@ def a_write_that_fails_leaves_nothing_in_the_depot(place):
         raise Failed("the text is another than that of the folder")
 
 
+def folders_that_were_made_for_what_fails_go_again(place):
+    """Those in which a resource and a tree were to come; not one in which something stands."""
+    place.resource("r", tree_text(f"f 644 3 {ABC} a"), {"a": b"abc"})
+    place.expect(("init x86-64 system", DONE), ("import-fs r /", DONE))
+    (place.store / "g-2/000/00").write_bytes(b"abd")
+    folder, depot = fill(beside(place, "folder")), beside(place, "packed")
+    told = f"pack: {folder}/usr/bin/tool: File too large\n".encode()
+    expect(tool(place, "pack", folder, depot, "a/b/r", before=limited_to(2)), (b"", told, 1))
+    expect(tool(place, "unpack", place.store, "/", beside(place, "x") / "y/out"), (b"", b"unpack: cat /a: hostext: bad store\n", 1))
+    if depot.exists() or beside(place, "x").exists():
+        raise Failed(f"there stand {left(place.store.parent)}")
+    (depot / "a/c").mkdir(parents=True)
+    expect(tool(place, "pack", folder, depot, "a/b/r", before=limited_to(2)), (b"", told, 1))
+    if left(depot) != ["a"] or left(depot / "a") != ["c"]:
+        raise Failed(f"the depot has {left(depot)}")
+
+
 def nothing_is_unpacked_where_something_stands(place):
     place.expect(("init x86-64 system", DONE))
     out = beside(place, "out")
@@ -395,7 +412,7 @@ CALLS = [
     *(pack_and_unpack_give_a_folder_back, a_tree_text_is_asked_for_by_one_folder, a_path_is_told_as_it_is_with_control_characters_escaped),
     *(all_that_no_tree_text_holds_is_told_at_once, what_may_not_be_read_is_told_before_anything_is_copied),
     *(what_is_named_and_special_entries_are_left_out, a_path_to_leave_out_that_is_missing_is_told, a_resource_that_is_there_stays),
-    *(a_write_that_fails_leaves_nothing_in_the_depot, nothing_is_unpacked_where_something_stands),
+    *(a_write_that_fails_leaves_nothing_in_the_depot, folders_that_were_made_for_what_fails_go_again, nothing_is_unpacked_where_something_stands),
     *(unpack_that_fails_leaves_no_half_of_a_folder, the_whole_text_is_looked_through_before_a_file_is_read),
     *(whiteouts_and_opaque_directories_come_back, marks_that_cannot_be_made_are_told_before_anything_is_written),
     *(who_is_not_root_unpacks_directories_that_may_not_be_written, the_program_is_found_once),
