@@ -123,9 +123,9 @@ impl<'a> Asked<'a> {
     }
 
     /// An argument as a number.
-    pub(crate) fn number(&self, index: usize) -> Result<usize, Stop> {
+    pub(crate) fn number(&self, index: usize) -> Result<u32, Stop> {
         match read_decimal(self.bytes(index), 4_294_967_295) {
-            Some(number) => Ok(number as usize),
+            Some(number) => Ok(number as u32),
             None => Err(Stop::Bad("not a number, or too large")),
         }
     }

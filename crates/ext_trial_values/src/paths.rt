@@ -52,7 +52,7 @@ fn of_path(asked: Asked, number: usize, at: &Path) -> Said {
             asked.line(&[path(at.child(&name))?.copy()?.text()])
         }
         21 => asked.line(&[path(at.join(&path_at(asked, 1)?))?.copy()?.text()]),
-        22 => asked.line(&[at.prefix(asked.number(1)?)?.text()]),
+        22 => asked.line(&[at.prefix(asked.number(1)? as usize)?.text()]),
         _ => relations(asked, at, &path_at(asked, 1)?),
     }
 }

@@ -9,7 +9,7 @@ use std::io::ErrorKind;
 // A device of std that is interrupted so many times at first. It gives so many bytes once, and takes as many at each write.
 #[derive(Clone, Copy)]
 struct Device {
-    interrupts: usize,
+    interrupts: u32,
     count: usize,
     flushes: bool,
 }
@@ -52,14 +52,14 @@ impl io::Write for Device {
 fn make_device(asked: Asked, flushes: bool) -> Result<Device, Stop> {
     Ok(Device {
         interrupts: asked.number(0)?,
-        count: asked.number(1)?,
+        count: asked.number(1)? as usize,
         flushes,
     })
 }
 
 /// How many bytes are read of a reader, at most so many in all.
 pub(crate) fn read_reader(asked: Asked) -> Said {
-    let most = asked.number(2)?;
+    let most = asked.number(2)? as usize;
     let mut source = StdSource::new(make_device(asked, true)?);
     match read_to_end(asked.alloc, &mut source, most) {
         Ok(text) => asked.count("bytes ", text.bytes().len()),
