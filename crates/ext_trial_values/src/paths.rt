@@ -1,7 +1,8 @@
 // Words about names, paths, walks and the order of versions.
 use crate::asked::{Asked, MANY, Row, Said, Stop, append, name, path};
 use crate::trees::tree_at;
-use ext_text::{Name, Path, SortedPaths, Text};
+use ext_text::{Name, Path, PathRef, SortedPaths, Text};
+use ext_tree::{Stamp, Tree};
 use ext_vers::{Version, compare, order};
 use ext_walk::{end_of_path, end_of_text, resolve};
 use std::cmp::Ordering;
@@ -176,18 +177,28 @@ fn walk(asked: Asked, number: usize) -> Said {
     let tree = tree_at(asked, 0)?;
     let image = path_at(asked, 1)?;
     match number {
-        50 => {
-            let end = end_of_text(asked.alloc, &tree, &image.names(), asked.bytes(2))?;
-            asked.line_or_none(end.map(|names| names.text()))
-        }
-        51 => {
-            let along = path_at(asked, 2)?;
-            let end = end_of_path(asked.alloc, &tree, &image.names(), &along.names())?;
-            asked.line_or_none(end.map(|names| names.text()))
-        }
+        50 => along_text(asked, &tree, &image),
+        51 => along_path(asked, &tree, &image, &path_at(asked, 2)?),
         _ => match resolve(asked.alloc, &tree, &image)? {
             Some(path) => asked.line(&[path.text()]),
             None => Err(Stop::Says("none")),
         },
+    }
+}
+
+fn along_text(asked: Asked, tree: &Tree<Stamp>, image: &Path) -> Said {
+    let end = end_of_text(asked.alloc, tree, &image.names(), asked.bytes(2))?;
+    end_line(asked, end)
+}
+
+fn along_path(asked: Asked, tree: &Tree<Stamp>, image: &Path, along: &Path) -> Said {
+    let end = end_of_path(asked.alloc, tree, &image.names(), &along.names())?;
+    end_line(asked, end)
+}
+
+fn end_line(asked: Asked, end: Option<PathRef>) -> Said {
+    match end {
+        Some(names) => asked.line(&[names.text()]),
+        None => Err(Stop::Says("none")),
     }
 }

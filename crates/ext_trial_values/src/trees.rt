@@ -87,8 +87,14 @@ fn read_entry(asked: Asked) -> Said {
 
 fn kind_of(asked: Asked, entry: &Entry<Stamp>) -> Said {
     match entry {
-        Entry::Dir(mode) => asked.line(&[b"directory ", octal(asked, *mode)?.as_slice()]),
-        Entry::Opaque(mode) => asked.line(&[b"opaque directory ", octal(asked, *mode)?.as_slice()]),
+        Entry::Dir(mode) => {
+            let mode = octal(asked, *mode)?;
+            asked.line(&[b"directory ", mode.as_slice()])
+        }
+        Entry::Opaque(mode) => {
+            let mode = octal(asked, *mode)?;
+            asked.line(&[b"opaque directory ", mode.as_slice()])
+        }
         Entry::File(mode, stamp) => {
             let mode = octal(asked, *mode)?;
             let size = asked.digits(stamp.size)?;
