@@ -2,7 +2,6 @@
 use ext_case::{Trouble, string, three, two};
 use ext_folder::{FolderDepot, FolderDisk};
 use ext_text::{Text, Words};
-use ext_trial_publishing::Publishing;
 use ext_trial_scenes::{Scene, beside_streams, run_over, words_of};
 use std::alloc::Global;
 use std::fs;
@@ -11,7 +10,6 @@ use std::fs;
 #[derive(Drop)]
 pub(crate) struct Stage {
     pub(crate) scene: Scene,
-    publishing: Publishing,
     folders: Option<(Text, Text)>,
 }
 
@@ -20,7 +18,6 @@ impl Stage {
     pub(crate) fn new(alloc: Global) -> Stage {
         Stage {
             scene: Scene::new(alloc),
-            publishing: Publishing::new(alloc),
             folders: None,
         }
     }
@@ -51,23 +48,8 @@ pub(crate) fn answer(
         }
         ("$", Some(_)) => Ok(Some(run_in_folders(rt, stage, arguments)?)),
         ("of-file", _) => of_file(rt, arguments),
-        _ => answer_in_memory(alloc, stage, word, arguments),
+        _ => ext_trial_scenes::answer(alloc, &mut stage.scene, word, arguments),
     }
-}
-
-// What a statement about devices in memory writes.
-fn answer_in_memory(
-    alloc: Global,
-    stage: &mut Stage,
-    word: &str,
-    arguments: &[Text],
-) -> Result<Option<Text>, Trouble> {
-    let scene = &mut stage.scene;
-    let publishing = &mut stage.publishing;
-    if let Some(text) = ext_trial_publishing::answer(alloc, scene, publishing, word, arguments)? {
-        return Ok(Some(text));
-    }
-    ext_trial_scenes::answer(alloc, scene, word, arguments)
 }
 
 // What a word of a reader writes of a file of the system, whose bytes are its argument.

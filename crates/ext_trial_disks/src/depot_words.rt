@@ -1,23 +1,11 @@
 // Answers of the depot.
 ghost use Rattle.std.specs.Prelude.{◌<◌, length};
 
-use ext_case::{Trouble, line_of, number_line, path, size, three};
+use ext_case::{Trouble, line_of, path, size, three};
 use ext_depot::{Depot, MemoryDepot};
 use ext_io::Failed;
 use ext_text::{Path, Text};
 use std::alloc::Global;
-
-/// The size of a file of the depot, `nothing` or `a fault`.
-///
-/// # Errors
-/// `Unreadable` where it is no path, and `OutOfMemory`.
-pub fn size_text(alloc: Global, depot: &mut MemoryDepot, at: &Text) -> Result<Text, Trouble> {
-    match depot.size(&path(alloc, at)?) {
-        Ok(Some(size)) => number_line(alloc, size),
-        Ok(None) => line_of(alloc, "nothing"),
-        Err(Failed) => line_of(alloc, "a fault"),
-    }
-}
 
 /// What a read of `PATH AT ROOM` gives: the bytes, `nothing` where no file stands, or `a fault`. It asks for the size first.
 ///

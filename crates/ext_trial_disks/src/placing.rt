@@ -2,11 +2,12 @@
 ghost use Rattle.std.specs.Prelude.{◌≡◌, ◌∷◌, ◌++◌, [], IsTrue, IfOk};
 ghost use Rattle.ext_disk.specs.Calls.{make_file, MayCall};
 
-use ext_case::{Trouble, name, number_text, path};
+use crate::disk_calls::call_text;
+use ext_case::{Trouble, append_number, name, one, path, small, string, two_and_more, written};
 use ext_disk::{Disk, Kind, MemoryDisk};
 use ext_io::Failed;
 use ext_store_files::{make_folder, sync_folder, write_file};
-use ext_text::{Name, Path, Text};
+use ext_text::{Name, Path, Text, Words};
 use std::alloc::Global;
 
 /// A path, cut before its last name.
@@ -61,117 +62,91 @@ pub(crate) fn is_free<D: Disk>(
     Ok(folder == Some(Kind::Dir) && there == None)
 }
 
-/// Makes a folder where nothing stands.
+// What is put on a disk.
+#[derive(Clone, Copy)]
+enum Put<'a> {
+    Folder,
+    // A file of these bytes, which are synced.
+    File(&'a [u8]),
+    // A file without bytes, which is not synced.
+    Empty,
+}
+
+/// `folder PATH`, `file PATH BYTES`, `files PATH COUNT` or `sync PATH`: makes a folder, a file or so many empty ones whose names are
+/// numbers from 0 on, in the place of a file that stood there, with the folders above it; or syncs the names in a folder.
 ///
 /// # Errors
-/// `Unreadable` where something does, or the disk fails, and `OutOfMemory`.
-pub fn put_folder(alloc: Global, disk: &mut MemoryDisk, at: &Text) -> Result<(), Trouble> {
-    let (dir, name) = cut(alloc, at.bytes())?;
-    let path = below(&dir, &name)?;
-    placed(folder_where_free(disk, &dir, &name, &path))
-}
-
-fn folder_where_free<D: Disk>(
-    disk: &mut D,
-    dir: &Path,
-    name: &Name,
-    path: &Path,
-) -> Result<bool, Failed>
-    requires { path.now ≡ dir.now ++ name.now ∷ [] }
-{
-    if !is_free(disk, dir, name, path)? {
-        return Ok(false);
-    }
-    make_folder(disk, path)?;
-    Ok(true)
-}
-
-// What was put where something was free.
-fn placed(outcome: Result<bool, Failed>) -> Result<(), Trouble> {
-    if told(outcome)? {
-        Ok(())
-    } else {
-        Err(Trouble::Unreadable("something stands there, or no folder around it"))
+/// `Unreadable` where it can't stand there or the disk fails, and `OutOfMemory`.
+pub fn put_on(alloc: Global, disk: &mut MemoryDisk, arguments: &[Text]) -> Result<(), Trouble> {
+    let (kind, at, rest) = two_and_more(arguments)?;
+    match string(kind)? {
+        "folder" => put(alloc, disk, at.bytes(), Put::Folder),
+        "file" => put(alloc, disk, at.bytes(), Put::File(one(rest)?.bytes())),
+        "files" => put_files(alloc, disk, at, small(one(rest)?)?),
+        "sync" => told(sync_there(disk, &path(alloc, at)?)),
+        _ => Err(Trouble::Unreadable("no such thing on a disk")),
     }
 }
 
-/// Makes a file of these bytes where nothing stands, and syncs them.
-///
-/// # Errors
-/// `Unreadable` where something does, or the disk fails, and `OutOfMemory`.
-pub fn put_file(
-    alloc: Global,
-    disk: &mut MemoryDisk,
-    at: &Text,
-    bytes: &[u8],
-) -> Result<(), Trouble> {
-    let (dir, name) = cut(alloc, at.bytes())?;
-    let path = below(&dir, &name)?;
-    placed(file_where_free(disk, &dir, &name, &path, bytes))
-}
-
-fn file_where_free<D: Disk>(
-    disk: &mut D,
-    dir: &Path,
-    name: &Name,
-    path: &Path,
-    bytes: &[u8],
-) -> Result<bool, Failed>
-    requires { path.now ≡ dir.now ++ name.now ∷ [] }
-{
-    if !is_free(disk, dir, name, path)? {
-        return Ok(false);
-    }
-    write_file(disk, path, bytes)?;
-    Ok(true)
-}
-
-/// Makes so many empty files in a folder, whose names are numbers from 0 on.
-///
-/// # Errors
-/// `Unreadable` where something stands at one of them, or the disk fails, and `OutOfMemory`.
-pub fn put_files(
-    alloc: Global,
-    disk: &mut MemoryDisk,
-    dir: &Text,
-    count: u32,
-) -> Result<(), Trouble> {
-    let folder = path(alloc, dir)?;
+fn put_files(alloc: Global, disk: &mut MemoryDisk, dir: &Text, count: u32) -> Result<(), Trouble> {
     for number in 0..count {
-        let digits = number_text(alloc, u64::from(number))?;
-        put_empty(disk, &folder, &name(alloc, &digits)?)?;
+        let mut at = dir.copy()?;
+        at.append(b"/")?;
+        append_number(alloc, &mut at, u64::from(number))?;
+        put(alloc, disk, at.bytes(), Put::Empty)?;
     }
     Ok(())
 }
 
-// Makes an empty file.
-fn put_empty(disk: &mut MemoryDisk, dir: &Path, name: &Name) -> Result<(), Trouble> {
-    let path = below(dir, name)?;
-    placed(empty_where_free(disk, dir, name, &path))
+fn put(alloc: Global, disk: &mut MemoryDisk, at: &[u8], what: Put<'_>) -> Result<(), Trouble> {
+    let (dir, name) = cut(alloc, at)?;
+    let path = below(&dir, &name)?;
+    if told(put_where_free(disk, &dir, &name, &path, what))? {
+        return Ok(());
+    }
+    make_way(alloc, disk, &dir, &path)?;
+    if told(put_where_free(disk, &dir, &name, &path, what))? {
+        Ok(())
+    } else {
+        Err(Trouble::Unreadable("something stands there"))
+    }
 }
 
-fn empty_where_free<D: Disk>(
+fn put_where_free<D: Disk>(
     disk: &mut D,
     dir: &Path,
     name: &Name,
     path: &Path,
+    what: Put<'_>,
 ) -> Result<bool, Failed>
     requires { path.now ≡ dir.now ++ name.now ∷ [] }
 {
     if !is_free(disk, dir, name, path)? {
         return Ok(false);
     }
-    disk.make_file(path)?;
+    match what {
+        Put::Folder => make_folder(disk, path)?,
+        Put::File(bytes) => write_file(disk, path, bytes)?,
+        Put::Empty => disk.make_file(path)?,
+    }
     Ok(true)
 }
 
-/// Syncs the names in a folder, if one is there.
-///
-/// # Errors
-/// `Unreadable` where the disk fails, and `OutOfMemory`.
-pub fn sync(alloc: Global, disk: &mut MemoryDisk, dir: &Text) -> Result<(), Trouble> {
-    let dir = path(alloc, dir)?;
-    told(sync_there(disk, &dir))
+// Makes the folders that are missing, and removes what stands at the path, where it may be removed.
+fn make_way(alloc: Global, disk: &mut MemoryDisk, dir: &Path, path: &Path) -> Result<(), Trouble> {
+    for depth in 1..=dir.depth() {
+        let folder = dir.prefix(depth)?;
+        ask(alloc, disk, b"make_dir", &folder)?;
+    }
+    ask(alloc, disk, b"remove", path)
+}
+
+fn ask(alloc: Global, disk: &mut MemoryDisk, call: &[u8], path: &Path) -> Result<(), Trouble> {
+    let mut words = Words::new(alloc);
+    words.push(written(alloc, call)?)?;
+    words.push(written(alloc, path.text())?)?;
+    let _reply = call_text(alloc, disk, words.as_slice())?;
+    Ok(())
 }
 
 fn sync_there<D: Disk>(disk: &mut D, dir: &Path) -> Result<(), Failed> {

@@ -1,12 +1,12 @@
-// What a case did to its store, so that it can be done again.
+// What a case did to its devices, so that it can be done again.
+use crate::publishing::publish_over;
 use crate::streams::{MemoryStreams, Streams, beside_streams, run_over};
-use ext_case::Trouble;
+use ext_case::{Trouble, written};
 use ext_depot::MemoryDepot;
 use ext_disk::{MemoryDisk, Pick};
 use ext_io::Calls;
 use ext_text::{Path, Text, Words};
-use ext_trial_disks::{Outcome, call_text, carry_change, put_file, put_files, put_folder, sync};
-use ext_trial_plans::Change;
+use ext_trial_disks::{Outcome, call_text, put_on};
 use std::alloc::Global;
 use std::collections::BTreeMap;
 use std::mem;
@@ -14,33 +14,69 @@ use std::mem;
 /// The files of a depot.
 pub(crate) type Files = BTreeMap<Path, Text>;
 
-/// The devices of a scene.
-pub(crate) type MemoryDevices = MemoryStreams<MemoryDisk, MemoryDepot>;
-
-/// A statement that changes a store.
-#[derive(Drop)]
-pub(crate) enum Act {
-    /// A folder is made.
-    Folder(Text),
-    /// A file of bytes is made.
-    File(Text, Text),
-    /// So many empty files are made in a folder.
-    Files(Text, u32),
-    /// The names in a folder are synced.
-    Sync(Text),
-    /// The disk is asked for a call.
-    Call(Words),
-    /// A command is run.
-    Run(Ran),
-    /// A change is carried out.
-    Change(Change),
+/// A disk of a scene.
+#[derive(Clone, Copy)]
+pub(crate) enum Side {
+    /// That of the store.
+    Store,
+    /// That in which is published.
+    Out,
 }
 
-/// A command that is run: its words, and what its source has.
+/// The devices of a scene: a store beside a depot and streams, and the disk in which is published.
 #[derive(Drop)]
-pub(crate) struct Ran {
+pub(crate) struct MemoryDevices {
+    pub(crate) store: MemoryStreams<MemoryDisk, MemoryDepot>,
+    pub(crate) out: MemoryDisk,
+}
+
+impl MemoryDevices {
+    /// One of the disks.
+    pub(crate) fn disk(&mut self, side: Side) -> &mut MemoryDisk {
+        match side {
+            Side::Store => &mut self.store.disk,
+            Side::Out => &mut self.out,
+        }
+    }
+
+    /// Puts another disk in the place of one.
+    pub(crate) fn replace(&mut self, side: Side, disk: MemoryDisk) -> MemoryDisk {
+        match side {
+            Side::Store => mem::replace(&mut self.store.disk, disk),
+            Side::Out => mem::replace(&mut self.out, disk),
+        }
+    }
+}
+
+/// What a statement does.
+#[derive(Clone, Copy)]
+pub(crate) enum Kind {
+    /// It puts something on the disk.
+    Put,
+    /// It asks the disk for a call.
+    Call,
+    /// It stops the disk and goes on with what is left.
+    Stop(Pick),
+    /// It runs a command.
+    Run,
+    /// It publishes.
+    Publish,
+}
+
+/// A statement that changes a device: what it does to which disk, its words, and what the source of a command has.
+#[derive(Drop)]
+pub(crate) struct Act {
+    pub(crate) kind: Kind,
+    pub(crate) side: Side,
     pub(crate) words: Words,
     pub(crate) source: Text,
+}
+
+impl Act {
+    /// Whether it runs a command or publishes.
+    pub(crate) fn is_run(&self) -> bool {
+        matches!(self.kind, Kind::Run | Kind::Publish)
+    }
 }
 
 /// An empty disk on which nothing fails.
@@ -60,93 +96,79 @@ pub(crate) fn depot_of(alloc: Global, files: &Files, fails: Calls) -> Result<Mem
     Ok(depot)
 }
 
-/// An empty disk and a depot of these files, on which nothing fails.
+/// Empty disks and a depot of these files, on which nothing fails.
 ///
 /// # Errors
 /// `OutOfMemory`.
 pub(crate) fn fresh_devices(alloc: Global, files: &Files) -> Result<MemoryDevices, Trouble> {
     let depot = depot_of(alloc, files, Calls::new(alloc))?;
-    Ok(beside_streams(alloc, empty_disk(alloc), depot))
+    Ok(MemoryDevices {
+        store: beside_streams(alloc, empty_disk(alloc), depot),
+        out: empty_disk(alloc),
+    })
 }
 
-/// Stops the disk now, and goes on with what is left of it.
+/// Stops a disk now, and goes on with what is left of it.
 ///
 /// # Errors
 /// `OutOfMemory`.
 pub(crate) fn stop_disk(
     alloc: Global,
     devices: &mut MemoryDevices,
+    side: Side,
     pick: Pick,
 ) -> Result<(), Trouble> {
-    let disk = mem::replace(&mut devices.disk, empty_disk(alloc));
-    devices.disk = disk.after_stop(pick)?;
+    let disk = devices.replace(side, empty_disk(alloc));
+    let _empty = devices.replace(side, disk.after_stop(pick)?);
     Ok(())
 }
 
-/// How an act ends on a disk and a depot. What puts things there writes nothing.
+/// How an act ends over these streams. What puts things on a disk writes nothing.
 ///
 /// # Errors
 /// `Unreadable` where the act can't be done there, and `OutOfMemory`.
-pub(crate) fn act_on(
-    alloc: Global,
-    act: &Act,
-    devices: &mut MemoryDevices,
-) -> Result<Outcome, Trouble> {
-    match act {
-        Act::Run(ran) => {
-            let streams = Streams::new(ran.source.copy()?);
-            run_over(alloc, &ran.words, &streams, devices)
-        }
-        Act::Change(change) => carry_change(alloc, &mut devices.disk, &mut devices.depot, change),
-        Act::Call(words) => {
-            let reply = call_text(alloc, &mut devices.disk, words.as_slice())?;
-            done(alloc, reply)
-        }
-        _ => {
-            place(alloc, act, &mut devices.disk)?;
-            done(alloc, Text::new(alloc))
-        }
-    }
-}
-
-/// How a command ends that is run again over these streams.
-///
-/// # Errors
-/// `Unreadable` where the act is no command, and `OutOfMemory`.
-pub(crate) fn run_again(
+pub(crate) fn act_over(
     alloc: Global,
     act: &Act,
     streams: &Streams,
     devices: &mut MemoryDevices,
 ) -> Result<Outcome, Trouble> {
-    match act {
-        Act::Run(ran) => run_over(alloc, &ran.words, streams, devices),
-        _ => Err(Trouble::Unreadable("the statement before is no command")),
+    match act.kind {
+        Kind::Run => run_over(alloc, &act.words, streams, &mut devices.store),
+        Kind::Publish => publish_over(alloc, &act.words, streams, devices),
+        _ => done(alloc, asked(alloc, act, devices)?),
     }
 }
 
-// Puts things on the disk.
-fn place(alloc: Global, act: &Act, disk: &mut MemoryDisk) -> Result<(), Trouble> {
-    match act {
-        Act::Folder(at) => put_folder(alloc, disk, at),
-        Act::File(at, bytes) => put_file(alloc, disk, at, bytes.bytes()),
-        Act::Files(dir, count) => put_files(alloc, disk, dir, *count),
-        Act::Sync(dir) => sync(alloc, disk, dir),
-        Act::Call(_) | Act::Run(_) | Act::Change(_) => Ok(()),
+// What a disk writes of an act.
+fn asked(alloc: Global, act: &Act, devices: &mut MemoryDevices) -> Result<Text, Trouble> {
+    let words = act.words.as_slice();
+    match act.kind {
+        Kind::Call => return call_text(alloc, devices.disk(act.side), words),
+        Kind::Stop(pick) => stop_disk(alloc, devices, act.side, pick)?,
+        _ => put_on(alloc, devices.disk(act.side), words)?,
     }
+    Ok(Text::new(alloc))
 }
 
 // It ended well, and wrote this.
 fn done(alloc: Global, reply: Text) -> Result<Outcome, Trouble> {
     Ok(Outcome {
-        status: Text::from_bytes(alloc, b"0")?,
+        status: written(alloc, b"0")?,
         reply,
     })
 }
 
-/// Whether the act is a command or a change.
-pub(crate) fn is_change(act: &Act) -> bool {
-    matches!(act, Act::Run(_) | Act::Change(_))
+/// How an act ends over streams on which nothing fails.
+///
+/// # Errors
+/// As for [`act_over`].
+pub(crate) fn act_on(
+    alloc: Global,
+    act: &Act,
+    devices: &mut MemoryDevices,
+) -> Result<Outcome, Trouble> {
+    act_over(alloc, act, &Streams::new(act.source.copy()?), devices)
 }
 
 /// Does all of these acts, each of which ends well.

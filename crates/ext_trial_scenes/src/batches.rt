@@ -1,5 +1,5 @@
 // The lines of a batch, each as a command of its own.
-use crate::acts::{Act, Ran};
+use crate::acts::{Act, Kind};
 use ext_case::Trouble;
 use ext_text::{Text, Words};
 use ext_trial_disks::Outcome;
@@ -10,26 +10,30 @@ use std::alloc::Global;
 /// # Errors
 /// `OutOfMemory`.
 pub(crate) fn lines_of(alloc: Global, act: &Act) -> Result<Option<Vec<Act>>, Trouble> {
-    match act {
-        Act::Run(ran) if is_batch(&ran.words) => { Ok(Some(lines_in(alloc, ran.source.bytes())?)) }
-        _ => Ok(None),
+    if !is_batch(act) {
+        return Ok(None);
     }
+    Ok(Some(lines_in(alloc, act)?))
 }
 
-fn is_batch(words: &Words) -> bool {
-    match words.as_slice() {
-        [word] => word.bytes() == b"batch".as_slice(),
+fn is_batch(act: &Act) -> bool {
+    match (act.kind, act.words.as_slice()) {
+        (Kind::Run, [word]) => word.bytes() == b"batch".as_slice(),
         _ => false,
     }
 }
 
-fn lines_in(alloc: Global, source: &[u8]) -> Result<Vec<Act>, Trouble> {
+fn lines_in(alloc: Global, act: &Act) -> Result<Vec<Act>, Trouble> {
     let mut lines = Vec::new(alloc);
-    for line in source.split(|byte| *byte == b'\n') {
+    for line in act.source.bytes().split(|byte| *byte == b'\n') {
         let words = words_in(alloc, line)?;
         if !counts_for_nothing(&words) {
-            let source = Text::new(alloc);
-            lines.push(Act::Run(Ran { words, source }))?;
+            lines.push(Act {
+                kind: Kind::Run,
+                side: act.side,
+                words,
+                source: Text::new(alloc),
+            })?;
         }
     }
     Ok(lines)

@@ -1,23 +1,25 @@
 // What a store tells before a change, after each line of a batch, and after a change.
-use crate::acts::{Act, Files, MemoryDevices, act_all, act_on, empty_disk};
+use crate::acts::{Act, Files, Kind, MemoryDevices, Side, act_all, act_on, empty_disk};
 use crate::batches::{lines_of, reply_of_line};
+use crate::publishing::left_text;
 use crate::streams::{Streams, run_over};
 use ext_case::Trouble;
 use ext_disk::MemoryDisk;
 use ext_text::{Text, Words};
-use ext_trial_disks::{Outcome, standing_text};
+use ext_trial_disks::{Outcome, spots_on, whole_text};
 use std::alloc::Global;
 
-/// A change, what was done before it, and the files of the depot.
+/// A change, what was done before it, the files of the depot, and the disk whose calls fail.
 #[derive(Clone, Copy)]
 pub(crate) struct Play<'a> {
     pub(crate) before: &'a [Act],
     pub(crate) change: &'a Act,
     pub(crate) files: &'a Files,
+    pub(crate) side: Side,
 }
 
-/// What a store tells. First it tells of a command its tree and a check of its files, and of a change what it stands for.
-/// Then comes how the change ends there, and then the first again.
+/// What a store tells. First it tells of a command its tree and a check of its files, and of a run that publishes what stands on both
+/// disks. Then comes how the change ends there, and then the first again.
 #[derive(Drop)]
 pub(crate) struct Told {
     before: Vec<Outcome>,
@@ -47,15 +49,15 @@ pub(crate) fn ask(
 // What a store tells of itself.
 fn look(alloc: Global, change: &Act, devices: &mut MemoryDevices) -> Result<Vec<Outcome>, Trouble> {
     let mut told = Vec::new(alloc);
-    match change {
-        Act::Change(_) => told.push(Outcome {
-            status: Text::new(alloc),
-            reply: standing_text(alloc, &mut devices.disk)?,
-        })?,
-        _ => {
-            told.push(command(alloc, "tree", devices)?)?;
-            told.push(command(alloc, "check", devices)?)?;
-        }
+    if matches!(change.kind, Kind::Publish) {
+        let spots = spots_on(alloc, &mut devices.store.disk)?;
+        told.push(Outcome {
+            status: whole_text(alloc, spots.as_slice())?,
+            reply: left_text(alloc, &change.words, &mut devices.out)?,
+        })?;
+    } else {
+        told.push(command(alloc, "tree", devices)?)?;
+        told.push(command(alloc, "check", devices)?)?;
     }
     Ok(told)
 }
@@ -64,7 +66,12 @@ fn look(alloc: Global, change: &Act, devices: &mut MemoryDevices) -> Result<Vec<
 fn command(alloc: Global, word: &str, devices: &mut MemoryDevices) -> Result<Outcome, Trouble> {
     let mut words = Words::new(alloc);
     words.push(Text::from_bytes(alloc, word.as_bytes())?)?;
-    run_over(alloc, &words, &Streams::new(Text::new(alloc)), devices)
+    run_over(
+        alloc,
+        &words,
+        &Streams::new(Text::new(alloc)),
+        &mut devices.store,
+    )
 }
 
 // Whether all of them are the same.
@@ -90,20 +97,20 @@ pub(crate) struct Done {
     pub(crate) told: Told,
 }
 
-/// A change where nothing fails: the calls of the disk before it and after it, how it ends, whether it writes its reply, what
-/// the store tells before it, and its lines. A batch has those of its source, which are run one by one; any other change is one
-/// line. A change that no command makes writes nothing, and replies why it ended.
+/// A change where nothing fails: the calls of the disk before it and after it, how it ends, whether it publishes, what the store
+/// tells before it, and its lines. A batch has those of its source, which are run one by one; any other change is one line.
 #[derive(Drop)]
 pub(crate) struct Ends {
     pub(crate) calls_before: u64,
     pub(crate) calls_after: u64,
     pub(crate) outcome: Outcome,
-    pub(crate) writes: bool,
+    pub(crate) publishes: bool,
     pub(crate) first: Told,
     pub(crate) lines: Vec<Done>,
 }
 
-/// Puts a disk in the place of the disk, and does there what was done before the change.
+/// Puts a disk in the place of the one whose calls fail, and an empty one in that of the other, and does there what was done before the
+/// change.
 ///
 /// # Errors
 /// `Unreadable` where an act is not done, and `OutOfMemory`.
@@ -113,7 +120,9 @@ pub(crate) fn prepare(
     disk: MemoryDisk,
     devices: &mut MemoryDevices,
 ) -> Result<(), Trouble> {
-    devices.disk = disk;
+    let _store = devices.replace(Side::Store, empty_disk(alloc));
+    let _out = devices.replace(Side::Out, empty_disk(alloc));
+    let _empty = devices.replace(play.side, disk);
     act_all(alloc, play.before, devices)
 }
 
@@ -130,13 +139,13 @@ pub(crate) fn ends_of(
     let first = ask(alloc, play.change, devices)?;
     let lines = lines_done(alloc, play, devices)?;
     prepare(alloc, play, empty_disk(alloc), devices)?;
-    let calls_before = devices.disk.calls();
+    let calls_before = devices.disk(play.side).calls();
     let outcome = act_on(alloc, play.change, devices)?;
     Ok(Ends {
         calls_before,
-        calls_after: devices.disk.calls(),
+        calls_after: devices.disk(play.side).calls(),
         outcome,
-        writes: matches!(play.change, Act::Run(_)),
+        publishes: matches!(play.change.kind, Kind::Publish),
         first,
         lines,
     })

@@ -1,6 +1,6 @@
 // A change is made once for each call that it makes, with that call failing or the disk stopped there.
 use crate::acts::{
-    MemoryDevices, act_on, depot_of, empty_disk, fresh_devices, run_again, stop_disk,
+    MemoryDevices, act_on, act_over, depot_of, empty_disk, fresh_devices, stop_disk,
 };
 use crate::ends::{Ends, Play, Told, agree, ask, ends_apart, ends_of, prepare};
 use crate::exits::{Device, Stream, is_borne};
@@ -59,7 +59,7 @@ fn survives(
     prepare(alloc, play, disk, devices)?;
     let outcome = act_on(alloc, play.change, devices)?;
     let found = ask_after_stop(alloc, play, pick, devices)?;
-    Ok(is_borne(ends, Device::Disk, &outcome, &found))
+    Ok(is_borne(ends, Device::Disk(play.side), &outcome, &found))
 }
 
 // Whether a stop after the change leaves what stands after it.
@@ -89,7 +89,7 @@ fn ask_after_stop(
     pick: Pick,
     devices: &mut MemoryDevices,
 ) -> Result<Told, Trouble> {
-    stop_disk(alloc, devices, pick)?;
+    stop_disk(alloc, devices, play.side, pick)?;
     ask(alloc, play.change, devices)
 }
 
@@ -123,7 +123,7 @@ fn bears_disk_fault(
     prepare(alloc, play, disk, devices)?;
     let outcome = act_on(alloc, play.change, devices)?;
     let found = ask(alloc, play.change, devices)?;
-    Ok(is_borne(ends, Device::Disk, &outcome, &found))
+    Ok(is_borne(ends, Device::Disk(play.side), &outcome, &found))
 }
 
 // What came of a fault.
@@ -176,9 +176,9 @@ fn depot_fault(
 ) -> Result<Borne, Trouble> {
     prepare(alloc, play, empty_disk(alloc), devices)?;
     let failing = depot_of(alloc, play.files, only(alloc, call)?)?;
-    let depot = mem::replace(&mut devices.depot, failing);
+    let depot = mem::replace(&mut devices.store.depot, failing);
     let outcome = act_on(alloc, play.change, devices)?;
-    devices.depot = depot;
+    devices.store.depot = depot;
     let found = ask(alloc, play.change, devices)?;
     Ok(judge(ends, Device::Depot, &outcome, &found))
 }
@@ -217,8 +217,8 @@ fn stream_fault(
     devices: &mut MemoryDevices,
 ) -> Result<Borne, Trouble> {
     prepare(alloc, play, empty_disk(alloc), devices)?;
-    let outcome = run_again(alloc, play.change, streams, devices)?;
-    let is_early = devices.disk.calls() == ends.calls_before;
+    let outcome = act_over(alloc, play.change, streams, devices)?;
+    let is_early = devices.store.disk.calls() == ends.calls_before;
     let found = ask(alloc, play.change, devices)?;
     let borne = judge(ends, Device::Stream(stream), &outcome, &found);
     Ok(match (borne, stream) {

@@ -1,4 +1,5 @@
 // How a change may end where a call of a device fails.
+use crate::acts::Side;
 use crate::ends::{Done, Ends, Told, agree};
 use ext_trial_disks::Outcome;
 
@@ -16,8 +17,8 @@ pub(crate) enum Stream {
 pub(crate) enum Device {
     /// One of its streams.
     Stream(Stream),
-    /// The disk of its store.
-    Disk,
+    /// The disk of its store, or that in which it publishes.
+    Disk(Side),
     /// The depot.
     Depot,
 }
@@ -31,15 +32,14 @@ pub(crate) enum Device {
 /// | sink | 4 | a proper prefix | what it tells after the line |
 /// | disk | 5 | a prefix | what it tells before the line, or after it |
 /// | depot | 6 | nothing | what it tells before the line |
+///
+/// A run that publishes writes nothing where a disk fails, and ends with 6 where that is the one in which it publishes.
 pub(crate) fn is_borne(ends: &Ends, device: Device, outcome: &Outcome, found: &Told) -> bool {
-    let written = if ends.writes {
-        outcome.reply.bytes()
-    } else {
-        &[]
-    };
+    let written = outcome.reply.bytes();
     outcome.is_status(status_of(device))
         && match device {
             Device::Stream(Stream::Source) => written.is_empty() && agree(found, &ends.first),
+            Device::Disk(_) if ends.publishes && !written.is_empty() => false,
             _ => is_left(ends, device, written, found),
         }
 }
@@ -48,8 +48,8 @@ fn status_of(device: Device) -> &'static str {
     match device {
         Device::Stream(Stream::Source) => "3",
         Device::Stream(Stream::Sink) => "4",
-        Device::Disk => "5",
-        Device::Depot => "6",
+        Device::Disk(Side::Store) => "5",
+        Device::Disk(Side::Out) | Device::Depot => "6",
     }
 }
 
@@ -77,7 +77,7 @@ fn is_left_by_line(before: &Told, line: &Done, device: Device, part: &[u8], foun
         Device::Stream(Stream::Sink) => {
             part.len() < reply.len() && reply.starts_with(part) && agree(found, &line.told)
         }
-        Device::Disk => {
+        Device::Disk(_) => {
             reply.starts_with(part) && (agree(found, before) || agree(found, &line.told))
         }
         Device::Depot => part.is_empty() && agree(found, before),

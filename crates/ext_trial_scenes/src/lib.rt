@@ -1,19 +1,19 @@
-//! Scenes over devices in memory: a disk, a depot, a source and a sink that fail and stop where a case says so.
+//! Scenes over devices in memory: a disk, a depot, a source and a sink that fail and stop where a case says so, and a disk to publish in.
 //!
 //! A [`Scene`] is what the statements of a case have made so far. [`answer`] carries out one statement over it. Commands run
-//! through [`ext_top::run`], and what no command shows is looked at by the calls below: the files of a store, left-overs,
-//! changes that no command makes alone, a depot's answers. The `every` forms play the scene again on fresh devices, once for
-//! each call of its last change, and say where it leaves neither what stood before nor what stands after.
+//! through [`ext_top::run`], runs that publish through [`ext_publish::publish`], and what neither shows is looked at by the calls of
+//! the devices. The `every` forms play the scene again on fresh devices, once for each call of its last run, and say where it leaves
+//! neither what stood before nor what stands after.
 #![tactic(auto)]
 
 mod acts;
 mod batches;
 mod command_words;
-mod device_words;
 mod ends;
 mod every;
 mod exits;
 mod laws;
+mod publishing;
 mod resources;
 mod scene;
 mod streams;

@@ -205,7 +205,7 @@ fn with_line(alloc: Global, sums: &[u8], line: &[u8]) -> Result<Text, Trouble> {
     Ok(text)
 }
 
-// The name in a line of a manifest, after its digest and two blanks.
-fn name_in(line: &[u8]) -> &[u8] {
+/// The name in a line of a manifest, after its digest and two blanks.
+pub(crate) fn name_in(line: &[u8]) -> &[u8] {
     line.get(66..).unwrap_or(b"")
 }

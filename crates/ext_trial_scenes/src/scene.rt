@@ -1,35 +1,62 @@
 // What the statements of a case have made so far.
-mod calls;
 mod plays;
 mod runs;
 
-use crate::acts::{Act, MemoryDevices, depot_of, stop_disk};
+use crate::acts::{Act, Files, MemoryDevices, Side, act_on, depot_of};
 use crate::exits::Stream;
 use crate::resources::Resource;
 use crate::streams::{Streams, beside_streams};
 use ext_case::Trouble;
-use ext_depot::MemoryDepot;
-use ext_disk::{MemoryDisk, Pick};
+use ext_disk::MemoryDisk;
 use ext_io::Calls;
 use ext_text::{Path, Text};
 use ext_trial_disks::Outcome;
 use std::alloc::Global;
 use std::collections::BTreeMap;
-use std::mem;
+
+// Where a disk fails: these calls, and each from the stop on.
+#[derive(Drop)]
+struct Faults {
+    fails: Vec<u64>,
+    stop: Option<u64>,
+}
+
+impl Faults {
+    fn new(alloc: Global) -> Faults {
+        Faults {
+            fails: Vec::new(alloc),
+            stop: None,
+        }
+    }
+
+    // An empty disk that fails there.
+    fn disk(&self, alloc: Global) -> Result<MemoryDisk, Trouble> {
+        Ok(MemoryDisk::new(alloc, calls_of(alloc, self.fails.as_slice())?, self.stop))
+    }
+}
+
+fn calls_of(alloc: Global, numbers: &[u64]) -> Result<Calls, Trouble> {
+    let mut calls = Calls::new(alloc);
+    for number in numbers {
+        calls.push(*number)?;
+    }
+    Ok(calls)
+}
 
 /// The devices of a case, what was done to them, and how the last command ended.
 #[derive(Drop)]
 pub struct Scene {
-    // The calls that fail.
-    disk_fails: Calls,
-    depot_fails: Calls,
-    // The first call of the disk that a stop came before.
-    stop: Option<u64>,
-    streams: Streams,
+    store_faults: Faults,
+    out_faults: Faults,
+    depot_fails: Vec<u64>,
+    /// The disk of which statements speak.
+    pub(crate) side: Side,
+    /// The streams of the next command.
+    pub(crate) streams: Streams,
     // How many bytes a call of a stream moves, for each run of a command.
     pieces: Vec<usize>,
     /// The files of the depot.
-    pub(crate) files: BTreeMap<Path, Text>,
+    pub(crate) files: Files,
     /// The resource that statements put entries into.
     pub(crate) resource: Option<Resource>,
     acts: Vec<Act>,
@@ -40,12 +67,13 @@ pub struct Scene {
 }
 
 impl Scene {
-    /// Nothing so far: an empty disk and an empty depot on which nothing fails.
+    /// Nothing so far: empty disks and an empty depot on which nothing fails.
     pub fn new(alloc: Global) -> Scene {
         Scene {
-            disk_fails: Calls::new(alloc),
-            depot_fails: Calls::new(alloc),
-            stop: None,
+            store_faults: Faults::new(alloc),
+            out_faults: Faults::new(alloc),
+            depot_fails: Vec::new(alloc),
+            side: Side::Store,
             streams: Streams::new(Text::new(alloc)),
             pieces: Vec::new(alloc),
             files: BTreeMap::new(alloc),
@@ -81,13 +109,29 @@ impl Scene {
         self.unsaid.take()
     }
 
-    /// Makes a call of the disk fail.
+    /// Makes a later call of the disk fail, or this one and all that follow. What was done is done again on a disk that does so.
     ///
     /// # Errors
-    /// `Unreadable` where the devices were used already.
-    pub(crate) fn fail_disk(&mut self, call: u64) -> Result<(), Trouble> {
-        self.are_unused()?;
-        self.disk_fails.push(call)?;
+    /// `Unreadable` where it can't be done, and `OutOfMemory`.
+    pub(crate) fn fail_disk(
+        &mut self,
+        alloc: Global,
+        call: u64,
+        is_stop: bool,
+    ) -> Result<(), Trouble> {
+        let side = self.side;
+        let mut devices = self.make_devices(alloc)?;
+        let call = devices.disk(side).calls().saturating_add(call);
+        let faults = match side {
+            Side::Store => &mut self.store_faults,
+            Side::Out => &mut self.out_faults,
+        };
+        if is_stop {
+            faults.stop = Some(call);
+        } else {
+            faults.fails.push(call)?;
+        }
+        self.devices = None;
         Ok(())
     }
 
@@ -96,29 +140,16 @@ impl Scene {
     /// # Errors
     /// `Unreadable` where the devices were used already.
     pub(crate) fn fail_depot(&mut self, call: u64) -> Result<(), Trouble> {
-        self.are_unused()?;
+        if self.devices.is_some() {
+            return Err(Trouble::Unreadable("the devices were used already"));
+        }
         self.depot_fails.push(call)?;
-        Ok(())
-    }
-
-    /// Stops the disk at a call.
-    ///
-    /// # Errors
-    /// `Unreadable` where the devices were used already.
-    pub(crate) fn stop_at(&mut self, call: u64) -> Result<(), Trouble> {
-        self.are_unused()?;
-        self.stop = Some(call);
         Ok(())
     }
 
     /// Makes a call of a stream fail, of each command that follows.
     pub(crate) fn fail_stream(&mut self, stream: Stream, call: u64) {
         self.streams.fail(stream, call);
-    }
-
-    /// Gives the commands that follow a source of these bytes.
-    pub(crate) fn give_source(&mut self, bytes: Text) {
-        self.streams.source = bytes;
     }
 
     /// Runs each command that follows over streams that move so many bytes a call, once for each of these.
@@ -135,7 +166,7 @@ impl Scene {
     /// `OutOfMemory`.
     pub(crate) fn put(&mut self, path: Path, bytes: Text) -> Result<(), Trouble> {
         if let Some(devices) = &mut self.devices {
-            devices.depot.put(path.copy()?, bytes.copy()?)?;
+            devices.store.depot.put(path.copy()?, bytes.copy()?)?;
         }
         self.files.insert(path, bytes)?;
         Ok(())
@@ -156,45 +187,26 @@ impl Scene {
         }
     }
 
-    // An empty disk and a depot of the files, which fail where it was said.
-    fn make_devices(&mut self, alloc: Global) -> Result<MemoryDevices, Trouble> {
-        let disk_fails = mem::replace(&mut self.disk_fails, Calls::new(alloc));
-        let depot_fails = mem::replace(&mut self.depot_fails, Calls::new(alloc));
-        let disk = MemoryDisk::new(alloc, disk_fails, self.stop);
-        let depot = depot_of(alloc, &self.files, depot_fails)?;
-        Ok(beside_streams(alloc, disk, depot))
-    }
-
-    fn are_unused(&self) -> Result<(), Trouble> {
-        match &self.devices {
-            None => Ok(()),
-            Some(_) => Err(Trouble::Unreadable("the devices were used already")),
+    // Empty disks and a depot of the files, which fail where it was said, once all that was done is done there.
+    fn make_devices(&self, alloc: Global) -> Result<MemoryDevices, Trouble> {
+        let fails = calls_of(alloc, self.depot_fails.as_slice())?;
+        let depot = depot_of(alloc, &self.files, fails)?;
+        let mut devices = MemoryDevices {
+            store: beside_streams(alloc, self.store_faults.disk(alloc)?, depot),
+            out: self.out_faults.disk(alloc)?,
+        };
+        for act in self.acts.iter() {
+            let _outcome = act_on(alloc, act, &mut devices)?;
         }
+        Ok(devices)
     }
 
-    /// The disk.
+    /// The disk of which statements speak.
     ///
     /// # Errors
     /// `OutOfMemory`.
     pub(crate) fn disk(&mut self, alloc: Global) -> Result<&mut MemoryDisk, Trouble> {
-        let devices = self.devices(alloc)?;
-        Ok(&mut devices.disk)
-    }
-
-    /// The depot.
-    ///
-    /// # Errors
-    /// `OutOfMemory`.
-    pub(crate) fn depot(&mut self, alloc: Global) -> Result<&mut MemoryDepot, Trouble> {
-        let devices = self.devices(alloc)?;
-        Ok(&mut devices.depot)
-    }
-
-    /// Stops the disk now, and goes on with what is left of it.
-    ///
-    /// # Errors
-    /// `OutOfMemory`.
-    pub(crate) fn stop_now(&mut self, alloc: Global, pick: Pick) -> Result<(), Trouble> {
-        stop_disk(alloc, self.devices(alloc)?, pick)
+        let side = self.side;
+        Ok(self.devices(alloc)?.disk(side))
     }
 }

@@ -51,8 +51,8 @@ impl Streams {
         Ok(MemorySource::new(self.source.copy()?, self.piece.max(1), fails))
     }
 
-    // The sink of a run.
-    fn sink(&self, alloc: Global) -> Result<MemorySink, Trouble> {
+    /// The sink of a run.
+    pub(crate) fn sink(&self, alloc: Global) -> Result<MemorySink, Trouble> {
         let fails = only(alloc, self.sink_fails)?;
         Ok(MemorySink::new(alloc, self.piece.max(1), fails))
     }

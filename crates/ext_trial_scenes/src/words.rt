@@ -1,25 +1,47 @@
 // The words of scenes.
-use crate::acts::Act;
+use crate::acts::{Kind, Side};
 use crate::command_words::may_change_text;
-use crate::device_words::{after_stop, fail, pick_of, put_on_disk, sizes, stop};
+use crate::exits::Stream;
 use crate::laws::call_laws;
 use crate::resources;
 use crate::resources::is_entry;
 use crate::scene::Scene;
-use ext_case::{Trouble, none, number, number_text, one, one_and_more, path, size, two};
-use ext_disk::{DiskOp, MemoryDisk};
+use ext_case::{Trouble, none, number, number_line, number_text, one, path, size, string, two};
+use ext_disk::{DiskOp, Pick};
 use ext_text::{Text, Words};
-use ext_trial_disks::{
-    calls_text, change_of, clean, compare, copy, current_text, file_text, give, give_piece,
-    kind_text, left_over_text, most_bytes, paths_text, read_text, refusal_text, size_text,
-    sizes_text, standing_text, whole_text,
-};
-use ext_trial_plans::prepare_first;
+use ext_trial_disks::{calls_text, file_text, read_text, sizes_text, spots_on, whole_text};
 use std::alloc::Global;
 
-/// What a statement writes; `None` where no statement of scenes begins with the word. The first words say what devices have
-/// and where they fail, the next ones carry out commands and changes and tell how they end, then come those that look at
-/// the disk and at what it was asked for, and last the calls below the commands.
+// The words, in the order of the arms that carry them out: first those that say what devices have and where they fail, then those that
+// carry something out, and then those that look.
+const WORDS: [&str; 24] = [
+    "in",
+    "disk",
+    "depot",
+    "resource",
+    "listed",
+    "serve",
+    "input",
+    "pieces",
+    "fail",
+    "stop",
+    "after",
+    "call",
+    "$",
+    "publish",
+    "status",
+    "whole",
+    "shows",
+    "called",
+    "appends",
+    "reads",
+    "appended",
+    "depot-read",
+    "may-change",
+    "laws",
+];
+
+/// What a statement writes; `None` where no statement of scenes begins with the word.
 ///
 /// # Errors
 /// `Unreadable` where it can't be carried out, and `OutOfMemory`.
@@ -32,154 +54,54 @@ pub fn answer(
     if is_entry(word) {
         return Ok(Some(resources::put(alloc, scene, word, arguments)?));
     }
-    let text = match word {
-        "resource" => resources::begin(alloc, scene, arguments),
-        "listed" => resources::list(alloc, scene, arguments),
-        "disk" => put_on_disk(alloc, scene, arguments),
-        "depot" => put_in_depot(alloc, scene, arguments),
-        "input" => give_input(alloc, scene, arguments),
-        "pieces" => cut_streams(alloc, scene, arguments),
-        "after" => after_stop(alloc, scene, arguments),
-        "call" => scene.call(alloc, arguments),
-        "fail" => fail(alloc, scene, arguments),
-        "stop" => stop(alloc, scene, arguments),
-        _ => return carried_out(alloc, scene, word, arguments),
-    }?;
-    Ok(Some(text))
+    match WORDS.iter().position(|known| *known == word) {
+        Some(number) => Ok(Some(carried_out(alloc, scene, number, arguments)?)),
+        None => Ok(None),
+    }
 }
 
-// Commands and changes are carried out, and it is told how they end. A few words stand in each function, since a long list of them
-// is proved slowly.
 fn carried_out(
     alloc: Global,
     scene: &mut Scene,
-    word: &str,
+    number: usize,
     arguments: &[Text],
-) -> Result<Option<Text>, Trouble> {
-    let text = match word {
-        "$" => command(alloc, scene, arguments),
-        "change" => change(alloc, scene, arguments),
-        "again" => again(alloc, scene, arguments),
-        "first" => first(alloc, scene, arguments),
-        "status" => status(alloc, scene, arguments),
-        "stands" => stands(alloc, scene, arguments),
-        "whole" => whole(alloc, scene, arguments),
-        "laws" => return Ok(laws(alloc, arguments)),
-        _ => return looked_at(alloc, scene, word, arguments),
-    }?;
-    Ok(Some(text))
-}
-
-// What looks at the disk and at what it was asked for.
-fn looked_at(
-    alloc: Global,
-    scene: &mut Scene,
-    word: &str,
-    arguments: &[Text],
-) -> Result<Option<Text>, Trouble> {
-    match word {
-        "appended" | "calls" | "starved" | "most" => {
-            Ok(Some(count_of(alloc, scene.disk(alloc)?, word, arguments)?))
-        }
-        "shows" | "read" | "called" | "appends" | "reads" => {
-            Ok(Some(told_of(alloc, scene.disk(alloc)?, word, arguments)?))
-        }
-        _ => answer_store(alloc, scene, word, arguments),
+) -> Result<Text, Trouble> {
+    match number {
+        0 => choose(alloc, scene, arguments),
+        1 => scene.act(alloc, Kind::Put, arguments),
+        2 => put_in_depot(alloc, scene, arguments),
+        3 => resources::begin(alloc, scene, arguments),
+        4 => resources::list(alloc, scene, arguments),
+        5 => serve(alloc, scene, arguments),
+        6 => give_input(alloc, scene, arguments),
+        7 => cut_streams(alloc, scene, arguments),
+        8 => fail(alloc, scene, arguments),
+        9 => stop(alloc, scene, arguments),
+        10 => after_stop(alloc, scene, arguments),
+        11 => scene.act(alloc, Kind::Call, arguments),
+        12 => scene.run(alloc, Kind::Run, arguments),
+        13 => scene.run(alloc, Kind::Publish, arguments),
+        14 => status(alloc, scene, arguments),
+        15 => whole(alloc, scene, arguments),
+        16 => file_text(alloc, scene.disk(alloc)?, one(arguments)?),
+        17 => called(alloc, scene, arguments),
+        18 => sizes_text(alloc, scene.disk(alloc)?, DiskOp::Append, one(arguments)?),
+        19 => sizes_text(alloc, scene.disk(alloc)?, DiskOp::Read, one(arguments)?),
+        20 => appended(alloc, scene, arguments),
+        21 => read_text(alloc, &mut scene.devices(alloc)?.store.depot, arguments),
+        22 => may_change_text(alloc, arguments),
+        _ => laws(alloc, arguments),
     }
 }
 
-// The word's count, where it is another than stated.
-fn count_of(
-    alloc: Global,
-    disk: &MemoryDisk,
-    word: &str,
-    arguments: &[Text],
-) -> Result<Text, Trouble> {
-    let count = match word {
-        "appended" => disk.appended(),
-        "calls" => disk.calls(),
-        "starved" => disk.starved(),
-        _ => most_bytes(disk),
+// `in store` or `in out`: the disk of which the statements that follow speak.
+fn choose(alloc: Global, scene: &mut Scene, arguments: &[Text]) -> Result<Text, Trouble> {
+    scene.side = match string(one(arguments)?)? {
+        "store" => Side::Store,
+        "out" => Side::Out,
+        _ => return Err(Trouble::Unreadable("no such disk")),
     };
-    counted(alloc, count, arguments)
-}
-
-// What a file has, and what the disk was asked for.
-fn told_of(
-    alloc: Global,
-    disk: &mut MemoryDisk,
-    word: &str,
-    arguments: &[Text],
-) -> Result<Text, Trouble> {
-    match word {
-        "shows" => file_text(alloc, disk, one(arguments)?, 65_536),
-        "read" => read(alloc, disk, arguments),
-        "called" => called(alloc, disk, arguments),
-        "appends" => sizes_text(alloc, disk, DiskOp::Append, one(arguments)?),
-        _ => sizes_text(alloc, disk, DiskOp::Read, one(arguments)?),
-    }
-}
-
-// The calls below the commands.
-fn answer_store(
-    alloc: Global,
-    scene: &mut Scene,
-    word: &str,
-    arguments: &[Text],
-) -> Result<Option<Text>, Trouble> {
-    match word {
-        "may-change" | "current" | "paths" | "left-over" => {
-            Ok(Some(of_paths(alloc, word, arguments)?))
-        }
-        "clean" | "standing" | "give" | "give-piece" => {
-            Ok(Some(of_store(alloc, scene.disk(alloc)?, word, arguments)?))
-        }
-        "depot-size" | "depot-read" | "copy" | "compare-kept" => {
-            Ok(Some(of_both(alloc, scene, word, arguments)?))
-        }
-        _ => Ok(None),
-    }
-}
-
-// Calls that look at no device.
-fn of_paths(alloc: Global, word: &str, arguments: &[Text]) -> Result<Text, Trouble> {
-    match word {
-        "may-change" => may_change_text(alloc, arguments),
-        "current" => current_text(alloc, arguments),
-        "paths" => paths_text(alloc, arguments),
-        _ => left_over_text(alloc, arguments),
-    }
-}
-
-// Calls over the store alone.
-fn of_store(
-    alloc: Global,
-    disk: &mut MemoryDisk,
-    word: &str,
-    arguments: &[Text],
-) -> Result<Text, Trouble> {
-    match word {
-        "clean" => clean(alloc, disk, arguments),
-        "standing" => standing(alloc, disk, arguments),
-        "give" => give(alloc, disk, arguments),
-        _ => give_piece(alloc, disk, arguments),
-    }
-}
-
-// Calls that look at the depot.
-fn of_both(
-    alloc: Global,
-    scene: &mut Scene,
-    word: &str,
-    arguments: &[Text],
-) -> Result<Text, Trouble> {
-    let devices = scene.devices(alloc)?;
-    match word {
-        "depot-size" => size_text(alloc, &mut devices.depot, one(arguments)?),
-        "depot-read" => read_text(alloc, &mut devices.depot, arguments),
-        "copy" => copy(alloc, &mut devices.disk, &mut devices.depot, arguments),
-        _ => compare(alloc, &mut devices.disk, &mut devices.depot, arguments),
-    }
+    Ok(Text::new(alloc))
 }
 
 // `depot PATH BYTES`: a file of the depot.
@@ -189,35 +111,107 @@ fn put_in_depot(alloc: Global, scene: &mut Scene, arguments: &[Text]) -> Result<
     Ok(Text::new(alloc))
 }
 
+// `serve`: the depot has what stands on the disk, too.
+fn serve(alloc: Global, scene: &mut Scene, arguments: &[Text]) -> Result<Text, Trouble> {
+    none(arguments)?;
+    scene.serve(alloc)?;
+    Ok(Text::new(alloc))
+}
+
 // `input BYTES`: what standard input has.
 fn give_input(alloc: Global, scene: &mut Scene, arguments: &[Text]) -> Result<Text, Trouble> {
-    scene.give_source(one(arguments)?.copy()?);
+    scene.streams.source = one(arguments)?.copy()?;
     Ok(Text::new(alloc))
 }
 
 // `pieces SIZE..`: how many bytes the calls of streams move.
 fn cut_streams(alloc: Global, scene: &mut Scene, arguments: &[Text]) -> Result<Text, Trouble> {
-    scene.cut_streams(sizes(alloc, arguments)?);
+    let mut sizes = Vec::new(alloc);
+    for argument in arguments {
+        sizes.push(size(argument)?)?;
+    }
+    scene.cut_streams(sizes);
     Ok(Text::new(alloc))
 }
 
-// `$ WORD..`: carries a command out.
-fn command(alloc: Global, scene: &mut Scene, words: &[Text]) -> Result<Text, Trouble> {
-    let outcome = scene.run(alloc, words_of(alloc, words)?)?;
-    Ok(scene.end(outcome))
+// `fail DEVICE CALL` or `fail DEVICE every`; of the depot also `never`.
+fn fail(alloc: Global, scene: &mut Scene, arguments: &[Text]) -> Result<Text, Trouble> {
+    let (device, call) = two(arguments)?;
+    let device = string(device)?;
+    match string(call)? {
+        "every" => fail_every(alloc, scene, device),
+        "never" => fail_never(alloc, scene),
+        _ => {
+            fail_once(alloc, scene, device, number(call, u64::MAX)?)?;
+            Ok(Text::new(alloc))
+        }
+    }
 }
 
-// `change ..`: carries a change out.
-fn change(alloc: Global, scene: &mut Scene, arguments: &[Text]) -> Result<Text, Trouble> {
-    let outcome = scene.act(alloc, Act::Change(change_of(alloc, arguments)?))?;
-    Ok(scene.end(outcome))
+fn fail_once(alloc: Global, scene: &mut Scene, device: &str, call: u64) -> Result<(), Trouble> {
+    match device {
+        "disk" => return scene.fail_disk(alloc, call, false),
+        "depot" => return scene.fail_depot(call),
+        "source" => scene.fail_stream(Stream::Source, call),
+        "sink" => scene.fail_stream(Stream::Sink, call),
+        _ => return Err(Trouble::Unreadable("no such device")),
+    }
+    Ok(())
 }
 
-// `again`: carries the last one out again.
-fn again(alloc: Global, scene: &mut Scene, arguments: &[Text]) -> Result<Text, Trouble> {
-    none(arguments)?;
-    let outcome = scene.again(alloc)?;
-    Ok(scene.end(outcome))
+fn fail_every(alloc: Global, scene: &mut Scene, device: &str) -> Result<Text, Trouble> {
+    match device {
+        "disk" => scene.fail_disk_every(alloc),
+        "source" => scene.fail_stream_every(alloc, Stream::Source),
+        "sink" => scene.fail_stream_every(alloc, Stream::Sink),
+        "depot" => match scene.fail_depot_every(alloc)? {
+            (_, 0) => Err(Trouble::Unreadable("the change makes no call of the depot")),
+            (text, _) => Ok(text),
+        },
+        _ => Err(Trouble::Unreadable("no such device")),
+    }
+}
+
+// The change makes no call of the depot.
+fn fail_never(alloc: Global, scene: &mut Scene) -> Result<Text, Trouble> {
+    match scene.fail_depot_every(alloc)? {
+        (text, 0) => Ok(text),
+        (_, count) => number_line(alloc, count),
+    }
+}
+
+// `stop CALL`, or `stop every pick PICK` where `every` is each pick.
+fn stop(alloc: Global, scene: &mut Scene, arguments: &[Text]) -> Result<Text, Trouble> {
+    match arguments {
+        [call] => {
+            scene.fail_disk(alloc, number(call, u64::MAX)?, true)?;
+            Ok(Text::new(alloc))
+        }
+        [_every, _pick, pick] => stop_every(alloc, scene, pick),
+        _ => Err(Trouble::Unreadable("stop where?")),
+    }
+}
+
+fn stop_every(alloc: Global, scene: &mut Scene, pick: &Text) -> Result<Text, Trouble> {
+    match string(pick)? {
+        "every" => scene.stop_every(alloc, &[Pick::Old, Pick::New, Pick::Junk]),
+        _ => scene.stop_every(alloc, &[pick_of(pick)?]),
+    }
+}
+
+// `after stop PICK`.
+fn after_stop(alloc: Global, scene: &mut Scene, arguments: &[Text]) -> Result<Text, Trouble> {
+    let (_stop, pick) = two(arguments)?;
+    scene.act(alloc, Kind::Stop(pick_of(pick)?), &[])
+}
+
+fn pick_of(word: &Text) -> Result<Pick, Trouble> {
+    match string(word)? {
+        "old" => Ok(Pick::Old),
+        "new" => Ok(Pick::New),
+        "junk" => Ok(Pick::Junk),
+        _ => Err(Trouble::Unreadable("no such pick")),
+    }
 }
 
 /// The words of a command.
@@ -230,19 +224,6 @@ pub fn words_of(alloc: Global, arguments: &[Text]) -> Result<Words, Trouble> {
         words.push(argument.copy()?)?;
     }
     Ok(words)
-}
-
-// `first CHANGE`: the change is prepared on an empty disk, which takes the place of the disk, and not committed.
-fn first(alloc: Global, scene: &mut Scene, arguments: &[Text]) -> Result<Text, Trouble> {
-    let change = change_of(alloc, arguments)?;
-    match prepare_first(alloc, scene.depot(alloc)?, &change) {
-        Ok(Ok(disk)) => {
-            scene.devices(alloc)?.disk = disk;
-            Ok(Text::new(alloc))
-        }
-        Ok(Err(refused)) => refusal_text(alloc, &refused),
-        Err(_) => Err(Trouble::Unreadable("the change makes no plan")),
-    }
 }
 
 // `status NUMBER [DETAIL ..]`: writes the status where it is another.
@@ -270,53 +251,37 @@ fn stated(alloc: Global, found: &Text, words: &[Text]) -> Result<Text, Trouble> 
     Ok(line)
 }
 
-// `stands PATH KIND ..`: writes the kind where it is another.
-fn stands(alloc: Global, scene: &mut Scene, arguments: &[Text]) -> Result<Text, Trouble> {
-    let (at, kind) = one_and_more(arguments)?;
-    let found = kind_text(alloc, scene.disk(alloc)?, at)?;
-    stated(alloc, &found, kind)
-}
-
-// `read PATH MOST`: the first bytes of a file.
-fn read(alloc: Global, disk: &mut MemoryDisk, arguments: &[Text]) -> Result<Text, Trouble> {
-    let (at, most) = two(arguments)?;
-    file_text(alloc, disk, at, size(most)?)
-}
-
-// Writes a count where it is another than stated.
-fn counted(alloc: Global, count: u64, stated_count: &[Text]) -> Result<Text, Trouble> {
-    stated(alloc, &number_text(alloc, count)?, stated_count)
+// `appended BYTES`: writes how many bytes were appended to the disk where they are others.
+fn appended(alloc: Global, scene: &mut Scene, arguments: &[Text]) -> Result<Text, Trouble> {
+    let count = scene.disk(alloc)?.appended();
+    stated(alloc, &number_text(alloc, count)?, arguments)
 }
 
 // `called`, or `called COUNT` for the last so many.
-fn called(alloc: Global, disk: &MemoryDisk, arguments: &[Text]) -> Result<Text, Trouble> {
-    match arguments {
-        [] => calls_text(alloc, disk, u64::MAX),
-        _ => calls_text(alloc, disk, number(one(arguments)?, u64::MAX)?),
-    }
+fn called(alloc: Global, scene: &mut Scene, arguments: &[Text]) -> Result<Text, Trouble> {
+    let count = match arguments {
+        [] => u64::MAX,
+        _ => number(one(arguments)?, u64::MAX)?,
+    };
+    calls_text(alloc, scene.disk(alloc)?, count)
 }
 
 // `whole`, or `whole PICK` for what a stop now would leave.
 fn whole(alloc: Global, scene: &mut Scene, arguments: &[Text]) -> Result<Text, Trouble> {
     match arguments {
-        [] => whole_text(alloc, scene.disk(alloc)?),
+        [] => {
+            let spots = spots_on(alloc, scene.disk(alloc)?)?;
+            whole_text(alloc, spots.as_slice())
+        }
         _ => scene.left_by_stop(alloc, pick_of(one(arguments)?)?),
     }
 }
 
 // `laws stores`: calls the laws of stores and of commands that look at none.
-fn laws(alloc: Global, arguments: &[Text]) -> Option<Text> {
-    match arguments {
-        [which] if which.bytes() == b"stores".as_slice() => {
-            call_laws();
-            Some(Text::new(alloc))
-        }
-        _ => None,
+fn laws(alloc: Global, arguments: &[Text]) -> Result<Text, Trouble> {
+    match string(one(arguments)?)? {
+        "stores" => call_laws(),
+        _ => return Err(Trouble::Unreadable("no such laws")),
     }
-}
-
-// `standing`: what stands in the store.
-fn standing(alloc: Global, disk: &mut MemoryDisk, arguments: &[Text]) -> Result<Text, Trouble> {
-    none(arguments)?;
-    standing_text(alloc, disk)
+    Ok(Text::new(alloc))
 }

@@ -1,49 +1,71 @@
-// Commands and changes over the devices of a scene.
+// Acts over the devices of a scene.
 use super::Scene;
-use crate::acts::{Act, Ran, act_on};
-use crate::streams::run_over;
+use crate::acts::{Act, Kind, act_all, act_on, act_over, fresh_devices, stop_disk};
+use crate::words::words_of;
 use ext_case::Trouble;
-use ext_text::Words;
-use ext_trial_disks::Outcome;
+use ext_disk::Pick;
+use ext_text::Text;
+use ext_trial_disks::{Outcome, spots_on, whole_text};
 use std::alloc::Global;
 use std::mem;
 
 impl Scene {
-    /// Does an act, and keeps it.
+    /// The act of these words on the disk of which statements speak.
+    ///
+    /// # Errors
+    /// `OutOfMemory`.
+    pub(crate) fn act_of(&self, alloc: Global, kind: Kind, words: &[Text]) -> Result<Act, Trouble> {
+        Ok(Act {
+            kind,
+            side: self.side,
+            words: words_of(alloc, words)?,
+            source: self.streams.source.copy()?,
+        })
+    }
+
+    /// Does an act on the disk of which statements speak, and keeps it, of a call where it changed something.
     ///
     /// # Errors
     /// `Unreadable` where it can't be done, and `OutOfMemory`.
-    pub(crate) fn act(&mut self, alloc: Global, act: Act) -> Result<Outcome, Trouble> {
+    pub(crate) fn act(
+        &mut self,
+        alloc: Global,
+        kind: Kind,
+        words: &[Text],
+    ) -> Result<Text, Trouble> {
+        let act = self.act_of(alloc, kind, words)?;
         let outcome = act_on(alloc, &act, self.devices(alloc)?)?;
-        self.acts.push(act)?;
-        Ok(outcome)
+        if !matches!(kind, Kind::Call) || outcome.reply.bytes() == b"done\n".as_slice() {
+            self.acts.push(act)?;
+        }
+        Ok(outcome.reply)
     }
 
-    /// Runs a command once for each size of pieces, and keeps it. Where one ends otherwise than the first, that is what it
-    /// gives.
+    /// Runs a command or publishes, once for each size of pieces, and keeps it. Where one ends otherwise than the first, that is
+    /// what it gives.
     ///
     /// # Errors
     /// `Unreadable` where it can't be run, and `OutOfMemory`.
-    pub(crate) fn run(&mut self, alloc: Global, words: Words) -> Result<Outcome, Trouble> {
-        let outcome = self.run_in_pieces(alloc, &words)?;
-        let source = self.streams.source.copy()?;
-        self.acts.push(Act::Run(Ran { words, source }))?;
-        Ok(outcome)
-    }
-
-    fn run_in_pieces(&mut self, alloc: Global, words: &Words) -> Result<Outcome, Trouble> {
-        let first = self.run_once(alloc, words)?;
+    pub(crate) fn run(
+        &mut self,
+        alloc: Global,
+        kind: Kind,
+        words: &[Text],
+    ) -> Result<Text, Trouble> {
+        let act = self.act_of(alloc, kind, words)?;
+        let first = self.run_once(alloc, &act)?;
         let pieces = mem::replace(&mut self.pieces, Vec::new(alloc));
-        let other = self.run_otherwise(alloc, words, pieces.as_slice(), &first)?;
+        let other = self.run_otherwise(alloc, &act, pieces.as_slice(), &first)?;
         self.pieces = pieces;
-        Ok(other.unwrap_or(first))
+        self.acts.push(act)?;
+        Ok(self.end(other.unwrap_or(first)))
     }
 
     // The first run in other pieces that ends otherwise.
     fn run_otherwise(
         &mut self,
         alloc: Global,
-        words: &Words,
+        act: &Act,
         pieces: &[usize],
         first: &Outcome,
     ) -> Result<Option<Outcome>, Trouble> {
@@ -51,7 +73,7 @@ impl Scene {
         let mut other = None;
         for piece in pieces.iter().skip(1) {
             self.streams.piece = *piece;
-            let found = self.run_once(alloc, words)?;
+            let found = self.run_once(alloc, act)?;
             if !found.is_same(first) {
                 other = Some(found);
             }
@@ -60,23 +82,36 @@ impl Scene {
         Ok(other)
     }
 
-    fn run_once(&mut self, alloc: Global, words: &Words) -> Result<Outcome, Trouble> {
+    fn run_once(&mut self, alloc: Global, act: &Act) -> Result<Outcome, Trouble> {
         let _devices = self.devices(alloc)?;
         match &mut self.devices {
-            Some(devices) => run_over(alloc, words, &self.streams, devices),
+            Some(devices) => act_over(alloc, act, &self.streams, devices),
             None => Err(Trouble::Unreadable("no devices")),
         }
     }
 
-    /// Makes the last change again.
+    /// What a stop now would leave of the disk. All that was done is done again on another disk, which is stopped.
     ///
     /// # Errors
-    /// `Unreadable` where there is none, and `OutOfMemory`.
-    pub(crate) fn again(&mut self, alloc: Global) -> Result<Outcome, Trouble> {
-        let _devices = self.devices(alloc)?;
-        match (self.acts.last(), &mut self.devices) {
-            (Some(act), Some(devices)) => act_on(alloc, act, devices),
-            _ => Err(Trouble::Unreadable("nothing was done yet")),
+    /// `Unreadable` where something of it is not done, and `OutOfMemory`.
+    pub(crate) fn left_by_stop(&self, alloc: Global, pick: Pick) -> Result<Text, Trouble> {
+        let mut devices = fresh_devices(alloc, &self.files)?;
+        act_all(alloc, self.acts.as_slice(), &mut devices)?;
+        stop_disk(alloc, &mut devices, self.side, pick)?;
+        let spots = spots_on(alloc, devices.disk(self.side))?;
+        whole_text(alloc, spots.as_slice())
+    }
+
+    /// Puts the files that stand on the disk into the depot.
+    ///
+    /// # Errors
+    /// `Unreadable` where the disk fails, and `OutOfMemory`.
+    pub(crate) fn serve(&mut self, alloc: Global) -> Result<(), Trouble> {
+        for spot in spots_on(alloc, self.disk(alloc)?)? {
+            if let Some(bytes) = spot.bytes {
+                self.put(spot.at, bytes)?;
+            }
         }
+        Ok(())
     }
 }
