@@ -1,10 +1,13 @@
 """The texts that tests/mutations begins with: those of tests/cases, and those of the examples."""
+import hashlib
 import re
 
 from scenes.running import TOP
 
 ESCAPES = {b"s": b" ", b"n": b"\n", b"t": b"\t", b"r": b"\r", b"\\": b"\\", b")": b")", b"e": b"", b"\n": b""}
 BLOCK = re.compile(rb"^text (\S+)\n(.*?)^end of \1$", re.M | re.S)
+# A resource of the depot, entry by entry.
+RESOURCE = re.compile(rb"^resource \S+\n((?:(?:[fdo](?::[0-7]+)?|[lw]) .*\n)+)", re.M)
 
 
 def unescaped(text):
@@ -18,15 +21,44 @@ def of_cases():
         yield from (unescaped(found[2]) for found in BLOCK.finditer(path.read_bytes()) if b"\\(" not in found[2])
 
 
-def chosen(form, most=4_000):
+def entry_line(word, path, *rest):
+    """The line of an entry in a tree text, from the words of its statement."""
+    kind, _, mode = word.partition(b":")
+    if kind == b"f":
+        return b"f %b %d %b %b" % (mode or b"644", len(rest[0]), hashlib.sha256(rest[0]).hexdigest().encode(), path)
+    if kind == b"l":
+        return b"l %d %b %b" % (len(rest[0]), rest[0], path)
+    return b"w " + path if kind == b"w" else b"%b %b %b" % (kind, mode or b"755", path)
+
+
+def tree_of(statements):
+    """The tree text of a resource, with the directories that its entries need."""
+    found = {}
+    for statement in statements.splitlines():
+        word, path, *rest = map(unescaped, statement.split(b" "))
+        names = path.split(b"/")
+        for depth in range(1, len(names)):
+            found.setdefault(tuple(names[:depth]), entry_line(b"d", b"/".join(names[:depth])))
+        found[tuple(names)] = entry_line(word, path, *rest)
+    version = 2 if any(line[:2] in (b"o ", b"w ") for line in found.values()) else 1
+    return b"\n".join([b"hostext-tree %d" % version, *(found[names] for names in sorted(found)), b"end", b""])
+
+
+def of_resources():
+    """The tree texts of the resources of all cases, but for those that repeat a part."""
+    for path in sorted((TOP / "tests/cases").glob("*.cases")):
+        yield from (tree_of(found[1]) for found in RESOURCE.finditer(path.read_bytes()) if b"\\(" not in found[1] and b"$" not in found[1])
+
+
+def chosen(form, most=4_000, texts=of_cases):
     """Those that have a form, each once, none of them long."""
-    return sorted({text for text in of_cases() if re.search(form, text, re.M | re.S) and len(text) <= most})
+    return sorted({text for text in texts() if re.search(form, text, re.M | re.S) and len(text) <= most})
 
 
 def tree_texts():
     """Those of the examples, three times as often as all others."""
     examples = [path.read_bytes() for path in sorted((TOP / "examples").rglob("*.tree"))]
-    return examples * 3 + chosen(rb"\Ahostext-tree ")
+    return examples * 3 + sorted({*chosen(rb"\Ahostext-tree "), *chosen(rb"\Ahostext-tree ", texts=of_resources)})
 
 
 def index_texts():
