@@ -64,7 +64,7 @@ pub(crate) fn is_free<D: Disk>(
 
 // What is put on a disk.
 #[derive(Clone, Copy)]
-enum Put<'a> {
+enum Standing<'a> {
     Folder,
     // A file of these bytes, which are synced.
     File(&'a [u8]),
@@ -80,8 +80,8 @@ enum Put<'a> {
 pub fn put_on(alloc: Global, disk: &mut MemoryDisk, arguments: &[Text]) -> Result<(), Trouble> {
     let (kind, at, rest) = two_and_more(arguments)?;
     match string(kind)? {
-        "folder" => put(alloc, disk, at.bytes(), Put::Folder),
-        "file" => put(alloc, disk, at.bytes(), Put::File(one(rest)?.bytes())),
+        "folder" => put(alloc, disk, at.bytes(), Standing::Folder),
+        "file" => put(alloc, disk, at.bytes(), Standing::File(one(rest)?.bytes())),
         "files" => put_files(alloc, disk, at, small(one(rest)?)?),
         "sync" => told(sync_there(disk, &path(alloc, at)?)),
         _ => Err(Trouble::Unreadable("no such thing on a disk")),
@@ -93,12 +93,12 @@ fn put_files(alloc: Global, disk: &mut MemoryDisk, dir: &Text, count: u32) -> Re
         let mut at = dir.copy()?;
         at.append(b"/")?;
         append_number(alloc, &mut at, u64::from(number))?;
-        put(alloc, disk, at.bytes(), Put::Empty)?;
+        put(alloc, disk, at.bytes(), Standing::Empty)?;
     }
     Ok(())
 }
 
-fn put(alloc: Global, disk: &mut MemoryDisk, at: &[u8], what: Put<'_>) -> Result<(), Trouble> {
+fn put(alloc: Global, disk: &mut MemoryDisk, at: &[u8], what: Standing<'_>) -> Result<(), Trouble> {
     let (dir, name) = cut(alloc, at)?;
     let path = below(&dir, &name)?;
     if told(put_where_free(disk, &dir, &name, &path, what))? {
@@ -117,7 +117,7 @@ fn put_where_free<D: Disk>(
     dir: &Path,
     name: &Name,
     path: &Path,
-    what: Put<'_>,
+    what: Standing<'_>,
 ) -> Result<bool, Failed>
     requires { path.now ≡ dir.now ++ name.now ∷ [] }
 {
@@ -125,9 +125,9 @@ fn put_where_free<D: Disk>(
         return Ok(false);
     }
     match what {
-        Put::Folder => make_folder(disk, path)?,
-        Put::File(bytes) => write_file(disk, path, bytes)?,
-        Put::Empty => disk.make_file(path)?,
+        Standing::Folder => make_folder(disk, path)?,
+        Standing::File(bytes) => write_file(disk, path, bytes)?,
+        Standing::Empty => disk.make_file(path)?,
     }
     Ok(true)
 }
