@@ -148,16 +148,14 @@ fn ascending(asked: Asked) -> Said {
     }
     match first_wrong(texts.as_slice()) {
         None => asked.yes_or_no(true),
-        Some((low, high)) => {
-            asked.line(&[
-                low,
-                b" is ",
-                order_word(compare(low, high)),
-                b" than ",
-                high,
-            ])
-        }
+        Some((low, high)) => wrong(asked, low, high),
     }
+}
+
+// What two texts are that are not ordered so.
+fn wrong(asked: Asked, low: &[u8], high: &[u8]) -> Said {
+    let word = order_word(compare(low, high));
+    asked.line(&[low, b" is ", word, b" than ", high])
 }
 
 fn first_wrong<'a>(texts: &[(usize, &'a [u8])]) -> Option<(&'a [u8], &'a [u8])> {
