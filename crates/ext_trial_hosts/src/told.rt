@@ -97,10 +97,20 @@ fn version_item(text: Text, row: u64) -> VersionItem {
 fn refusals(alloc: Global) -> Result<Text, Trouble> {
     let mut text = Text::new(alloc);
     for row in 0..7u64 {
-        let refusal = refusal(alloc, row)?;
-        text.append(number_line(alloc, u64::from(number(&refusal)))?.bytes())?;
-        text.append(refusal_text(alloc, &refusal)?.bytes())?;
+        text.append(lines_of_row(alloc, row)?.bytes())?;
     }
+    Ok(text)
+}
+
+fn lines_of_row(alloc: Global, row: u64) -> Result<Text, Trouble> {
+    let refusal = refusal(alloc, row)?;
+    lines_of(alloc, &refusal)
+}
+
+// The number of a refusal and its line.
+fn lines_of(alloc: Global, refusal: &Refusal) -> Result<Text, Trouble> {
+    let mut text = number_line(alloc, u64::from(number(refusal)))?;
+    text.append(refusal_text(alloc, refusal)?.bytes())?;
     Ok(text)
 }
 
