@@ -153,7 +153,7 @@ fn ascending(asked: Asked) -> Said {
 }
 
 // What two texts are that are not ordered so.
-fn wrong(asked: Asked, low: &[u8], high: &[u8]) -> Said {
+fn wrong<'a>(asked: Asked, low: &'a [u8], high: &'a [u8]) -> Said {
     let word = order_word(compare(low, high));
     asked.line(&[low, b" is ", word, b" than ", high])
 }
