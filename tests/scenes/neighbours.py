@@ -304,7 +304,7 @@ def paths_that_no_call_takes_are_packed_and_unpacked(place):
         raise Failed("what was unpacked is something else")
 
 
-MEASURE = """import resource, sys
+MEASURE = """import sys
 sys.path.insert(0, {tools!r})
 import texts
 text = b"hostext-tree 1\\n" + {text}
@@ -312,13 +312,14 @@ try:
     texts.read_tree(text)
 except texts.Faulty:
     pass
-print(resource.getrusage(resource.RUSAGE_SELF).ru_maxrss // 1024)
+with open("/proc/self/status") as status:
+    print(next(int(line.split()[1]) // 1024 for line in status if line.startswith("VmHWM")))
 """
 MANY = 'b"".join(b"d 755 %b\\n" % b"/".join([b"bb"] * at) for at in range(1, 64)) + b"".join(b"l 1 a %b/%05d\\n" % (b"/".join([b"bb"] * 63), at) for at in range(100_000)) + b"end\\n"'
 
 
 def a_text_of_20_megabytes_takes_a_small_multiple_of_memory(place):
-    """Of many empty lines, of many short ones, and of many long paths."""
+    """Of many empty lines, of many short ones, and of many long paths. What its parent took counts for nothing."""
     for text in 'b"\\n" * 20_000_000', 'b"d 755 a\\n" + b"ab\\n" * 7_000_000', MANY:
         measured = subprocess.run([sys.executable, "-B", "-c", MEASURE.format(tools=str(TOOLS), text=text)], capture_output=True, timeout=SECONDS)
         if measured.returncode or int(measured.stdout) > 200:
