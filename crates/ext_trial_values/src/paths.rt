@@ -153,9 +153,14 @@ fn ascending(asked: Asked) -> Said {
 }
 
 // What two texts are that are not ordered so.
-fn wrong<'a>(asked: Asked, low: &'a [u8], high: &'a [u8]) -> Said {
-    let word = order_word(compare(low, high));
-    asked.line(&[low, b" is ", word, b" than ", high])
+fn wrong(asked: Asked, low: &[u8], high: &[u8]) -> Said {
+    let mut text = Text::from_bytes(asked.alloc, low)?;
+    text.append(b" is ")?;
+    text.append(order_word(compare(low, high)))?;
+    text.append(b" than ")?;
+    text.append(high)?;
+    text.append(b"\n")?;
+    Ok(text)
 }
 
 fn first_wrong<'a>(texts: &[(usize, &'a [u8])]) -> Option<(&'a [u8], &'a [u8])> {
