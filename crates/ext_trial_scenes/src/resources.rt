@@ -48,10 +48,13 @@ fn put_entry(
     at: &Path,
     entry: &Entry<Stamp>,
 ) -> Result<(), Trouble> {
+    let Some(mode) = mode_of(b"d") else {
+        return Err(Trouble::Unreadable("no mode"));
+    };
     for depth in 1..at.depth() {
         let above = at.prefix(depth)?;
         if tree.get(&above).is_none() {
-            insert(tree, above, Entry::Dir(mode_of(b"d")?))?;
+            insert(tree, above, Entry::Dir(mode))?;
         }
     }
     insert(tree, at.copy()?, entry.copy(alloc)?)
@@ -65,7 +68,7 @@ fn insert(tree: &mut Tree<Stamp>, at: Path, entry: Entry<Stamp>) -> Result<(), T
 }
 
 // The mode that a word such as `d` or `d:700` gives.
-fn mode_of(word: &[u8]) -> Result<Mode, Trouble> {
+fn mode_of(word: &[u8]) -> Option<Mode> {
     let bits = match word {
         [b'f'] => Some(0o644),
         [_] => Some(0o755),
@@ -73,15 +76,8 @@ fn mode_of(word: &[u8]) -> Result<Mode, Trouble> {
         [] => None,
     };
     match bits {
-        Some(bits) => known(Mode::new((bits & 0o7777) as u16)),
-        None => known(None),
-    }
-}
-
-fn known(mode: Option<Mode>) -> Result<Mode, Trouble> {
-    match mode {
-        Some(mode) => Ok(mode),
-        None => Err(Trouble::Unreadable("no mode")),
+        Some(bits) => Mode::new((bits & 0o7777) as u16),
+        None => None,
     }
 }
 
@@ -123,23 +119,37 @@ pub(crate) fn put(
     let (at, rest) = one_and_more(arguments)?;
     let at = path(alloc, at)?;
     let entry = entry_of(word.as_bytes(), rest)?;
-    let Some(resource) = &mut scene.resource else {
-        return Err(Trouble::Unreadable("no resource was begun"));
-    };
-    let file = resource.file(alloc, &at)?;
-    let is_file = entry.is_file();
-    resource.entries.insert(at, entry)?;
-    let (tree, text) = resource.tree(alloc)?;
-    if is_file {
+    match scene.resource.take() {
+        None => Err(Trouble::Unreadable("no resource was begun")),
+        Some(resource) => put_into(alloc, scene, resource, at, entry, rest),
+    }
+}
+
+// Puts an entry into the resource, and the bytes of a file, which stand behind its path, into the depot.
+fn put_into(
+    alloc: Global,
+    scene: &mut Scene,
+    mut resource: Resource,
+    at: Path,
+    entry: Entry<Stamp>,
+    rest: &[Text],
+) -> Result<Text, Trouble> {
+    if entry.is_file() {
+        let file = resource.file(alloc, &at)?;
         scene.put(file, one(rest)?.copy()?)?;
     }
+    resource.entries.insert(at, entry)?;
+    let (tree, text) = resource.tree(alloc)?;
     scene.put(tree, text)?;
+    scene.resource = Some(resource);
     Ok(Text::new(alloc))
 }
 
 // The entry of a word, and of what stands behind its path.
 fn entry_of(word: &[u8], rest: &[Text]) -> Result<Entry<Stamp>, Trouble> {
-    let mode = mode_of(word)?;
+    let Some(mode) = mode_of(word) else {
+        return Err(Trouble::Unreadable("no mode"));
+    };
     match (word.first(), rest) {
         (Some(b'f'), [bytes]) => Ok(Entry::File(mode, stamp_of(bytes))),
         (Some(b'l'), [target]) => Ok(Entry::Link(target.copy()?)),

@@ -5,7 +5,7 @@ use crate::words::words_of;
 use ext_case::Trouble;
 use ext_disk::Pick;
 use ext_text::Text;
-use ext_trial_disks::{Outcome, spots_on, whole_text};
+use ext_trial_disks::{Outcome, Spot, spots_on, whole_text};
 use std::alloc::Global;
 use std::mem;
 
@@ -108,8 +108,9 @@ impl Scene {
     /// `Unreadable` where the disk fails, and `OutOfMemory`.
     pub(crate) fn serve(&mut self, alloc: Global) -> Result<(), Trouble> {
         for spot in spots_on(alloc, self.disk(alloc)?)? {
-            if let Some(bytes) = spot.bytes {
-                self.put(spot.at, bytes)?;
+            let Spot { at, bytes } = spot;
+            if let Some(bytes) = bytes {
+                self.put(at, bytes)?;
             }
         }
         Ok(())
