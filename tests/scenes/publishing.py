@@ -173,7 +173,7 @@ def path_of(line):
 
 
 def the_root_an_empty_directory_and_an_empty_file_are_published(site, place):
-    place.resource("host", tree_text("d 755 d", f"f 600 0 {EMPTY} e"), {"e": b""})
+    place.resource("host", tree_text("d 755 d", f"f 644 0 {EMPTY} e"), {"e": b""})
     place.expect(("init x86-64 system", DONE), ("import-fs host /", DONE))
     site.expect(("/ a/b all", b"published 1 0\n"), ("/d a/b d", b"published 0 0\n"), ("/e a/b e", b"published 1 0\n"), ("/ a -x", b"published 1 0\n"))
     for folder in "a/b", "a":
@@ -432,7 +432,7 @@ def words_that_ask_nothing_are_usage(site, place):
         reason = f"{WORDS}: one is missing" if word is None else f"{WORDS}: not `{word}`"
         explains(site.told(*words), f"usage {number}", reason, 2)
         explains(site.told(*words, store="gone", out="gone"), f"usage {number}", reason, 2)
-    for words in [], ["--versions"], ["--help", ""], ["--version", "--help", "/usr", "r", "x.tree"], [b"\xff", b"x", b"/usr", b"r", b"x"]:
+    for words in [], ["--versions"], ["--help", ""], [b"\xff", b"x", b"/usr", b"r", b"x"]:
         child = subprocess.run([site.program, *words], env=without_explaining(), capture_output=True, timeout=SECONDS)
         expect((child.stdout, child.stderr, child.returncode), (b"", b"hostext: usage 1\n", 2))
     for words in [], ["--versions"]:
