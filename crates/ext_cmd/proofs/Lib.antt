@@ -1,3 +1,4 @@
+pub mod KeywordLemmas
 pub mod FaultLemmas
 pub mod WordLemmas
 pub mod JoinLemmas

@@ -1,7 +1,6 @@
 // The words that say which command is meant.
-ghost use Rattle.std.specs.Prelude.{◌≡◌, ◌↔◌, IsTrue};
-ghost use Rattle.ext_cmd.specs.Keyword.{ReadsKeyword, ReadsPortWord, ReadsUpdateWord, ReadsVerb, port_word_text};
-ghost use Rattle.ext_cmd.specs.declared.keyword.PortWord.TheVariants as ports;
+ghost use Rattle.std.specs.Prelude.{◌≡◌, ◌<◌, IfSome, bytes_eq, length, position};
+ghost use Rattle.ext_cmd.specs.Keyword.{ReadsKeyword, ReadsPortWord, ReadsUpdateWord, ReadsVerb};
 
 /// The first word of a command.
 #[derive(Clone, Copy)]
@@ -46,32 +45,60 @@ pub(crate) enum Keyword {
     Forget,
 }
 
+// The keywords.
+const KEYWORDS: [Keyword; 19] = [
+    Keyword::Init,
+    Keyword::ImportFs,
+    Keyword::Remove,
+    Keyword::Sysext,
+    Keyword::Confext,
+    Keyword::Tree,
+    Keyword::Cat,
+    Keyword::Compare,
+    Keyword::Check,
+    Keyword::Layer,
+    Keyword::Migrate,
+    Keyword::Batch,
+    Keyword::Sample,
+    Keyword::Sysupdate,
+    Keyword::Portable,
+    Keyword::Mark,
+    Keyword::History,
+    Keyword::Rollback,
+    Keyword::Forget,
+];
+
+// Their texts, in the same order.
+const KEYWORD_TEXTS: [&str; 19] = [
+    "init",
+    "import-fs",
+    "remove",
+    "sysext",
+    "confext",
+    "tree",
+    "cat",
+    "compare",
+    "check",
+    "layer",
+    "migrate",
+    "batch",
+    "sample",
+    "sysupdate",
+    "portable",
+    "mark",
+    "history",
+    "rollback",
+    "forget",
+];
+
 impl Keyword {
     /// The keyword of this text; `None` exactly where it is none.
     pub(crate) fn read(text: &[u8]) -> Option<Keyword>
         ensures { ReadsKeyword text.now result }
     {
-        match text {
-            b"init" => Some(Keyword::Init),
-            b"import-fs" => Some(Keyword::ImportFs),
-            b"remove" => Some(Keyword::Remove),
-            b"sysext" => Some(Keyword::Sysext),
-            b"confext" => Some(Keyword::Confext),
-            b"tree" => Some(Keyword::Tree),
-            b"cat" => Some(Keyword::Cat),
-            b"compare" => Some(Keyword::Compare),
-            b"check" => Some(Keyword::Check),
-            b"layer" => Some(Keyword::Layer),
-            b"migrate" => Some(Keyword::Migrate),
-            b"batch" => Some(Keyword::Batch),
-            b"sample" => Some(Keyword::Sample),
-            b"sysupdate" => Some(Keyword::Sysupdate),
-            b"portable" => Some(Keyword::Portable),
-            b"mark" => Some(Keyword::Mark),
-            b"history" => Some(Keyword::History),
-            b"rollback" => Some(Keyword::Rollback),
-            b"forget" => Some(Keyword::Forget),
-            _ => None,
+        match place_in(&KEYWORD_TEXTS, text) {
+            None => None,
+            Some(place) => Some(KEYWORDS[place]),
         }
     }
 }
@@ -95,20 +122,30 @@ pub(crate) enum Verb {
     Explain,
 }
 
+// The verbs.
+const VERBS: [Verb; 7] = [
+    Verb::List,
+    Verb::Status,
+    Verb::Merge,
+    Verb::Unmerge,
+    Verb::Refresh,
+    Verb::Changes,
+    Verb::Explain,
+];
+
+// Their texts, in the same order.
+const VERB_TEXTS: [&str; 7] = [
+    "list", "status", "merge", "unmerge", "refresh", "changes", "explain",
+];
+
 impl Verb {
     /// The verb of this text; `None` exactly where it is none.
     pub(crate) fn read(text: &[u8]) -> Option<Verb>
         ensures { ReadsVerb text.now result }
     {
-        match text {
-            b"list" => Some(Verb::List),
-            b"status" => Some(Verb::Status),
-            b"merge" => Some(Verb::Merge),
-            b"unmerge" => Some(Verb::Unmerge),
-            b"refresh" => Some(Verb::Refresh),
-            b"changes" => Some(Verb::Changes),
-            b"explain" => Some(Verb::Explain),
-            _ => None,
+        match place_in(&VERB_TEXTS, text) {
+            None => None,
+            Some(place) => Some(VERBS[place]),
         }
     }
 }
@@ -128,18 +165,26 @@ pub(crate) enum UpdateWord {
     Features,
 }
 
+// The words by which something is asked of updates.
+const UPDATE_WORDS: [UpdateWord; 5] = [
+    UpdateWord::List,
+    UpdateWord::CheckNew,
+    UpdateWord::Update,
+    UpdateWord::Vacuum,
+    UpdateWord::Features,
+];
+
+// Their texts, in the same order.
+const UPDATE_WORD_TEXTS: [&str; 5] = ["list", "check-new", "update", "vacuum", "features"];
+
 impl UpdateWord {
     /// What is asked by this text; `None` exactly where it asks nothing.
     pub(crate) fn read(text: &[u8]) -> Option<UpdateWord>
         ensures { ReadsUpdateWord text.now result }
     {
-        match text {
-            b"list" => Some(UpdateWord::List),
-            b"check-new" => Some(UpdateWord::CheckNew),
-            b"update" => Some(UpdateWord::Update),
-            b"vacuum" => Some(UpdateWord::Vacuum),
-            b"features" => Some(UpdateWord::Features),
-            _ => None,
+        match place_in(&UPDATE_WORD_TEXTS, text) {
+            None => None,
+            Some(place) => Some(UPDATE_WORDS[place]),
         }
     }
 }
@@ -161,28 +206,42 @@ pub(crate) enum PortWord {
     Reattach,
 }
 
+// The words after `portable`.
+const PORT_WORDS: [PortWord; 6] = [
+    PortWord::List,
+    PortWord::Inspect,
+    PortWord::IsAttached,
+    PortWord::Attach,
+    PortWord::Detach,
+    PortWord::Reattach,
+];
+
+// Their texts, in the same order.
+const PORT_WORD_TEXTS: [&str; 6] = [
+    "list",
+    "inspect",
+    "is-attached",
+    "attach",
+    "detach",
+    "reattach",
+];
+
 impl PortWord {
     /// What is done by this text; `None` exactly where nothing is.
     pub(crate) fn read(text: &[u8]) -> Option<PortWord>
         ensures { ReadsPortWord text.now result }
     {
-        if asks_state(text) {
-            return Some(PortWord::IsAttached);
-        }
-        match text {
-            b"list" => Some(PortWord::List),
-            b"inspect" => Some(PortWord::Inspect),
-            b"attach" => Some(PortWord::Attach),
-            b"detach" => Some(PortWord::Detach),
-            b"reattach" => Some(PortWord::Reattach),
-            _ => None,
+        match place_in(&PORT_WORD_TEXTS, text) {
+            None => None,
+            Some(place) => Some(PORT_WORDS[place]),
         }
     }
 }
 
-// Whether it is the word that asks whether an image is attached.
-fn asks_state(text: &[u8]) -> bool
-    ensures { IsTrue result ↔ (text.now ≡ port_word_text ports.IsAttached) }
+// The place of a text among words.
+fn place_in(words: &[&str], text: &[u8]) -> Option<usize>
+    ensures value { result ≡ position (λ word. bytes_eq word.now text.now) words.now }
+    ensures within { IfSome result (λ place. place < length words.now) }
 {
-    text == b"is-attached".as_slice()
+    words.iter().position(|word| word.as_bytes() == text)
 }
