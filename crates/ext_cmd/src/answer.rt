@@ -95,7 +95,7 @@ pub struct Item {
 }
 
 /// What a found item is.
-#[derive(Clone, Copy, PartialEq, Eq)]
+#[derive(Clone, Copy)]
 pub enum ItemKind {
     /// `image`: a directory image, and whether it fits the host.
     Image(Verdict),
@@ -131,7 +131,7 @@ pub struct VersionItem {
 }
 
 /// Which of the targets of transfers have a version.
-#[derive(Clone, Copy, PartialEq, Eq)]
+#[derive(Clone, Copy)]
 pub enum Presence {
     /// None has it.
     Absent,
@@ -168,7 +168,7 @@ pub struct ServiceItem {
 }
 
 /// What a found item of portable services is.
-#[derive(Clone, Copy, PartialEq, Eq)]
+#[derive(Clone, Copy)]
 pub enum ServiceKind {
     /// `image`: a directory image, and whether it is attached.
     Image(State),
