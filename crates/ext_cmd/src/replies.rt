@@ -68,7 +68,7 @@ pub fn answer_text(alloc: Global, answer: Answer) -> Result<Text, OutOfMemory>
 fn line_of(alloc: Global, line: &str) -> Result<Text, OutOfMemory>
     ensures { IfOk result (λ text. text ≡ lined line.now) }
 {
-    let mut text = Vec::with_capacity(alloc, line.len() + 1)?;
+    let mut text = Vec::new(alloc);
     append_line(&mut text, line.as_bytes())?;
     Ok(Text::from_vec(text))
 }
