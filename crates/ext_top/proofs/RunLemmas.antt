@@ -72,21 +72,22 @@ opened_sound batch lines opened files k l result (Some d) None z later opens run
 opened_sound batch lines opened files k l result (Some d) (Some e) None later opens runs = absurd later
 opened_sound batch lines opened files k l result (Some d) (Some e) (Some f) later opens runs = through_sound batch lines opened files k l result d e f later opens runs
 
-opens_follow : (opened : Option Generation) (sink : SinkState) (old mid : DiskState) (depot : DepotState) → OpensStore opened (store_side sink old depot) (store_side sink mid depot) → SideFollows (store_side sink old depot) (store_side sink mid depot)
-opens_follow opened sink old mid depot opens = record { disk = opens.follows; depot = kept_itself depot; sink = omega arith }
+opens_follow : (opened : Option Generation) (sink : SinkState) (old mid : DiskState) (depot : DepotState) (log : Option (List (List ℕ))) → OpensStore opened (store_side sink old depot log) (store_side sink mid depot log)
+    → SideFollows (store_side sink old depot log) (store_side sink mid depot log)
+opens_follow opened sink old mid depot log opens = record { disk = opens.follows; depot = kept_itself depot; sink = omega arith }
 
 -- the store was opened, and the lines ran
-pub opened_lines : (batch : Bool) (lines : List Line) (opened : Option Generation) (sink : SinkState) (old mid : DiskState) (depot : DepotState) (result : Result (Option Refusal) Stop) (new : StoreSide)
-    → OpensStore opened (store_side sink old depot) (store_side sink mid depot) → LinesRun None lines opened (store_side sink mid depot) result new → IfSome new.disk.told IsDisk
-    → RunsLines batch lines (store_side sink old depot) new (status_of batch result)
-opened_lines batch lines opened sink old mid depot result new opens runs disk =
-    let start = store_side sink mid depot in
+pub opened_lines : (batch : Bool) (lines : List Line) (opened : Option Generation) (sink : SinkState) (old mid : DiskState) (depot : DepotState) (log : Option (List (List ℕ))) (result : Result (Option Refusal) Stop) (new : StoreSide)
+    → OpensStore opened (store_side sink old depot log) (store_side sink mid depot log) → LinesRun None lines opened (store_side sink mid depot log) result new → IfSome new.disk.told IsDisk
+    → RunsLines batch lines (store_side sink old depot log) new (status_of batch result)
+opened_lines batch lines opened sink old mid depot log result new opens runs disk =
+    let start = store_side sink mid depot log in
     let follows = lines_follow None lines opened start result new runs in
     record {
       follows = follows_then old mid new.disk opens.follows follows.disk;
       kept = follows.depot;
       count = follows.sink;
-      blames = blames_since (store_side sink old depot) start new (status_of batch result) (opens_follow opened sink old mid depot opens) (lines_blame batch None lines opened start result new runs);
+      blames = blames_since (store_side sink old depot log) start new (status_of batch result) (opens_follow opened sink old mid depot log opens) (lines_blame batch None lines opened start result new runs);
       sound = opened_sound batch lines opened depot.contents sink new.sink result old.told mid.told new.disk.told follows.disk.told opens.sound
           (lines_told None lines opened start result new runs disk);
       on_any = inl (record { opened = opened; start = start; opens = opens; result = result; status_is = refl; runs = runs });
@@ -150,14 +151,14 @@ closed_runs batch lines files k old new error (Some d) (Some e) says cause opens
     (closed_is_sound d e sound of.ends, inr (record { closed = closed_status d old new error sound says cause; nothing = refl; ends = of.ends; since = of.since }))
 
 -- the store was not opened
-pub closed_lines : (batch : Bool) (lines : List Line) (sink : SinkState) (old new : DiskState) (depot : DepotState) (error : StoreErr) → Follows old new → BothTold KeepsNow old.told new.told
+pub closed_lines : (batch : Bool) (lines : List Line) (sink : SinkState) (old new : DiskState) (depot : DepotState) (log : Option (List (List ℕ))) (error : StoreErr) → Follows old new → BothTold KeepsNow old.told new.told
     → IfSome old.told (λ d. OpenSays (Err error) (now d.places)) → BothTold (OpensTold (Err error)) old.told new.told → OpenCause old.faults new.faults error
-    → RunsLines batch lines (store_side sink old depot) (store_side sink new depot) (status_of_closed error)
-closed_lines batch lines sink old new depot error follows keeps says stops cause = record {
+    → RunsLines batch lines (store_side sink old depot log) (store_side sink new depot log) (status_of_closed error)
+closed_lines batch lines sink old new depot log error follows keeps says stops cause = record {
   follows = follows;
   kept = kept_itself depot;
   count = omega arith;
-  blames = closed_blames (store_side sink old depot) (store_side sink new depot) error cause;
+  blames = closed_blames (store_side sink old depot log) (store_side sink new depot log) error cause;
   sound = closed_runs batch lines depot.contents sink old.faults new.faults error old.told new.told says cause stops;
-  on_any = inr (record { follows = follows; keeps = keeps; sink = refl; depot = refl; cause = closed_cause old new error says cause });
+  on_any = inr (record { follows = follows; keeps = keeps; sink = refl; depot = refl; observer = refl; cause = closed_cause old new error says cause });
 }

@@ -140,14 +140,14 @@ whole_if_done last others (Ok done) whole same = whole
 whole_if_done last others (Err stop) whole same = absurd (stop_not_done stop same)
 
 -- a store that was opened, and the lines of a text
-pub opened_text : (text : List ℕ) (opened : Option Generation) (sink : SinkState) (old mid : DiskState) (depot : DepotState) (result : Result (Unit {0}) Stop) (new : StoreSide) → OpensStore opened (store_side sink old depot) (store_side sink mid depot)
-    → (runs : RunsText text opened (store_side sink mid depot) result new) → IfSome new.disk.told IsDisk → RunsBegun text (store_side sink old depot) new (status_of true (result_of runs.last result))
-opened_text text opened sink old mid depot result new opens runs disk = record {
+pub opened_text : (text : List ℕ) (opened : Option Generation) (sink : SinkState) (old mid : DiskState) (depot : DepotState) (log : Option (List (List ℕ))) (result : Result (Unit {0}) Stop) (new : StoreSide) → OpensStore opened (store_side sink old depot log) (store_side sink mid depot log)
+    → (runs : RunsText text opened (store_side sink mid depot log) result new) → IfSome new.disk.told IsDisk → RunsBegun text (store_side sink old depot log) new (status_of true (result_of runs.last result))
+opened_text text opened sink old mid depot log result new opens runs disk = record {
   lines = runs.lines;
   others = runs.others;
   first = runs.first;
   whole = λ done. whole_if_done runs.last runs.others result runs.whole done;
-  runs = opened_lines true runs.lines opened sink old mid depot (result_of runs.last result) new opens runs.runs disk;
+  runs = opened_lines true runs.lines opened sink old mid depot log (result_of runs.last result) new opens runs.runs disk;
 }
 
 closed_not_done : (error : StoreErr) → ¬ (status_of_closed error ≡ Done)
@@ -162,12 +162,12 @@ closed_not_done store_errors.Unfinished same = cc
 closed_not_done (store_errors.Limit which) same = cc
 
 -- one that was not opened: no line was looked at
-pub closed_text : (text : List ℕ) (sink : SinkState) (old new : DiskState) (depot : DepotState) (error : StoreErr) → Follows old new → BothTold KeepsNow old.told new.told → IfSome old.told (λ d. OpenSays (Err error) (now d.places))
-    → BothTold (OpensTold (Err error)) old.told new.told → OpenCause old.faults new.faults error → RunsBegun text (store_side sink old depot) (store_side sink new depot) (status_of_closed error)
-closed_text text sink old new depot error follows keeps says stops cause = record {
+pub closed_text : (text : List ℕ) (sink : SinkState) (old new : DiskState) (depot : DepotState) (log : Option (List (List ℕ))) (error : StoreErr) → Follows old new → BothTold KeepsNow old.told new.told → IfSome old.told (λ d. OpenSays (Err error) (now d.places))
+    → BothTold (OpensTold (Err error)) old.told new.told → OpenCause old.faults new.faults error → RunsBegun text (store_side sink old depot log) (store_side sink new depot log) (status_of_closed error)
+closed_text text sink old new depot log error follows keeps says stops cause = record {
   lines = [];
   others = text_lines text;
   first = record { looked = []; parts = refl; are = refl };
   whole = λ done. absurd (closed_not_done error done);
-  runs = closed_lines true [] sink old new depot error follows keeps says stops cause;
+  runs = closed_lines true [] sink old new depot log error follows keeps says stops cause;
 }

@@ -20,6 +20,7 @@ use Rattle.ext_top.specs.Applying.{PointsAs}
 use Rattle.ext_top.specs.Batch.{AreFirstLines, IsLineOf}
 use Rattle.ext_top.specs.Devices.{StoreSide}
 use Rattle.ext_top.specs.Exits.{Line, does, unread, wrong}
+use Rattle.ext_top.specs.Observing.{IsToldOf, refused_in}
 use Rattle.ext_top.specs.Lines.{LineCause, LineLeavesCurrent, LineTold, WhereLineDamaged, WhereLineUnfinished}
 use Rattle.ext_top.specs.Replying.{WritesUsage}
 use Rattle.ext_top.specs.Working.{FindsDamage, HasMet, WantsOn, WantsWithin, WorksFor}
@@ -38,7 +39,7 @@ WantsAt command opened old = WantsOn opened old.disk old.depot.contents command
 
 -- A command that is a line ran. From a state for which the store durably stood it ends by the machine. On any disk it makes,
 -- removes and appends what it wants and nothing else; where it was done or refused, that and what was written go with what it met,
--- and the disk points to the generation that is handed on.
+-- and the disk points to the generation that is handed on. The observer is told of its refusal, and of nothing else.
 pub record CommandRuns (command : Command) (opened : Option Generation) (old : StoreSide) (result : Result Written Stop) (new : StoreSide) : Type 0 where
   pub follows : Follows old.disk new.disk
   pub kept : IsKept old.depot new.depot
@@ -52,11 +53,13 @@ pub record CommandRuns (command : Command) (opened : Option Generation) (old : S
   pub unfinished : IfErr result (WhereLineUnfinished (WantsWithin (WantsAt command opened old) opened))
   pub damaged : IfErr result (WhereLineDamaged (FindsDamage command opened old.disk old.depot))
   pub cause : IfErr result (LineCause opened old.sink new.sink old.disk new.disk old.depot new.depot)
+  pub tells : IsToldOf (refused_in result) old.observer new.observer
 
 -- words outside the grammar touch nothing but the sink
 pub record UsageRuns (place : ℕ) (opened : Option Generation) (old : StoreSide) (result : Result Written Stop) (new : StoreSide) : Type 0 where
   pub disk : new.disk ≡ old.disk
   pub depot : new.depot ≡ old.depot
+  pub observer : new.observer ≡ old.observer
   pub count : old.sink.faults ≤ new.sink.faults
   pub writes : WritesUsage place old.sink new.sink result
   pub goes_on : IfOk result (λ written. (written.opened ≡ opened) × (written.refusal ≡ None))
@@ -84,6 +87,7 @@ pub record OpensStore (opened : Option Generation) (old new : StoreSide) : Type 
   pub points : PointsAs old.disk opened
   pub sink : new.sink ≡ old.sink
   pub depot : new.depot ≡ old.depot
+  pub observer : new.observer ≡ old.observer
 
 -- the status of lines at which the run stopped
 abbrev pub status_of_stop : Stop → Status
@@ -152,6 +156,7 @@ pub record StaysClosed (old new : StoreSide) (status : Status) : Type 0 where
   pub keeps : BothTold KeepsNow old.disk.told new.disk.told
   pub sink : new.sink ≡ old.sink
   pub depot : new.depot ≡ old.depot
+  pub observer : new.observer ≡ old.observer
   pub cause : ClosedCause old.disk new.disk status
 
 -- the lines ran over a store, or it was not opened

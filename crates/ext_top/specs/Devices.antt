@@ -1,25 +1,28 @@
 -- The devices of a run, as contracts see them: what each tells, before a run or after it.
-use Rattle.std.specs.Prelude.{◌≤◌}
+use Rattle.std.specs.Prelude.{◌≤◌, ℕ, List, Option}
 use Rattle.ext_io.specs.SourceState.{SourceState}
 use Rattle.ext_io.specs.SinkState.{SinkState}
 use Rattle.ext_disk.specs.Disk.{DiskState}
 use Rattle.ext_depot.specs.Depot.{DepotState}
 use Rattle.ext_top.specs.declared.devices.Devices.{Devices}
 
--- what the four devices of a run tell
+-- what the five devices of a run tell
 pub record DeviceStates : Type 0 where
   pub source : SourceState
   pub sink : SinkState
   pub disk : DiskState
   pub depot : DepotState
+  pub observer : Option (List (List ℕ))
 
 -- what these devices tell, each read as its trait says
-abbrev pub states : {S K D P : Type 0} → (S → SourceState) → (K → SinkState) → (D → DiskState) → (P → DepotState) → Devices S K D P → DeviceStates
-states source sink disk depot devices = record {
+abbrev pub states : {S K D P O : Type 0} → (S → SourceState) → (K → SinkState) → (D → DiskState) → (P → DepotState)
+    → (O → Option (List (List ℕ))) → Devices S K D P O → DeviceStates
+states source sink disk depot observer devices = record {
   source = source devices.source;
   sink = sink devices.sink;
   disk = disk devices.disk;
   depot = depot devices.depot;
+  observer = observer devices.observer;
 }
 
 -- the two streams, which are all that a command touches that looks at no store
@@ -40,14 +43,15 @@ pub record StoreSide : Type 0 where
   pub sink : SinkState
   pub disk : DiskState
   pub depot : DepotState
+  pub observer : Option (List (List ℕ))
 
--- these three
-abbrev pub store_side : SinkState → DiskState → DepotState → StoreSide
-store_side sink disk depot = record { sink = sink; disk = disk; depot = depot }
+-- these four
+abbrev pub store_side : SinkState → DiskState → DepotState → Option (List (List ℕ)) → StoreSide
+store_side sink disk depot observer = record { sink = sink; disk = disk; depot = depot; observer = observer }
 
--- the three of a run
+-- the four of a run
 abbrev pub store_side_of : DeviceStates → StoreSide
-store_side_of devices = store_side devices.sink devices.disk devices.depot
+store_side_of devices = store_side devices.sink devices.disk devices.depot devices.observer
 
 -- no count of faults fell
 pub record CountsOn (old new : DeviceStates) : Type 0 where

@@ -24,6 +24,7 @@ use Rattle.ext_top.specs.Chain.{RunsOn, status_of}
 use Rattle.ext_top.specs.Devices.{DeviceStates, StoreSide, Streams, store_side_of, streams_of}
 use Rattle.ext_top.specs.Exits.{Line, does, Standing, StandsAs, EndsLines, IsOnTheWay}
 use Rattle.ext_top.specs.Machine.{Outcome, refusal_of, reply_of}
+use Rattle.ext_top.specs.Observing.{IsToldOf, refused_with}
 use Rattle.ext_top.specs.declared.status.Status.{Status}
 use Rattle.ext_top.specs.declared.status.Status.TheVariants.{Done, Refused, Usage, ReadFault, WriteFault, DiskFault, DepotFault, OutOfMemory, BadStore, Unfinished, TooLong}
 use Rattle.ext_top.specs.declared.stop.Stop.{Stop}
@@ -172,10 +173,11 @@ pub record RunsLines (batch : Bool) (lines : List Line) (old new : StoreSide) (s
   pub sound : BothTold (RunsSound batch lines old.depot.contents old.sink new.sink status) old.disk.told new.disk.told
   pub on_any : RunsOn batch lines old new status
 
--- a command that looks at no store: disk and depot are left alone
+-- a command that looks at no store: disk and depot are left alone, and the observer is told of its refusal
 pub record RunsAlone (command : Command) (old new : DeviceStates) (status : Status) : Type 0 where
   pub disk : new.disk ≡ old.disk
   pub depot : new.depot ≡ old.depot
+  pub tells : IsToldOf (refused_with status) old.observer new.observer
   pub ends : EndsAlone command (streams_of old) (streams_of new) status
 
 -- one command over a store is a list of one, and leaves the source alone

@@ -1,6 +1,6 @@
 /// The devices of a run.
 #[derive(Drop)]
-pub struct Devices<S, K, D, P> {
+pub struct Devices<S, K, D, P, O> {
     /// What `layer` and `batch` read.
     pub source: S,
     /// What replies are written to.
@@ -9,4 +9,6 @@ pub struct Devices<S, K, D, P> {
     pub disk: D,
     /// The files that a host is made of.
     pub depot: P,
+    /// Who is told of refusals.
+    pub observer: O,
 }

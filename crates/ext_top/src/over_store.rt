@@ -10,6 +10,7 @@ ghost use Rattle.ext_top.specs.Exits.{does};
 ghost use Rattle.ext_top.specs.Running.{RunsBegun, RunsLines};
 
 use crate::lines::{Written, do_line, run_lines};
+use crate::observer::Observer;
 use crate::status::Status;
 use crate::stop::Stop;
 use ext_cmd::{Command, Refusal};
@@ -20,39 +21,58 @@ use ext_io::Sink;
 use std::alloc::Global;
 
 /// The run of one command over a store.
-pub(crate) fn run_single<K: Sink, D: Disk, P: Depot>(
+pub(crate) fn run_single<K: Sink, D: Disk, P: Depot, O: Observer>(
     alloc: Global,
     command: &Command,
     sink: &mut K,
     disk: &mut D,
     depot: &mut P,
+    observer: &mut O,
 ) -> Status
     requires line { IsTrue (may_be_line command.now) }
     requires formed { IsWellFormed command.now }
     ensures runs { RunsLines false (does command.now ∷ [])
-        (store_side (K.state sink.old) (D.state disk.old) (P.state depot.old))
-        (store_side (K.state sink.new) (D.state disk.new) (P.state depot.new)) result }
+        (store_side (K.state sink.old) (D.state disk.old) (P.state depot.old) (O.state observer.old))
+        (store_side (K.state sink.new) (D.state disk.new) (P.state depot.new) (O.state observer.new)) result }
 {
     match open(alloc, disk) {
-        Ok(opened) => status_of_line(do_line(alloc, command, opened, sink, disk, depot)),
+        Ok(opened) => status_of_line(do_line(
+            alloc,
+            None,
+            command,
+            opened,
+            sink,
+            disk,
+            depot,
+            observer,
+        )),
         Err(error) => status_of_closed(error),
     }
 }
 
 /// The run of the lines of a text over a store, which is opened though there be none.
-pub(crate) fn run_text<K: Sink, D: Disk, P: Depot>(
+pub(crate) fn run_text<K: Sink, D: Disk, P: Depot, O: Observer>(
     alloc: Global,
     text: &[u8],
     sink: &mut K,
     disk: &mut D,
     depot: &mut P,
+    observer: &mut O,
 ) -> Status
     ensures runs { RunsBegun text.now
-        (store_side (K.state sink.old) (D.state disk.old) (P.state depot.old))
-        (store_side (K.state sink.new) (D.state disk.new) (P.state depot.new)) result }
+        (store_side (K.state sink.old) (D.state disk.old) (P.state depot.old) (O.state observer.old))
+        (store_side (K.state sink.new) (D.state disk.new) (P.state depot.new) (O.state observer.new)) result }
 {
     match open(alloc, disk) {
-        Ok(opened) => status_of_lines(run_lines(alloc, text, opened, sink, disk, depot)),
+        Ok(opened) => status_of_lines(run_lines(
+            alloc,
+            text,
+            opened,
+            sink,
+            disk,
+            depot,
+            observer,
+        )),
         Err(error) => status_of_closed(error),
     }
 }

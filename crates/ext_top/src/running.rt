@@ -1,13 +1,16 @@
 // The top call.
+ghost use Rattle.std.specs.Prelude.{◌≡◌};
 ghost use Rattle.ext_cmd.specs.Words.{IsWellFormed};
 ghost use Rattle.ext_top.specs.Changing.{StaysUnlessChanging};
 ghost use Rattle.ext_top.specs.Completing.{Completes};
 ghost use Rattle.ext_top.specs.Devices.{CountsOn, states};
+ghost use Rattle.ext_top.specs.Observing.{IsToldOf, refused_with};
 ghost use Rattle.ext_top.specs.Running.{Runs, RunsKind, run_kind};
 
 use crate::alone::{run_compare, run_layer};
 use crate::batch::run_batch;
 use crate::devices::Devices;
+use crate::observer::Observer;
 use crate::over_store::run_single;
 use crate::sample::run_sample;
 use crate::status::Status;
@@ -26,7 +29,8 @@ use std::alloc::Global;
 /// takes one line after another: it carries the command out by the machine, and then writes its reply. A batch goes on after a line
 /// that was refused, and after one whose words are outside the grammar, to which it replies `usage PLACE`. Each status comes as
 /// `Runs` says, with what was written and what the store stands for then, and after a stop at any moment: that is the state after
-/// some of the first lines, or one for which the store might have stood before. A fault is told only where that count rose.
+/// some of the first lines, or one for which the store might have stood before. A fault is told only where that count rose. The
+/// observer is told of the refusal of each line that is refused, once its reply was written, and of nothing else.
 ///
 /// Whatever the store is, each line makes, removes and appends only what the host that its command wants asks for, and nothing at all
 /// where it wants no other host. A command that `may_change` is false of never does any of it. Where a line was done or refused, no
@@ -37,18 +41,18 @@ use std::alloc::Global;
 /// that passes no limit of a store, where more left-overs stand than one command removes. Where no count rose, a source that is read
 /// tells its bytes and is within its limit, and a store that is looked at is sound and no line meets that, it ends with `Done`,
 /// `Refused` or `OutOfMemory`.
-pub fn run<S: Source, K: Sink, D: Disk, P: Depot>(
+pub fn run<S: Source, K: Sink, D: Disk, P: Depot, O: Observer>(
     alloc: Global,
     words: &Words,
-    devices: &mut Devices<S, K, D, P>,
+    devices: &mut Devices<S, K, D, P, O>,
 ) -> Status
-    ensures runs { Runs words.now (states S.state K.state D.state P.state devices.old)
-        (states S.state K.state D.state P.state devices.new) result }
-    ensures complete { Completes words.now (states S.state K.state D.state P.state devices.old)
-        (states S.state K.state D.state P.state devices.new) result }
-    ensures reading { StaysUnlessChanging words.now (states S.state K.state D.state P.state devices.old)
-        (states S.state K.state D.state P.state devices.new) }
-    ensures counts { CountsOn (states S.state K.state D.state P.state devices.old) (states S.state K.state D.state P.state devices.new) }
+    ensures runs { Runs words.now (states S.state K.state D.state P.state O.state devices.old)
+        (states S.state K.state D.state P.state O.state devices.new) result }
+    ensures complete { Completes words.now (states S.state K.state D.state P.state O.state devices.old)
+        (states S.state K.state D.state P.state O.state devices.new) result }
+    ensures reading { StaysUnlessChanging words.now (states S.state K.state D.state P.state O.state devices.old)
+        (states S.state K.state D.state P.state O.state devices.new) }
+    ensures counts { CountsOn (states S.state K.state D.state P.state O.state devices.old) (states S.state K.state D.state P.state O.state devices.new) }
 {
     match read_words(alloc, words) {
         Ok(command) => run_command(alloc, &command, devices),
@@ -58,20 +62,29 @@ pub fn run<S: Source, K: Sink, D: Disk, P: Depot>(
 }
 
 // The run of a command.
-fn run_command<S: Source, K: Sink, D: Disk, P: Depot>(
+fn run_command<S: Source, K: Sink, D: Disk, P: Depot, O: Observer>(
     alloc: Global,
     command: &Command,
-    devices: &mut Devices<S, K, D, P>,
+    devices: &mut Devices<S, K, D, P, O>,
 ) -> Status
     requires { IsWellFormed command.now }
-    ensures runs { RunsKind (run_kind command.now) command.now (states S.state K.state D.state P.state devices.old)
-        (states S.state K.state D.state P.state devices.new) result }
-    ensures counts { CountsOn (states S.state K.state D.state P.state devices.old) (states S.state K.state D.state P.state devices.new) }
+    ensures runs { RunsKind (run_kind command.now) command.now (states S.state K.state D.state P.state O.state devices.old)
+        (states S.state K.state D.state P.state O.state devices.new) result }
+    ensures counts { CountsOn (states S.state K.state D.state P.state O.state devices.old) (states S.state K.state D.state P.state O.state devices.new) }
 {
     match command {
-        Command::Layer => run_layer(alloc, &mut devices.source, &mut devices.sink),
-        Command::Compare(a, b) => run_compare(alloc, a, b, &mut devices.sink),
-        Command::Sample { images } => run_sample(alloc, *images, &mut devices.sink),
+        Command::Layer => {
+            let status = run_layer(alloc, &mut devices.source, &mut devices.sink);
+            told(command, status, &mut devices.observer)
+        }
+        Command::Compare(a, b) => {
+            let status = run_compare(alloc, a, b, &mut devices.sink);
+            told(command, status, &mut devices.observer)
+        }
+        Command::Sample { images } => {
+            let status = run_sample(alloc, *images, &mut devices.sink);
+            told(command, status, &mut devices.observer)
+        }
         Command::Batch => run_batch(alloc, devices),
         _ => run_single(
             alloc,
@@ -79,6 +92,18 @@ fn run_command<S: Source, K: Sink, D: Disk, P: Depot>(
             &mut devices.sink,
             &mut devices.disk,
             &mut devices.depot,
+            &mut devices.observer,
         ),
     }
+}
+
+// The status of a command that looks at no store, of whose refusal the observer is told, if it was refused.
+fn told<O: Observer>(command: &Command, status: Status, observer: &mut O) -> Status
+    ensures same { result ≡ status }
+    ensures tells { IsToldOf (refused_with status) (O.state observer.old) (O.state observer.new) }
+{
+    if let Status::Refused(refusal) = &status {
+        observer.refused(None, command, refusal, None);
+    }
+    status
 }

@@ -1,5 +1,6 @@
-use Rattle.std.proofs.Common.{Ok, Err}
+use Rattle.std.proofs.Common.{Ok, Err, refl, arith}
 use Rattle.std.proofs.lemmas.Result.{err_from_is_err_and}
+use Rattle.ext_disk.proofs.ForCallers.{follows_then, rests_follow}
 use Rattle.ext_top.proofs.LineLemmas.{shown_is_served, undone_cause, undone_line, unwritten_cause, written_line}
 use Rattle.ext_top.specs.Working.{FindsDamage, WantsOn, WantsWithin}
 use Rattle.ext_top.proofs.WorkingLemmas.{works_then}
@@ -9,92 +10,89 @@ use Rattle.ext_top.proofs.CurrentLemmas.{undone_current, unwritten_current, writ
 use Rattle.ext_top.proofs.DamagedLemmas.{undone_damage, unwritten_damage}
 use Rattle.ext_top.proofs.lines.do_line.Goals as goal
 
-pub returns-in_err-applied-clause-runs : goal.returns-in_err-applied-clause-runs
-returns-in_err-applied-clause-runs g c =
-    let p = err_from_is_err_and c.from_residual.result c.from_residual.ensures.1 in
-    rw (p.1, p.2) (undone_line (g.P.Depot.state c.args.depot.now).contents c.args.command.now c.args.opened (g.K.Sink.state c.args.sink.now) _ (g.D.Disk.state c.args.disk.now).told (g.D.Disk.state c.apply.new.disk).told c.in_err-applied.ensures.applies)
-
-pub returns-in_err-applied-clause-cause : goal.returns-in_err-applied-clause-cause
-returns-in_err-applied-clause-cause g c =
-    let p = err_from_is_err_and c.from_residual.result c.from_residual.ensures.1 in
-    rw (p.1, p.2) (undone_cause c.args.opened (g.K.Sink.state c.args.sink.now) (g.K.Sink.state c.args.sink.now) (g.D.Disk.state c.args.disk.now) (g.D.Disk.state c.apply.new.disk) (g.P.Depot.state c.args.depot.now) (g.P.Depot.state c.apply.new.depot) _ c.in_err-applied.ensures.cause)
-
 pub write_reply-requires : goal.write_reply-requires
 write_reply-requires g c = shown_is_served c.args.opened (g.D.Disk.state c.args.disk.now) (g.D.Disk.state c.apply.new.disk) c.in_ok-applied.applied.reply c.in_ok-applied.ensures.shown
 
-pub returns-in_err-refusal-clause-runs : goal.returns-in_err-refusal-clause-runs
-returns-in_err-refusal-clause-runs g c =
-    let p = err_from_is_err_and c.from_residual-in_err-refusal.result c.from_residual-in_err-refusal.ensures.1 in
-    rw (p.1, p.2) (written_line (g.P.Depot.state c.args.depot.now).contents c.args.command.now c.args.opened (g.K.Sink.state c.args.sink.now) (g.K.Sink.state c.write_reply.new.sink)
-    (g.D.Disk.state c.args.disk.now) (g.D.Disk.state c.apply.new.disk) (g.D.Disk.state c.write_reply.new.disk) c.in_ok-applied.applied.opened c.in_ok-applied.applied.reply (Err _)
-    c.in_err-refusal.ensures.rests c.in_err-refusal.ensures.writes c.in_ok-applied.ensures.applies)
-
-pub returns-clause-runs : goal.returns-clause-runs
-returns-clause-runs g c =
-    written_line (g.P.Depot.state c.args.depot.now).contents c.args.command.now c.args.opened (g.K.Sink.state c.args.sink.now) (g.K.Sink.state c.write_reply.new.sink)
-    (g.D.Disk.state c.args.disk.now) (g.D.Disk.state c.apply.new.disk) (g.D.Disk.state c.write_reply.new.disk) c.in_ok-applied.applied.opened c.in_ok-applied.applied.reply (Ok c.in_ok-refusal.refusal)
-    c.in_ok-refusal.ensures.rests c.in_ok-refusal.ensures.writes c.in_ok-applied.ensures.applies
-
-pub returns-in_err-refusal-clause-cause : goal.returns-in_err-refusal-clause-cause
-returns-in_err-refusal-clause-cause g c =
-    let p = err_from_is_err_and c.from_residual-in_err-refusal.result c.from_residual-in_err-refusal.ensures.1 in
-    rw (p.1, p.2) (unwritten_cause c.args.opened (g.K.Sink.state c.args.sink.now) (g.K.Sink.state c.write_reply.new.sink) (g.D.Disk.state c.args.disk.now) (g.D.Disk.state c.apply.new.disk) (g.D.Disk.state c.write_reply.new.disk)
-    (g.P.Depot.state c.args.depot.now) (g.P.Depot.state c.apply.new.depot) c.in_ok-applied.applied.reply _ c.in_ok-applied.ensures.follows.count c.in_ok-applied.ensures.shown c.in_err-refusal.ensures.cause)
-
-pub returns-in_err-refusal-clause-works : goal.returns-in_err-refusal-clause-works
-returns-in_err-refusal-clause-works g c =
-    works_then (WantsOn c.args.opened (g.D.Disk.state c.args.disk.now) (g.P.Depot.state c.args.depot.now).contents c.args.command.now) c.args.opened (g.D.Disk.state c.args.disk.now).told (g.D.Disk.state c.apply.new.disk).told (g.D.Disk.state c.write_reply.new.disk).told
-    c.in_err-refusal.ensures.rests.told c.in_ok-applied.ensures.works
-
-pub returns-clause-works : goal.returns-clause-works
-returns-clause-works g c =
-    works_then (WantsOn c.args.opened (g.D.Disk.state c.args.disk.now) (g.P.Depot.state c.args.depot.now).contents c.args.command.now) c.args.opened (g.D.Disk.state c.args.disk.now).told (g.D.Disk.state c.apply.new.disk).told (g.D.Disk.state c.write_reply.new.disk).told
-    c.in_ok-refusal.ensures.rests.told c.in_ok-applied.ensures.works
-
-pub returns-clause-met : goal.returns-clause-met
-returns-clause-met g c =
+pub returns-in_err-applied : goal.returns-in_err-applied
+returns-in_err-applied g c =
+    let p = err_from_is_err_and c.from_residual.result c.from_residual.ensures.1 in
+    let sink = g.K.Sink.state c.args.sink.now in
     let old = g.D.Disk.state c.args.disk.now in
-    written_met (WantsOn c.args.opened old (g.P.Depot.state c.args.depot.now).contents c.args.command.now) c.args.opened old (g.D.Disk.state c.apply.new.disk) (g.D.Disk.state c.write_reply.new.disk) (g.P.Depot.state c.args.depot.now)
-    c.in_ok-applied.applied.opened c.in_ok-applied.applied.reply c.in_ok-refusal.refusal (g.K.Sink.state c.args.sink.now) (g.K.Sink.state c.write_reply.new.sink)
-    c.in_ok-refusal.ensures.rests c.in_ok-refusal.ensures.refusal c.in_ok-applied.ensures.met c.in_ok-applied.ensures.shown c.in_ok-refusal.ensures.writes
+    let mid = g.D.Disk.state c.apply.new.disk in
+    let before = g.P.Depot.state c.args.depot.now in
+    let e = c.in_err-applied.ensures in
+    rw (p.1, p.2) (record {
+      runs = record {
+        follows = e.follows;
+        kept = e.kept;
+        count = omega arith;
+        told = undone_line before.contents c.args.command.now c.args.opened sink _ old.told mid.told e.applies;
+        works = e.works;
+        met = tt;
+        points = tt;
+        current = undone_current _ old.told mid.told e.current;
+        unfinished = undone_unfinished (WantsWithin (WantsOn c.args.opened old before.contents c.args.command.now) c.args.opened) _ e.unfinished;
+        damaged = undone_damage (FindsDamage c.args.command.now c.args.opened old before) _ e.damaged;
+        cause = undone_cause c.args.opened sink sink old mid before (g.P.Depot.state c.apply.new.depot) _ e.cause;
+        tells = refl;
+      };
+    })
 
-pub returns-in_err-applied-clause-unfinished : goal.returns-in_err-applied-clause-unfinished
-returns-in_err-applied-clause-unfinished g c =
-    let p = err_from_is_err_and c.from_residual.result c.from_residual.ensures.1 in
-    rw (p.1, p.2) (undone_unfinished (WantsWithin (WantsOn c.args.opened (g.D.Disk.state c.args.disk.now) (g.P.Depot.state c.args.depot.now).contents c.args.command.now) c.args.opened) _ c.in_err-applied.ensures.unfinished)
-
-pub returns-in_err-refusal-clause-unfinished : goal.returns-in_err-refusal-clause-unfinished
-returns-in_err-refusal-clause-unfinished g c =
+pub returns-in_err-refusal : goal.returns-in_err-refusal
+returns-in_err-refusal g c =
     let p = err_from_is_err_and c.from_residual-in_err-refusal.result c.from_residual-in_err-refusal.ensures.1 in
-    rw (p.1, p.2) (unwritten_unfinished (WantsWithin (WantsOn c.args.opened (g.D.Disk.state c.args.disk.now) (g.P.Depot.state c.args.depot.now).contents c.args.command.now) c.args.opened) c.in_ok-applied.applied.reply
-    (g.K.Sink.state c.args.sink.now) (g.K.Sink.state c.write_reply.new.sink) (g.D.Disk.state c.apply.new.disk) (g.D.Disk.state c.write_reply.new.disk) _ c.in_err-refusal.ensures.cause)
+    let sink = g.K.Sink.state c.args.sink.now in
+    let out = g.K.Sink.state c.write_reply.new.sink in
+    let old = g.D.Disk.state c.args.disk.now in
+    let mid = g.D.Disk.state c.apply.new.disk in
+    let new = g.D.Disk.state c.write_reply.new.disk in
+    let before = g.P.Depot.state c.args.depot.now in
+    let W = WantsOn c.args.opened old before.contents c.args.command.now in
+    let applied = c.in_ok-applied.applied in
+    let a = c.in_ok-applied.ensures in
+    let e = c.in_err-refusal.ensures in
+    rw (p.1, p.2) (record {
+      runs = record {
+        follows = follows_then old mid new a.follows (rests_follow mid new e.rests);
+        kept = a.kept;
+        count = e.count;
+        told = written_line before.contents c.args.command.now c.args.opened sink out old mid new applied.opened applied.reply (Err _) e.rests e.writes a.applies;
+        works = works_then W c.args.opened old.told mid.told new.told e.rests.told a.works;
+        met = tt;
+        points = tt;
+        current = unwritten_current c.args.opened applied.opened applied.reply old mid new sink out _ e.rests e.writes a.shown a.current;
+        unfinished = unwritten_unfinished (WantsWithin W c.args.opened) applied.reply sink out mid new _ e.cause;
+        damaged = unwritten_damage c.args.command.now c.args.opened applied.opened old mid before applied.reply sink out mid new _ a.met e.cause;
+        cause = unwritten_cause c.args.opened sink out old mid new before (g.P.Depot.state c.apply.new.depot) applied.reply _ a.follows.count a.shown e.cause;
+        tells = refl;
+      };
+    })
 
-pub returns-in_err-applied-clause-current : goal.returns-in_err-applied-clause-current
-returns-in_err-applied-clause-current g c =
-    let p = err_from_is_err_and c.from_residual.result c.from_residual.ensures.1 in
-    rw (p.1, p.2) (undone_current _ (g.D.Disk.state c.args.disk.now).told (g.D.Disk.state c.apply.new.disk).told c.in_err-applied.ensures.current)
-
-pub returns-in_err-refusal-clause-current : goal.returns-in_err-refusal-clause-current
-returns-in_err-refusal-clause-current g c =
-    let p = err_from_is_err_and c.from_residual-in_err-refusal.result c.from_residual-in_err-refusal.ensures.1 in
-    rw (p.1, p.2) (unwritten_current c.args.opened c.in_ok-applied.applied.opened c.in_ok-applied.applied.reply (g.D.Disk.state c.args.disk.now) (g.D.Disk.state c.apply.new.disk) (g.D.Disk.state c.write_reply.new.disk)
-    (g.K.Sink.state c.args.sink.now) (g.K.Sink.state c.write_reply.new.sink) _ c.in_err-refusal.ensures.rests c.in_err-refusal.ensures.writes c.in_ok-applied.ensures.shown c.in_ok-applied.ensures.current)
-
-pub returns-clause-current : goal.returns-clause-current
-returns-clause-current g c =
-    written_current c.in_ok-applied.applied.opened c.in_ok-applied.applied.reply c.in_ok-refusal.refusal (g.D.Disk.state c.args.disk.now) (g.D.Disk.state c.apply.new.disk) (g.D.Disk.state c.write_reply.new.disk)
-    c.in_ok-refusal.ensures.rests c.in_ok-refusal.ensures.refusal c.in_ok-applied.ensures.current
-
-pub returns-clause-points : goal.returns-clause-points
-returns-clause-points g c = written_points c.in_ok-applied.applied.opened (g.D.Disk.state c.apply.new.disk) (g.D.Disk.state c.write_reply.new.disk) c.in_ok-refusal.ensures.rests c.in_ok-applied.ensures.points
-
-pub returns-in_err-applied-clause-damaged : goal.returns-in_err-applied-clause-damaged
-returns-in_err-applied-clause-damaged g c =
-    let p = err_from_is_err_and c.from_residual.result c.from_residual.ensures.1 in
-    rw (p.1, p.2) (undone_damage (FindsDamage c.args.command.now c.args.opened (g.D.Disk.state c.args.disk.now) (g.P.Depot.state c.args.depot.now)) _ c.in_err-applied.ensures.damaged)
-
-pub returns-in_err-refusal-clause-damaged : goal.returns-in_err-refusal-clause-damaged
-returns-in_err-refusal-clause-damaged g c =
-    let p = err_from_is_err_and c.from_residual-in_err-refusal.result c.from_residual-in_err-refusal.ensures.1 in
-    rw (p.1, p.2) (unwritten_damage c.args.command.now c.args.opened c.in_ok-applied.applied.opened (g.D.Disk.state c.args.disk.now) (g.D.Disk.state c.apply.new.disk) (g.P.Depot.state c.args.depot.now) c.in_ok-applied.applied.reply
-    (g.K.Sink.state c.args.sink.now) (g.K.Sink.state c.write_reply.new.sink) (g.D.Disk.state c.apply.new.disk) (g.D.Disk.state c.write_reply.new.disk) _ c.in_ok-applied.ensures.met c.in_err-refusal.ensures.cause)
+pub returns : goal.returns
+returns g c =
+    let sink = g.K.Sink.state c.args.sink.now in
+    let out = g.K.Sink.state c.write_reply.new.sink in
+    let old = g.D.Disk.state c.args.disk.now in
+    let mid = g.D.Disk.state c.apply.new.disk in
+    let new = g.D.Disk.state c.write_reply.new.disk in
+    let before = g.P.Depot.state c.args.depot.now in
+    let W = WantsOn c.args.opened old before.contents c.args.command.now in
+    let applied = c.in_ok-applied.applied in
+    let a = c.in_ok-applied.ensures in
+    let r = c.in_ok-refusal in
+    record {
+      runs = record {
+        follows = follows_then old mid new a.follows (rests_follow mid new r.ensures.rests);
+        kept = a.kept;
+        count = r.ensures.count;
+        told = written_line before.contents c.args.command.now c.args.opened sink out old mid new applied.opened applied.reply (Ok r.refusal) r.ensures.rests r.ensures.writes a.applies;
+        works = works_then W c.args.opened old.told mid.told new.told r.ensures.rests.told a.works;
+        met = written_met W c.args.opened old mid new before applied.opened applied.reply r.refusal sink out r.ensures.rests r.ensures.refusal a.met a.shown r.ensures.writes;
+        points = written_points applied.opened mid new r.ensures.rests a.points;
+        current = written_current applied.opened applied.reply r.refusal old mid new r.ensures.rests r.ensures.refusal a.current;
+        unfinished = tt;
+        damaged = tt;
+        cause = tt;
+        tells = c.tell.ensures;
+      };
+    }

@@ -11,19 +11,7 @@ returns-in_err-do_line-in-Ok-Some g c =
       runs = (
         does c.in-Ok-Some.command,
         rw c.in-Ok-Some.field-0-is at c.in-Ok-Some.ensures,
-        record {
-          follows = e.follows;
-          kept = e.kept;
-          count = e.count;
-          told = e.runs;
-          works = e.works;
-          met = e.met;
-          points = e.points;
-          current = e.current;
-          unfinished = e.unfinished;
-          damaged = e.damaged;
-          cause = e.cause;
-        },
+        e.runs,
       );
     })
 
@@ -36,19 +24,7 @@ returns-in_ok-do_line-in-Ok-Some g c =
         c.in_ok-do_line-in-Ok-Some.field-0,
         rw c.in-Ok-Some.field-0-is at c.in-Ok-Some.ensures,
         refl,
-        record {
-          follows = e.follows;
-          kept = e.kept;
-          count = e.count;
-          told = e.runs;
-          works = e.works;
-          met = e.met;
-          points = e.points;
-          current = e.current;
-          unfinished = e.unfinished;
-          damaged = e.damaged;
-          cause = e.cause;
-        },
+        e.runs,
       );
     }
 
@@ -56,12 +32,12 @@ pub returns-in_err-write_usage-in-Err-Usage : goal.returns-in_err-write_usage-in
 returns-in_err-write_usage-in-Err-Usage g c =
     let p = err_from_is_err_and c.from_residual-in_err-write_usage-in-Err-Usage.result c.from_residual-in_err-write_usage-in-Err-Usage.ensures.1 in
     let e = c.in_err-write_usage-in-Err-Usage.ensures in
-    rw (p.1, p.2) (record { runs = (wrong c.in-Err-Usage.place, rw c.in-Err-Usage.field-0-is at c.in-Err-Usage.ensures, record { disk = refl; depot = refl; count = e.count; writes = e.writes; goes_on = tt }) })
+    rw (p.1, p.2) (record { runs = (wrong c.in-Err-Usage.place, rw c.in-Err-Usage.field-0-is at c.in-Err-Usage.ensures, record { disk = refl; depot = refl; observer = refl; count = e.count; writes = e.writes; goes_on = tt }) })
 
 pub returns-in_ok-write_usage-in-Err-Usage : goal.returns-in_ok-write_usage-in-Err-Usage
 returns-in_ok-write_usage-in-Err-Usage g c =
     let e = c.in_ok-write_usage-in-Err-Usage.ensures in
-    record { runs = inr (wrong c.in-Err-Usage.place, record { opened = c.args.opened; refusal = None }, rw c.in-Err-Usage.field-0-is at c.in-Err-Usage.ensures, refl, record { disk = refl; depot = refl; count = e.count; writes = e.writes; goes_on = (refl, refl) }) }
+    record { runs = inr (wrong c.in-Err-Usage.place, record { opened = c.args.opened; refusal = None }, rw c.in-Err-Usage.field-0-is at c.in-Err-Usage.ensures, refl, record { disk = refl; depot = refl; observer = refl; count = e.count; writes = e.writes; goes_on = (refl, refl) }) }
 
 pub returns-in-Err-OutOfMemory : goal.returns-in-Err-OutOfMemory
 returns-in-Err-OutOfMemory g c = record { runs = (unread, tt, (refl, refl)) }

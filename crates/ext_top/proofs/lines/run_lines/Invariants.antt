@@ -9,8 +9,8 @@ abbrev pub invariant-lines : goal.invariant-lines
 invariant-lines g l =
     PointsAs (g.D.Disk.state l.disk) l.opened
     × GoesOn l.text l.rest l.initial.opened l.opened
-    (store_side (g.K.Sink.state l.initial.sink) (g.D.Disk.state l.initial.disk) (g.P.Depot.state l.initial.depot))
-    (store_side (g.K.Sink.state l.sink) (g.D.Disk.state l.disk) (g.P.Depot.state l.depot))
+    (store_side (g.K.Sink.state l.initial.sink) (g.D.Disk.state l.initial.disk) (g.P.Depot.state l.initial.depot) (g.O.Observer.state l.initial.observer))
+    (store_side (g.K.Sink.state l.sink) (g.D.Disk.state l.disk) (g.P.Depot.state l.depot) (g.O.Observer.state l.observer))
 
 abbrev pub decreases-lines : goal.decreases-lines
 decreases-lines g l = length l.rest

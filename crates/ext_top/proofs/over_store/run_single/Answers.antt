@@ -15,23 +15,12 @@ returns-in-Ok g c =
     let old = g.D.Disk.state c.args.disk.now in
     let mid = g.D.Disk.state c.open.new.disk in
     let depot = g.P.Depot.state c.args.depot.now in
-    let new = store_side (g.K.Sink.state c.do_line.new.sink) (g.D.Disk.state c.do_line.new.disk) (g.P.Depot.state c.do_line.new.depot) in
+    let log = g.O.Observer.state c.args.observer.now in
+    let new = store_side (g.K.Sink.state c.do_line.new.sink) (g.D.Disk.state c.do_line.new.disk) (g.P.Depot.state c.do_line.new.depot) (g.O.Observer.state c.do_line.new.observer) in
     record {
-      runs = rw c.status_of_line.ensures (opened_lines false (does c.args.command.now ∷ []) c.in-Ok.opened sink old mid depot (result_of_line c.do_line.result) new
-          (record { follows = c.in-Ok.ensures.follows; keeps = c.in-Ok.ensures.now; sound = c.in-Ok.ensures.stops; points = c.in-Ok.ensures.says; sink = refl; depot = refl })
-          (line_alone (does c.args.command.now) c.in-Ok.opened (store_side sink mid depot) c.do_line.result new (record {
-            follows = c.do_line.ensures.follows;
-            kept = c.do_line.ensures.kept;
-            count = c.do_line.ensures.count;
-            told = c.do_line.ensures.runs;
-            works = c.do_line.ensures.works;
-            met = c.do_line.ensures.met;
-            points = c.do_line.ensures.points;
-            current = c.do_line.ensures.current;
-            unfinished = c.do_line.ensures.unfinished;
-            damaged = c.do_line.ensures.damaged;
-            cause = c.do_line.ensures.cause;
-          }))
+      runs = rw c.status_of_line.ensures (opened_lines false (does c.args.command.now ∷ []) c.in-Ok.opened sink old mid depot log (result_of_line c.do_line.result) new
+          (record { follows = c.in-Ok.ensures.follows; keeps = c.in-Ok.ensures.now; sound = c.in-Ok.ensures.stops; points = c.in-Ok.ensures.says; sink = refl; depot = refl; observer = refl })
+          (line_alone (does c.args.command.now) c.in-Ok.opened (store_side sink mid depot log) c.do_line.result new c.do_line.ensures.runs)
           (g.met.D.Disk.holds_a_tree c.do_line.new.disk));
     }
 
@@ -41,6 +30,6 @@ status_of_closed-requires g c = is_of_opening _ _ c.in-Err.error c.in-Err.ensure
 pub returns-in-Err : goal.returns-in-Err
 returns-in-Err g c =
     record {
-      runs = rw c.status_of_closed.ensures (closed_lines false (does c.args.command.now ∷ []) (g.K.Sink.state c.args.sink.now) (g.D.Disk.state c.args.disk.now) (g.D.Disk.state c.open.new.disk) (g.P.Depot.state c.args.depot.now) c.in-Err.error
+      runs = rw c.status_of_closed.ensures (closed_lines false (does c.args.command.now ∷ []) (g.K.Sink.state c.args.sink.now) (g.D.Disk.state c.args.disk.now) (g.D.Disk.state c.open.new.disk) (g.P.Depot.state c.args.depot.now) (g.O.Observer.state c.args.observer.now) c.in-Err.error
           c.in-Err.ensures.follows c.in-Err.ensures.now c.in-Err.ensures.says c.in-Err.ensures.stops c.in-Err.ensures.cause);
     }

@@ -19,5 +19,5 @@ returns-in-Ok-clause-reading g c =
 
 pub returns-in-Err-Usage-clause-complete : goal.returns-in-Err-Usage-clause-complete
 returns-in-Err-Usage-clause-complete g c =
-    let at = states g.S.Source.state g.K.Sink.state g.D.Disk.state g.P.Depot.state c.args.devices.now in
+    let at = states g.S.Source.state g.K.Sink.state g.D.Disk.state g.P.Depot.state g.O.Observer.state c.args.devices.now in
     run_completes c.args.words.now at at (Usage c.in-Err-Usage.place) (rw c.in-Err-Usage.field-0-is at c.in-Err-Usage.ensures, refl)
