@@ -1,5 +1,6 @@
 -- Commands that only read the store: nothing is done, or its files are checked, or one of them is shown.
-use Rattle.std.proofs.Common.{◌≡◌, ℕ, true, List, inl, Option, Some, None, IfSome, Ok, Err, refl, sym, ap, ◌∙◌, subst}
+use Rattle.std.specs.Prelude.{IfErr}
+use Rattle.std.proofs.Common.{◌≡◌, ℕ, true, List, inl, Option, Some, None, IfSome, Result, Ok, Err, refl, sym, ap, ◌∙◌, subst}
 use Rattle.ext_depot.specs.Depot.{DepotState, Files}
 use Rattle.ext_disk.specs.Disk.{Told, DiskState, BothTold, IsDisk, now}
 use Rattle.ext_host.specs.Drawn.{IsFileOf}
@@ -123,3 +124,12 @@ pub shown_applied : (held : HeldFile) (from : Option Generation) (old new : Disk
 shown_applied held from old new file same disk =
     answered (λ s outcome. outcome ≡ shows (bytes_at s held.body)) from old new (record { opened = from; reply = File held }) (λ s. shows (bytes_at s held.body)) same disk
     (λ s here. (refl, record { opened = sym here; reply = (refl, subst (λ o. IsFileOf (trees_before (host_before o)) held) (sym here) file) }, refl))
+
+-- why a command that only reads was not carried out is why one was not
+pub rest_is_cause : (from : Option Generation) (old new : DiskState) (before after : DepotState) (result : Result Applied ApplyErr) → IfErr result (RestCause from old new) → IfErr result (ApplyCause from old new before after)
+rest_is_cause from old new before after (Ok applied) cause = tt
+rest_is_cause from old new before after (Err (Fault DiskFault)) cause = cause
+rest_is_cause from old new before after (Err (Fault DepotFault)) cause = absurd cause
+rest_is_cause from old new before after (Err (Fault (Damaged damage))) cause = cause
+rest_is_cause from old new before after (Err (Fault OutOfMemory)) cause = tt
+rest_is_cause from old new before after (Err Unfinished) cause = absurd cause

@@ -12,11 +12,12 @@ ghost use Rattle.ext_cmd.specs.Words.{IsWellFormed};
 ghost use Rattle.ext_intents.specs.Intents.{IsFit, trees_seen};
 ghost use Rattle.ext_intents.specs.Step.{Wants};
 ghost use Rattle.ext_cmd.specs.Line.{may_be_line};
-ghost use Rattle.ext_top.specs.Machine.{Comes, Counts, Step, bytes_at, checked_text, shows};
+ghost use Rattle.ext_top.specs.CarryingOut.{CarriesOut};
+ghost use Rattle.ext_top.specs.Machine.{Counts, Step, bytes_at, checked_text, shows};
 ghost use Rattle.ext_top.specs.Applying.{AppliesTold, ApplyCause, IsShownReply, PointsAs};
 ghost use Rattle.ext_top.specs.Applying.{RestCause, SeeCause, WhereDamaged, WhereUnfinished, seen_on};
-ghost use Rattle.ext_top.specs.Working.{AppliedSo, AreAllAsListed, FindsDamage, IsHeldReply, IsReplyTo, IsTextReply, LeavesCurrent};
-ghost use Rattle.ext_top.specs.Working.{Met, ReadsDamage, SeesDamage, WantsOn, WantsWithin, WorksFor, refused_by};
+ghost use Rattle.ext_top.specs.Working.{AppliedSo, AreAllAsListed, FindsDamage, IsHeldReply, IsTextReply, LeavesCurrent};
+ghost use Rattle.ext_top.specs.Working.{SeesDamage, WantsOn, WantsWithin, WorksFor, refused_by};
 
 use crate::applied::{Applied, Reply};
 use crate::apply_err::ApplyErr;
@@ -121,20 +122,7 @@ fn carry_out<D: Disk, P: Depot>(
     requires fit { IsFit (coming_number opened) (host_before opened) intent }
     requires opened { IfSome opened IsOpened }
     requires points { PointsAs (D.state disk.old) opened }
-    ensures follows { Follows (D.state disk.old) (D.state disk.new) }
-    ensures kept { IsKept (P.state depot.old) (P.state depot.new) }
-    ensures applies { BothTold (AppliesTold (λ s. Comes s (P.state depot.old).contents intent) opened result) (D.state disk.old).told
-        (D.state disk.new).told }
-    ensures shown { IfOk result (λ applied. IsShownReply opened (D.state disk.old) (D.state disk.new) applied.reply) }
-    ensures works { BothTold (WorksFor (λ wanted. wanted ≡ intent) opened) (D.state disk.old).told (D.state disk.new).told }
-    ensures met { IfOk result (λ applied. Met intent opened (D.state disk.old) (D.state disk.new) (P.state depot.old)
-        (refused_by applied.reply) applied.opened) }
-    ensures points { IfOk result (λ applied. PointsAs (D.state disk.new) applied.opened) }
-    ensures current { BothTold (LeavesCurrent result) (D.state disk.old).told (D.state disk.new).told }
-    ensures replies { IfOk result (λ applied. IsReplyTo intent opened applied.reply) }
-    ensures unfinished { IfErr result (WhereUnfinished (WantsWithin (λ wanted. wanted ≡ intent) opened)) }
-    ensures damaged { IfErr result (WhereDamaged (ReadsDamage intent opened (D.state disk.old) (P.state depot.old))) }
-    ensures cause { IfErr result (ApplyCause opened (D.state disk.old) (D.state disk.new) (P.state depot.old) (P.state depot.new)) }
+    ensures { CarriesOut intent opened (D.state disk.old) (D.state disk.new) (P.state depot.old) (P.state depot.new) result }
 {
     match intent {
         Intent::Changes(next, answer) => replace(alloc, next, answer, opened, disk, depot),

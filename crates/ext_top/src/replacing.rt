@@ -1,18 +1,13 @@
 // A host is put in place of the one that the store has.
-ghost use Rattle.std.specs.Prelude.{◌≡◌, IfErr, IfOk, IfSome, None};
-ghost use Rattle.ext_depot.specs.Depot.{IsKept};
-ghost use Rattle.ext_disk.specs.Disk.{BothTold};
-ghost use Rattle.ext_disk.specs.Since.{Follows};
+ghost use Rattle.std.specs.Prelude.{◌≡◌, IfSome};
 ghost use Rattle.ext_gen.specs.Opened.{IsOpened};
-ghost use Rattle.ext_gen.specs.Preparing.{coming_number, host_before, limit_of};
+ghost use Rattle.ext_gen.specs.Preparing.{coming_number, host_before};
 ghost use Rattle.ext_cmd.specs.Replies.{answer_text};
 ghost use Rattle.ext_cmd.specs.declared.answer.Answer.{Answer};
 ghost use Rattle.ext_intents.specs.Intents.{IsPlanned};
 ghost use Rattle.ext_intents.specs.declared.intent.Intent.TheVariants.{Changes};
-ghost use Rattle.ext_top.specs.Machine.{Replaces};
-ghost use Rattle.ext_top.specs.Applying.{AppliesTold, ApplyCause, IsOfPreparing, IsShownReply};
-ghost use Rattle.ext_top.specs.Applying.{PointsAs, WhereDamaged, WhereUnfinished, refusal_from};
-ghost use Rattle.ext_top.specs.Working.{IsDamagedFor, IsTextReply, LeavesCurrent, Met, ReplacesTold, StopsChange, WorksFor, refused_by};
+ghost use Rattle.ext_top.specs.Applying.{IsOfPreparing, PointsAs, refusal_from};
+ghost use Rattle.ext_top.specs.CarryingOut.{CarriesOut};
 
 use crate::applied::{Applied, Reply};
 use crate::apply_err::ApplyErr;
@@ -39,21 +34,8 @@ pub(crate) fn replace<D: Disk, P: Depot>(
     requires planned { IsPlanned (coming_number opened) (host_before opened) next }
     requires opened { IfSome opened IsOpened }
     requires points { PointsAs (D.state disk.old) opened }
-    ensures follows { Follows (D.state disk.old) (D.state disk.new) }
-    ensures kept { IsKept (P.state depot.old) (P.state depot.new) }
-    ensures applies { BothTold (AppliesTold (λ s. Replaces s (P.state depot.old).contents next (answer_text answer)) opened result)
-        (D.state disk.old).told (D.state disk.new).told }
-    ensures works { BothTold (WorksFor (λ intent. intent ≡ Changes next answer) opened) (D.state disk.old).told (D.state disk.new).told }
-    ensures met { IfOk result (λ applied. Met (Changes next answer) opened (D.state disk.old) (D.state disk.new)
-        (P.state depot.old) (refused_by applied.reply) applied.opened) }
-    ensures points { IfOk result (λ applied. PointsAs (D.state disk.new) applied.opened) }
-    ensures current { BothTold (LeavesCurrent result) (D.state disk.old).told (D.state disk.new).told }
-    ensures replies { IfOk result (λ applied. IsTextReply (answer_text answer) applied.reply) }
-    ensures unfinished { IfErr result (WhereUnfinished (limit_of opened next ≡ None)) }
-    ensures damaged { IfErr result (WhereDamaged (λ damage. StopsChange opened next (D.state disk.old) (P.state depot.old)
-        (IsDamagedFor opened (D.state disk.old) (P.state depot.old) damage))) }
-    ensures shown { IfOk result (λ applied. IsShownReply opened (D.state disk.old) (D.state disk.new) applied.reply) }
-    ensures cause { IfErr result (ApplyCause opened (D.state disk.old) (D.state disk.new) (P.state depot.old) (P.state depot.new)) }
+    ensures { CarriesOut (Changes next answer) opened (D.state disk.old) (D.state disk.new) (P.state depot.old) (P.state depot.new)
+        result }
 {
     let reply = answer_text(alloc, answer)?;
     switch(alloc, next, reply, opened, disk, depot)
@@ -71,21 +53,8 @@ fn switch<D: Disk, P: Depot>(
     requires planned { IsPlanned (coming_number opened) (host_before opened) next }
     requires opened { IfSome opened IsOpened }
     requires points { PointsAs (D.state disk.old) opened }
-    ensures applies { BothTold (AppliesTold (λ s. Replaces s (P.state depot.old).contents next reply) opened result)
-        (D.state disk.old).told (D.state disk.new).told }
-    ensures follows { Follows (D.state disk.old) (D.state disk.new) }
-    ensures kept { IsKept (P.state depot.old) (P.state depot.new) }
-    ensures works { BothTold (ReplacesTold opened next) (D.state disk.old).told (D.state disk.new).told }
-    ensures met { (answer : Answer) → IfOk result (λ applied. Met (Changes next answer) opened (D.state disk.old)
-        (D.state disk.new) (P.state depot.old) (refused_by applied.reply) applied.opened) }
-    ensures points { IfOk result (λ applied. PointsAs (D.state disk.new) applied.opened) }
-    ensures current { BothTold (LeavesCurrent result) (D.state disk.old).told (D.state disk.new).told }
-    ensures replies { IfOk result (λ applied. IsTextReply reply applied.reply) }
-    ensures unfinished { IfErr result (WhereUnfinished (limit_of opened next ≡ None)) }
-    ensures damaged { IfErr result (WhereDamaged (λ damage. StopsChange opened next (D.state disk.old) (P.state depot.old)
-        (IsDamagedFor opened (D.state disk.old) (P.state depot.old) damage))) }
-    ensures shown { IfOk result (λ applied. IsShownReply opened (D.state disk.old) (D.state disk.new) applied.reply) }
-    ensures cause { IfErr result (ApplyCause opened (D.state disk.old) (D.state disk.new) (P.state depot.old) (P.state depot.new)) }
+    ensures { (answer : Answer) → reply ≡ answer_text answer → CarriesOut (Changes next answer) opened (D.state disk.old)
+        (D.state disk.new) (P.state depot.old) (P.state depot.new) result }
 {
     match prepare(alloc, disk, depot, opened.as_ref(), Plan { next }) {
         Ok(prepared) => {
