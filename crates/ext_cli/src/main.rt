@@ -19,6 +19,9 @@ mod pace;
 mod progress;
 mod progress_line;
 mod reasons;
+mod remedies;
+mod remedy;
+mod services;
 mod tally;
 mod usage;
 mod wiping_sink;
@@ -35,6 +38,7 @@ use ext_text::{OutOfMemory, Text, Words};
 use ext_top::{Devices, Status, run};
 use help::{HELP, VERSION};
 use progress::Progress;
+use remedies::Remedies;
 use std::process::ExitCode;
 use std::{env, io};
 use wiping_sink::WipingSink;
@@ -72,6 +76,7 @@ fn lone_option(rt: &HostRuntime, argument: &str) -> Result<Ending<Status>, OutOf
     let printed = match argument {
         "--help" => rt.println(HELP),
         "--version" => rt.println(VERSION),
+        "help" | "-h" => return usage::seeking_help(rt.alloc()),
         _ => return usage::without_command(rt.alloc()),
     };
     match printed {
@@ -129,13 +134,13 @@ fn run_apart(
     let depot_root = Text::from_bytes(rt.alloc(), depot.as_bytes())?;
     let disk = FolderDisk::private(*rt, store_root);
     let disk = LockedDisk::new(disk, lock, WaitingLine::for_store(*rt));
-    let depot = FolderDepot::new(*rt, depot_root);
     let progress = Progress::new(*rt);
     let mut devices = Devices {
         source: StdSource::new(rt.stdin()),
         sink: WipingSink::new(sink, &progress),
         disk: Counted::new(disk, &progress),
-        depot: Counted::new(depot, &progress),
+        depot: Counted::new(FolderDepot::new(*rt, depot_root), &progress),
+        observer: Remedies::new(*rt, &progress, depot.as_str()),
     };
     let status = run(rt.alloc(), words, &mut devices);
     progress.wipe();

@@ -7,6 +7,9 @@ use ext_top::Status;
 use std::alloc::Global;
 use strsim::osa_distance;
 
+// Where the help is.
+const HELP_ELSEWHERE: &str = "the help is written by `hostext --help`, without STORE and DEPOT";
+
 // How many edits may lead from a word to a command that may be meant.
 const NEAR: usize = 2;
 
@@ -16,6 +19,12 @@ pub(crate) fn without_command(alloc: Global) -> Result<Ending<Status>, OutOfMemo
         alloc,
         "it is called as hostext STORE DEPOT COMMAND .., or with --help or --version alone",
     ))?;
+    Ok(Ending::because(Status::Usage { place: 1 }, reason))
+}
+
+/// The help is asked for in another way than that in which it is had.
+pub(crate) fn seeking_help(alloc: Global) -> Result<Ending<Status>, OutOfMemory> {
+    let reason = allocated(String::from_str(alloc, HELP_ELSEWHERE))?;
     Ok(Ending::because(Status::Usage { place: 1 }, reason))
 }
 
@@ -38,10 +47,15 @@ pub(crate) fn faulty_words(
         [] => with_commands(alloc, "no command is given")?,
         [first, ..] => match synopsis_of(first.as_str()) {
             Some(synopsis) => faulty_after(alloc, synopsis, words, place)?,
+            None if is_help(first.as_str()) => allocated(String::from_str(alloc, HELP_ELSEWHERE))?,
             None => unknown(alloc, first.as_str())?,
         },
     };
     Ok(Ending::because(Status::Usage { place }, reason))
+}
+
+fn is_help(word: &str) -> bool {
+    word == "--help" || word == "-h" || word == "help"
 }
 
 fn synopsis_of(word: &str) -> Option<&'static Synopsis> {
@@ -63,11 +77,21 @@ fn faulty_after(
     let expected = synopsis.words;
     match word_at(words, place) {
         Some(word) => {
-            let word = escaped(alloc, word)?;
-            allocated(format!(in alloc; "the words are {expected}: not `{word}`"))
+            let shown = escaped(alloc, word)?;
+            if ends_in_slash(word) {
+                return allocated(format!(in alloc;
+                    "`{shown}` ends in a slash, and no path here does: leave it off"
+                ));
+            }
+            allocated(format!(in alloc; "the words are {expected}: not `{shown}`"))
         }
         None => allocated(format!(in alloc; "the words are {expected}: one is missing")),
     }
+}
+
+// Whether a word is a path with a slash at its end, which isn't the root.
+fn ends_in_slash(word: &str) -> bool {
+    word.len() > 1 && word.ends_with('/')
 }
 
 // A first word that no command has, with the commands that may be meant.

@@ -2,6 +2,7 @@
 use ext_folder::Trouble;
 use ext_lines::allocated;
 use ext_publish::{BadStore, PubStatus};
+use ext_published::PubRefusal;
 use ext_reasons::{
     Ending, escaped, reason_of_broken, reason_of_damage, reason_of_trouble, word_at,
 };
@@ -68,7 +69,40 @@ pub(crate) fn ending_with(
             alloc,
             "more was left over in OUT than one run removes: give the same words again",
         ))?),
+        PubStatus::Refused(refusal) => Some(remedy_of(alloc, refusal)?),
         _ => None,
     };
     Ok(Ending::with(status, reason))
+}
+
+// What was looked for where a run was refused, and what helps.
+fn remedy_of(alloc: Global, refusal: &PubRefusal) -> Result<String, OutOfMemory> {
+    allocated(String::from_str(
+        alloc,
+        match refusal {
+            PubRefusal::NoStore => {
+                "STORE has no `current`, so that it keeps no host: `hostext STORE DEPOT init ARCH SCOPE` makes one"
+            }
+            PubRefusal::NoEntry { .. } =>
+                "nothing stands there: `hostext STORE DEPOT tree` writes what does",
+            PubRefusal::NotFile { .. } => {
+                "what stands there is a link, and links are not followed here: publish what it leads to"
+            }
+            PubRefusal::LimitPath => {
+                "a path has at most 64 names and 4096 bytes, with RES and NAME before it: choose shorter ones"
+            }
+            PubRefusal::OutKind { .. } => {
+                "a file of OUT stands where a folder would be made, or a folder where SHA256SUMS would: take it away, or choose another RES"
+            }
+            PubRefusal::LimitText => {
+                "a tree text and a manifest have at most 67108864 bytes: publish a directory below ABS, or take another RES for new versions"
+            }
+            PubRefusal::OutManifest { .. } => {
+                "that line of RES/SHA256SUMS in OUT is no digest, two blanks and a name, or has another digest than a line above it: mend it, or choose another RES"
+            }
+            PubRefusal::Listed { .. } => {
+                "what a manifest lists is never written again: a new version takes a new NAME"
+            }
+        },
+    ))
 }

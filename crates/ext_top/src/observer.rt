@@ -46,7 +46,11 @@ impl MemoryObserver {
 
     /// The lines of the refusals that it was told of, each with its newline; none where there was no memory for one.
     pub fn lines(&self) -> Option<&Words> {
-        if self.starved { None } else { Some(&self.lines) }
+        if self.starved {
+            None
+        } else {
+            Some(&self.lines)
+        }
     }
 
     // Keeps the line of a refusal.

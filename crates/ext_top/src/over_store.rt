@@ -37,14 +37,7 @@ pub(crate) fn run_single<K: Sink, D: Disk, P: Depot, O: Observer>(
 {
     match open(alloc, disk) {
         Ok(opened) => status_of_line(do_line(
-            alloc,
-            None,
-            command,
-            opened,
-            sink,
-            disk,
-            depot,
-            observer,
+            alloc, None, command, opened, sink, disk, depot, observer,
         )),
         Err(error) => status_of_closed(error),
     }
@@ -64,15 +57,7 @@ pub(crate) fn run_text<K: Sink, D: Disk, P: Depot, O: Observer>(
         (store_side (K.state sink.new) (D.state disk.new) (P.state depot.new) (O.state observer.new)) result }
 {
     match open(alloc, disk) {
-        Ok(opened) => status_of_lines(run_lines(
-            alloc,
-            text,
-            opened,
-            sink,
-            disk,
-            depot,
-            observer,
-        )),
+        Ok(opened) => status_of_lines(run_lines(alloc, text, opened, sink, disk, depot, observer)),
         Err(error) => status_of_closed(error),
     }
 }

@@ -5,12 +5,12 @@ use ext_depot::Depot;
 use ext_disk::Disk;
 use ext_io::{Calls, MemorySink, MemorySource};
 use ext_text::{Text, Words};
-use ext_top::{Devices, Status, run};
+use ext_top::{Devices, MemoryObserver, Status, run};
 use ext_trial_disks::{Outcome, append_bad_store, append_field};
 use std::alloc::Global;
 
-/// A disk and a depot, beside streams in memory.
-pub type MemoryStreams<D, P> = Devices<MemorySource, MemorySink, D, P>;
+/// A disk and a depot, beside streams in memory and an observer that keeps what it is told.
+pub type MemoryStreams<D, P> = Devices<MemorySource, MemorySink, D, P, MemoryObserver>;
 
 /// What a command reads and how it is written: the bytes of its source, how many bytes a call moves, and which call of
 /// each stream fails, 0 where none does.
@@ -65,10 +65,12 @@ pub fn beside_streams<D: Disk, P: Depot>(alloc: Global, disk: D, depot: P) -> Me
         sink: MemorySink::new(alloc, 1, Calls::new(alloc)),
         disk,
         depot,
+        observer: MemoryObserver::new(alloc),
     }
 }
 
-/// Runs a command over streams in memory, a disk and a depot.
+/// Runs a command over streams in memory, a disk and a depot. Where the observer wasn't told of each refusal whose line was written, in
+/// their order, and of nothing else, the status says so, which none that is stated does.
 ///
 /// # Errors
 /// `OutOfMemory`, of the runner and not of the run.
@@ -80,11 +82,31 @@ pub fn run_over<D: Disk, P: Depot>(
 ) -> Result<Outcome, Trouble> {
     devices.source = streams.source(alloc)?;
     devices.sink = streams.sink(alloc)?;
+    devices.observer = MemoryObserver::new(alloc);
     let status = run(alloc, words, devices);
-    Ok(Outcome {
-        status: status_text(alloc, &status)?,
-        reply: Text::from_bytes(alloc, devices.sink.written())?,
-    })
+    let mut status = status_text(alloc, &status)?;
+    let reply = Text::from_bytes(alloc, devices.sink.written())?;
+    let Some(told) = devices.observer.lines() else {
+        return Err(Trouble::OutOfMemory);
+    };
+    if !is_told(reply.bytes(), told.as_slice()) {
+        append_str(&mut status, " untold")?;
+    }
+    Ok(Outcome { status, reply })
+}
+
+// Whether the lines of refusals in a reply are these, in their order.
+fn is_told(reply: &[u8], told: &[Text]) -> bool {
+    let mut count = 0;
+    for line in reply.split_inclusive(|byte| *byte == b'\n') {
+        if line.starts_with(b"refused ") && line.ends_with(b"\n") {
+            match told.get(count) {
+                Some(text) if text.bytes() == line => count += 1,
+                _ => return false,
+            }
+        }
+    }
+    count == told.len()
 }
 
 /// The calls of a device of which only this one fails; none where it is 0.
