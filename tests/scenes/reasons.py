@@ -96,6 +96,9 @@ VIEWS = "the words are {} list, status, merge [--force], unmerge, refresh [--for
 SERVICES = "the words are portable list, inspect IMAGE [PREFIX ..], is-attached NAME, attach IMAGE [PREFIX ..], detach NAME or reattach IMAGE [PREFIX ..], where IMAGE is a name or begins with a slash, and a name doesn't begin with a dash; attach and reattach take --runtime, --profile=NAME, --copy=copy, symlink, auto or mixed, and --extension=IMAGE, not with --copy=symlink"
 
 
+HELP = "the help is written by `hostext --help`, without STORE and DEPOT"
+
+
 def words_that_are_no_command_are_explained(place):
     for words, number, reason in (
         (["init", "x86_64", "system"], 2, f"{INIT}: not `x86_64`"),
@@ -122,12 +125,15 @@ def words_that_are_no_command_are_explained(place):
         (["bacth"], 1, "`bacth` is no command; is it to be batch?"),
         (["imprt-fs", "a", "/"], 1, "`imprt-fs` is no command; is it to be import-fs?"),
         (["c"], 1, "`c` is no command; is it to be confext or cat or compare or check?"),
+        (["tree", "/etc/"], 2, "`/etc/` ends in a slash, and no path here does: leave it off"),
+        (["import-fs", "a", "//"], 3, "`//` ends in a slash, and no path here does: leave it off"),
+        *((["--help"], 1, HELP), (["help"], 1, HELP), (["-h", "tree"], 1, HELP)),
         (["frobnicate"], 1, f"`frobnicate` is no command; the commands are {COMMANDS}"),
         ([""], 1, f"`` is no command; the commands are {COMMANDS}"),
     ):
         explains(told(place, *words), f"usage {number}", reason, 2)
     call = "it is called as hostext STORE DEPOT COMMAND .., or with --help or --version alone"
-    for words in [], ["--hlep"]:
+    for words, call in ([], call), (["--hlep"], call), (["help"], HELP), (["-h"], HELP):
         ended = subprocess.run([place.program, *words], env=EXPLAIN, capture_output=True, timeout=SECONDS)
         explains((ended.stderr.decode().splitlines(), ended.returncode), "usage 1", call, 2)
 
