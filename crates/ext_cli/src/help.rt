@@ -97,8 +97,8 @@ DEPOT is the first that no command has there, or that it is missing.
 Where standard error is a terminal, a command that works for more than half a
 second tells there how much of STORE and DEPOT it has read and written so far.
 
-HOSTEXT_EXPLAIN=yes has a second line on standard error say why, also where
-that is no terminal. HOSTEXT_LOCK=no takes no lock on STORE.
+HOSTEXT_EXPLAIN=yes has a second line on standard error say why, or what helps
+after a refusal, also where that is no terminal. HOSTEXT_LOCK=no takes no lock on STORE.
 HOSTEXT_PROGRESS=no tells nothing of what was read and written so far.
 
 `hostext --version` writes the version, and the kit that it is proved with.";
