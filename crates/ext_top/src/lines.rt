@@ -126,19 +126,9 @@ fn do_text<K: Sink, D: Disk, P: Depot, O: Observer>(
     match read_line(alloc, text) {
         Ok(None) => Ok(opened),
         Ok(Some(command)) => {
-            Ok(
-                do_line(
-                    alloc,
-                    Some(at),
-                    &command,
-                    opened,
-                    sink,
-                    disk,
-                    depot,
-                    observer,
-                )?
-                .opened,
-            )
+            let at = Some(at);
+            let written = do_line(alloc, at, &command, opened, sink, disk, depot, observer)?;
+            Ok(written.opened)
         }
         Err(CmdErr::Usage { place }) => {
             write_usage(alloc, place, sink)?;

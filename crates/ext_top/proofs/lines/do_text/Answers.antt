@@ -3,10 +3,10 @@ use Rattle.std.proofs.lemmas.Result.{err_from_is_err_and}
 use Rattle.ext_top.specs.Exits.{does, unread, wrong}
 use Rattle.ext_top.proofs.lines.do_text.Goals as goal
 
-pub returns-in_err-do_line-in-Ok-Some : goal.returns-in_err-do_line-in-Ok-Some
-returns-in_err-do_line-in-Ok-Some g c =
+pub returns-in_err-written-in-Ok-Some : goal.returns-in_err-written-in-Ok-Some
+returns-in_err-written-in-Ok-Some g c =
     let p = err_from_is_err_and c.from_residual.result c.from_residual.ensures.1 in
-    let e = c.in_err-do_line-in-Ok-Some.ensures in
+    let e = c.in_err-written-in-Ok-Some.ensures in
     rw (p.1, p.2) (record {
       runs = (
         does c.in-Ok-Some.command,
@@ -15,13 +15,13 @@ returns-in_err-do_line-in-Ok-Some g c =
       );
     })
 
-pub returns-in_ok-do_line-in-Ok-Some : goal.returns-in_ok-do_line-in-Ok-Some
-returns-in_ok-do_line-in-Ok-Some g c =
-    let e = c.in_ok-do_line-in-Ok-Some.ensures in
+pub returns-in-Ok-Some : goal.returns-in-Ok-Some
+returns-in-Ok-Some g c =
+    let e = c.in_ok-written-in-Ok-Some.ensures in
     record {
       runs = inr (
         does c.in-Ok-Some.command,
-        c.in_ok-do_line-in-Ok-Some.field-0,
+        c.in_ok-written-in-Ok-Some.written,
         rw c.in-Ok-Some.field-0-is at c.in-Ok-Some.ensures,
         refl,
         e.runs,
