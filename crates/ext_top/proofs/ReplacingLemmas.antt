@@ -295,3 +295,8 @@ unprepared_cause from next old new depot after (store_errors.Mismatch path liste
 unprepared_cause from next old new depot after (store_errors.NotInDepot path) cleans cause = tt
 unprepared_cause from next old new depot after store_errors.Unfinished cleans cause = too_many_left_overs from old.told new.told cleans
 unprepared_cause from next old new depot after (store_errors.Limit which) cleans cause = tt
+
+-- the reply is the text of an answer
+pub answered_replaces : (files : Option Files) (next : Host) (reply text : List ℕ) (from : Option Generation) (result : Result Applied ApplyErr) (x y : Option Told) → reply ≡ text
+    → BothTold (AppliesTold (λ s. Replaces s files next reply) from result) x y → BothTold (AppliesTold (λ s. Replaces s files next text) from result) x y
+answered_replaces files next reply text from result x y is replaces = subst (λ line. BothTold (AppliesTold (λ s. Replaces s files next line) from result) x y) is replaces

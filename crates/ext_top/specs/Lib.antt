@@ -4,10 +4,12 @@ pub mod Machine
 pub mod Exits
 pub mod Applying
 pub mod Working
+pub mod Observing
 pub mod Replying
 pub mod Lines
 pub mod Devices
 pub mod Batch
+pub mod CarryingOut
 pub mod Chain
 pub mod Sample
 pub mod Alone

@@ -1,4 +1,4 @@
-use Rattle.std.proofs.Common.{◌≡◌, Ok, refl}
+use Rattle.std.proofs.Common.{◌≡◌, Ok, Err, refl}
 use Rattle.std.proofs.lemmas.Result.{err_from_is_err_and}
 use Rattle.ext_disk.proofs.ForCallers.{follows_itself, rests_follow}
 use Rattle.ext_store_files.proofs.ForCallers.{kept_itself}
@@ -12,6 +12,8 @@ use Rattle.ext_top.specs.declared.applied.Reply.TheVariants.{Text, Refused}
 use Rattle.ext_top.proofs.UnfinishedLemmas.{rest_unfinished}
 use Rattle.ext_top.proofs.CurrentLemmas.{points_rested, rested_current}
 use Rattle.ext_top.proofs.DamagedLemmas.{damages_said}
+use Rattle.ext_store_files.specs.declared.fault.StoreFault.TheVariants.{OutOfMemory}
+use Rattle.ext_top.specs.declared.apply_err.ApplyErr.TheVariants.{Fault}
 use Rattle.ext_top.proofs.applying.carry_out.Goals as goal
 
 pub returns-in-Changes : goal.returns-in-Changes
@@ -30,7 +32,7 @@ returns-in_err-answer_text-in-Answers g c =
       works = works_nothing (λ wanted. wanted ≡ c.args.intent) c.args.opened disk.told;
       met = tt;
       points = tt;
-      current = rested_current _ disk.told disk.told refl;
+      current = rested_current (Err (Fault OutOfMemory)) disk.told disk.told refl;
       replies = tt;
       unfinished = tt;
       damaged = tt;

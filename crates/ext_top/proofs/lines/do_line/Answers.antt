@@ -20,6 +20,7 @@ returns-in_err-applied g c =
     let old = g.D.Disk.state c.args.disk.now in
     let mid = g.D.Disk.state c.apply.new.disk in
     let before = g.P.Depot.state c.args.depot.now in
+    let log = g.O.Observer.state c.args.observer.now in
     let e = c.in_err-applied.ensures in
     rw (p.1, p.2) (record {
       runs = record {
@@ -34,7 +35,7 @@ returns-in_err-applied g c =
         unfinished = undone_unfinished (WantsWithin (WantsOn c.args.opened old before.contents c.args.command.now) c.args.opened) _ e.unfinished;
         damaged = undone_damage (FindsDamage c.args.command.now c.args.opened old before) _ e.damaged;
         cause = undone_cause c.args.opened sink sink old mid before (g.P.Depot.state c.apply.new.depot) _ e.cause;
-        tells = refl;
+        tells = refl {a = log};
       };
     })
 
@@ -49,6 +50,7 @@ returns-in_err-refusal g c =
     let before = g.P.Depot.state c.args.depot.now in
     let W = WantsOn c.args.opened old before.contents c.args.command.now in
     let applied = c.in_ok-applied.applied in
+    let log = g.O.Observer.state c.args.observer.now in
     let a = c.in_ok-applied.ensures in
     let e = c.in_err-refusal.ensures in
     rw (p.1, p.2) (record {
@@ -64,7 +66,7 @@ returns-in_err-refusal g c =
         unfinished = unwritten_unfinished (WantsWithin W c.args.opened) applied.reply sink out mid new _ e.cause;
         damaged = unwritten_damage c.args.command.now c.args.opened applied.opened old mid before applied.reply sink out mid new _ a.met e.cause;
         cause = unwritten_cause c.args.opened sink out old mid new before (g.P.Depot.state c.apply.new.depot) applied.reply _ a.follows.count a.shown e.cause;
-        tells = refl;
+        tells = refl {a = log};
       };
     })
 

@@ -1,4 +1,4 @@
-use Rattle.std.proofs.Common.{◌≡◌, refl}
+use Rattle.std.proofs.Common.{◌≡◌, Err, refl}
 use Rattle.std.proofs.lemmas.Result.{err_from_is_err_and}
 use Rattle.ext_disk.proofs.ForCallers.{follows_itself}
 use Rattle.ext_store_files.proofs.ForCallers.{kept_itself}
@@ -7,6 +7,8 @@ use Rattle.ext_top.specs.Machine.{Replaces}
 use Rattle.ext_top.proofs.ReadingLemmas.{unread_applies}
 use Rattle.ext_top.proofs.WorkingLemmas.{works_nothing}
 use Rattle.ext_top.proofs.CurrentLemmas.{rested_current}
+use Rattle.ext_store_files.specs.declared.fault.StoreFault.TheVariants.{OutOfMemory}
+use Rattle.ext_top.specs.declared.apply_err.ApplyErr.TheVariants.{Fault}
 use Rattle.ext_top.proofs.replacing.replace.Goals as goal
 
 pub returns-in_err-reply : goal.returns-in_err-reply
@@ -22,7 +24,7 @@ returns-in_err-reply g c =
       works = works_nothing _ c.args.opened disk.told;
       met = tt;
       points = tt;
-      current = rested_current _ disk.told disk.told refl;
+      current = rested_current (Err (Fault OutOfMemory)) disk.told disk.told refl;
       replies = tt;
       unfinished = tt;
       damaged = tt;

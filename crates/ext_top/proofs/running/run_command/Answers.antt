@@ -5,7 +5,7 @@ use Rattle.ext_top.proofs.RunsLemmas.{intent_ends, one_line_kind, sample_ends}
 use Rattle.ext_top.proofs.running.run_command.Goals as goal
 
 pub returns-in-Layer-clause-runs : goal.returns-in-Layer-clause-runs
-returns-in-Layer-clause-runs g c = rw (c.in-Layer.is, c.told.ensures.same) (record { disk = refl; depot = refl; tells = c.told.ensures.tells; ends = c.run_layer.ensures.ends })
+returns-in-Layer-clause-runs g c = rw (c.in-Layer.is, c.told.ensures.same) (record { disk = refl; depot = refl; tells = c.told.ensures.tells; ends = c.run_layer-status.ensures.ends })
 
 pub returns-in-Compare-clause-runs : goal.returns-in-Compare-clause-runs
 returns-in-Compare-clause-runs g c =
@@ -16,7 +16,7 @@ returns-in-Compare-clause-runs g c =
       disk = refl;
       depot = refl;
       tells = c.told-in-Compare.ensures.tells;
-      ends = intent_ends (Compare a b) [] source source (g.K.Sink.state c.args.devices.now.sink) (g.K.Sink.state c.run_compare.new.sink) (compare_intent a b) c.run_compare.result (refl, refl) refl c.run_compare.ensures.writes;
+      ends = intent_ends (Compare a b) [] source source (g.K.Sink.state c.args.devices.now.sink) (g.K.Sink.state c.run_compare-status.new.sink) (compare_intent a b) c.run_compare-status.result (refl, refl) refl c.run_compare-status.ensures.writes;
     })
 
 pub returns-in-Sample-clause-runs : goal.returns-in-Sample-clause-runs
@@ -26,7 +26,7 @@ returns-in-Sample-clause-runs g c =
       disk = refl;
       depot = refl;
       tells = c.told-in-Sample.ensures.tells;
-      ends = sample_ends c.in-Sample.images source (g.K.Sink.state c.args.devices.now.sink) (g.K.Sink.state c.run_sample.new.sink) c.run_sample.result c.run_sample.ensures.writes;
+      ends = sample_ends c.in-Sample.images source (g.K.Sink.state c.args.devices.now.sink) (g.K.Sink.state c.run_sample-status.new.sink) c.run_sample-status.result c.run_sample-status.ensures.writes;
     })
 
 pub returns-in_default : goal.returns-in_default
