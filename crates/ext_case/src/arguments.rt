@@ -3,25 +3,11 @@ ghost use Rattle.std.specs.Prelude.{◌<◌, ◌≤◌, ◌^◌, IfOk};
 
 use crate::trouble::Trouble;
 use ext_lines::read_decimal;
-use ext_text::{Digest, Name, NameErr, Path, PathErr, Text};
+use ext_text::{Name, NameErr, Path, PathErr, Text};
 use std::alloc::Global;
 use std::str;
 
-/// No argument.
-///
-/// # Errors
-/// `Unreadable` where there is one.
-pub fn none(arguments: &[Text]) -> Result<(), Trouble> {
-    match arguments {
-        [] => Ok(()),
-        _ => Err(Trouble::Unreadable("no argument is wanted")),
-    }
-}
-
-/// The one argument.
-///
-/// # Errors
-/// `Unreadable` where there is none, or there are more.
+/// The one argument. Errors: `Unreadable` where there is none, or there are more.
 pub fn one(arguments: &[Text]) -> Result<&Text, Trouble> {
     match arguments {
         [first] => Ok(first),
@@ -29,10 +15,7 @@ pub fn one(arguments: &[Text]) -> Result<&Text, Trouble> {
     }
 }
 
-/// The two arguments.
-///
-/// # Errors
-/// `Unreadable` where there are fewer or more.
+/// The two arguments. Errors: `Unreadable` where there are fewer or more.
 pub fn two(arguments: &[Text]) -> Result<(&Text, &Text), Trouble> {
     match arguments {
         [first, second] => Ok((first, second)),
@@ -40,10 +23,7 @@ pub fn two(arguments: &[Text]) -> Result<(&Text, &Text), Trouble> {
     }
 }
 
-/// The three arguments.
-///
-/// # Errors
-/// `Unreadable` where there are fewer or more.
+/// The three arguments. Errors: `Unreadable` where there are fewer or more.
 pub fn three(arguments: &[Text]) -> Result<(&Text, &Text, &Text), Trouble> {
     match arguments {
         [first, second, third] => Ok((first, second, third)),
@@ -51,32 +31,7 @@ pub fn three(arguments: &[Text]) -> Result<(&Text, &Text, &Text), Trouble> {
     }
 }
 
-/// The four arguments.
-///
-/// # Errors
-/// `Unreadable` where there are fewer or more.
-pub fn four(arguments: &[Text]) -> Result<(&Text, &Text, &Text, &Text), Trouble> {
-    match arguments {
-        [first, second, third, fourth] => Ok((first, second, third, fourth)),
-        _ => Err(Trouble::Unreadable("four arguments are wanted")),
-    }
-}
-
-/// The five arguments.
-///
-/// # Errors
-/// `Unreadable` where there are fewer or more.
-pub fn five(arguments: &[Text]) -> Result<(&Text, &Text, &Text, &Text, &Text), Trouble> {
-    match arguments {
-        [first, second, third, fourth, fifth] => Ok((first, second, third, fourth, fifth)),
-        _ => Err(Trouble::Unreadable("five arguments are wanted")),
-    }
-}
-
-/// The first argument, and the others.
-///
-/// # Errors
-/// `Unreadable` where there is none.
+/// The first argument, and the others. Errors: `Unreadable` where there is none.
 pub fn one_and_more(arguments: &[Text]) -> Result<(&Text, &[Text]), Trouble> {
     match arguments {
         [first, others @ ..] => Ok((first, others)),
@@ -84,10 +39,7 @@ pub fn one_and_more(arguments: &[Text]) -> Result<(&Text, &[Text]), Trouble> {
     }
 }
 
-/// The first two arguments, and the others.
-///
-/// # Errors
-/// `Unreadable` where there are fewer than two.
+/// The first two arguments, and the others. Errors: `Unreadable` where there are fewer than two.
 pub fn two_and_more(arguments: &[Text]) -> Result<(&Text, &Text, &[Text]), Trouble> {
     match arguments {
         [first, second, others @ ..] => Ok((first, second, others)),
@@ -95,10 +47,7 @@ pub fn two_and_more(arguments: &[Text]) -> Result<(&Text, &Text, &[Text]), Troub
     }
 }
 
-/// The argument as a name.
-///
-/// # Errors
-/// `Unreadable` where it is none, and `OutOfMemory`.
+/// The argument as a name. Errors: `Unreadable` where it is none.
 pub fn name(alloc: Global, argument: &Text) -> Result<Name, Trouble> {
     match Name::read(alloc, argument.bytes()) {
         Ok(name) => Ok(name),
@@ -107,10 +56,7 @@ pub fn name(alloc: Global, argument: &Text) -> Result<Name, Trouble> {
     }
 }
 
-/// The argument as a path. The empty one is the path without names.
-///
-/// # Errors
-/// `Unreadable` where it is none, and `OutOfMemory`.
+/// The argument as a path. The empty one is the path without names. Errors: `Unreadable` where it is none.
 pub fn path(alloc: Global, argument: &Text) -> Result<Path, Trouble> {
     match Path::read(alloc, argument.bytes()) {
         Ok(path) => Ok(path),
@@ -119,21 +65,7 @@ pub fn path(alloc: Global, argument: &Text) -> Result<Path, Trouble> {
     }
 }
 
-/// The argument as 64 hexadecimal digits.
-///
-/// # Errors
-/// `Unreadable` where it is none.
-pub fn digest(argument: &Text) -> Result<Digest, Trouble> {
-    match Digest::read(argument.bytes()) {
-        Some(digest) => Ok(digest),
-        None => Err(Trouble::Unreadable("not a digest")),
-    }
-}
-
-/// The argument as a decimal number of at most so much.
-///
-/// # Errors
-/// `Unreadable` where it is none.
+/// The argument as a decimal number of at most so much. Errors: `Unreadable` where it is none.
 pub fn number(argument: &Text, most: u64) -> Result<u64, Trouble>
     ensures { IfOk result (λ number. number ≤ most) }
 {
@@ -143,41 +75,20 @@ pub fn number(argument: &Text, most: u64) -> Result<u64, Trouble>
     }
 }
 
-/// The argument as a decimal number below 4,294,967,296.
-///
-/// # Errors
-/// `Unreadable` where it is none.
+/// The argument as a decimal number below 4,294,967,296. Errors: `Unreadable` where it is none.
 pub fn small(argument: &Text) -> Result<u32, Trouble> {
     Ok(number(argument, 4_294_967_295)? as u32)
 }
 
-/// The argument as a decimal number that an index may be.
-///
-/// # Errors
-/// `Unreadable` where it is none.
+/// The argument as a decimal number that an index may be. Errors: `Unreadable` where it is none.
 pub fn size(argument: &Text) -> Result<usize, Trouble> {
     Ok(number(argument, u64::MAX)? as usize)
 }
 
-/// The argument as text.
-///
-/// # Errors
-/// `Unreadable` where it is not UTF-8.
+/// The argument as text. Errors: `Unreadable` where it is not UTF-8.
 pub fn string(argument: &Text) -> Result<&str, Trouble> {
     match str::from_utf8(argument.bytes()) {
         Ok(text) => Ok(text),
         Err(_) => Err(Trouble::Unreadable("not UTF-8")),
-    }
-}
-
-/// The argument as `yes` or `no`.
-///
-/// # Errors
-/// `Unreadable` where it is neither.
-pub fn flag(argument: &Text) -> Result<bool, Trouble> {
-    match string(argument)? {
-        "yes" => Ok(true),
-        "no" => Ok(false),
-        _ => Err(Trouble::Unreadable("neither yes nor no")),
     }
 }

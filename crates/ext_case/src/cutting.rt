@@ -25,9 +25,6 @@ struct Cutting {
 }
 
 /// The words of a line. A space stands between each two.
-///
-/// # Errors
-/// `Unreadable` where it has none or an empty one, or an escape is none, and `OutOfMemory`.
 pub(crate) fn words_of(alloc: Global, line: &[u8]) -> Result<Vec<Cut>, Trouble> {
     let mut cutting = Cutting {
         words: Vec::new(alloc),
@@ -70,9 +67,6 @@ impl Cutting {
 }
 
 /// A line with its escapes undone, and whether a lone backslash ends it.
-///
-/// # Errors
-/// `Unreadable` where an escape is none, and `OutOfMemory`.
 pub(crate) fn undone(alloc: Global, line: &[u8]) -> Result<(Vec<u8>, bool), Trouble> {
     let mut undoing = Undoing::new(alloc);
     for byte in line {
@@ -91,9 +85,6 @@ fn whole(undoing: Undoing) -> Result<Text, Trouble> {
 }
 
 /// A line with its escapes undone.
-///
-/// # Errors
-/// `Unreadable` where an escape is none or a lone backslash ends it, and `OutOfMemory`.
 pub(crate) fn whole_line(alloc: Global, line: &[u8]) -> Result<Text, Trouble> {
     let mut undoing = Undoing::new(alloc);
     for byte in line {

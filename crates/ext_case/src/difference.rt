@@ -6,9 +6,6 @@ use ext_text::Text;
 const MOST_SHOWN: usize = 300;
 
 /// Adds `wanted .. and came ..`, from the first line in which they differ on.
-///
-/// # Errors
-/// `OutOfMemory`.
 pub fn append_difference(text: &mut Text, wanted: &[u8], came: &[u8]) -> Result<(), Trouble> {
     let from = line_start(wanted, shared(wanted, came));
     if from > 0 {
@@ -54,9 +51,6 @@ fn append_rest(text: &mut Text, bytes: &[u8], from: usize) -> Result<(), Trouble
 }
 
 /// Adds bytes on one line, as a case would write them; of many bytes, the first.
-///
-/// # Errors
-/// `OutOfMemory`.
 pub fn append_shown(text: &mut Text, bytes: &[u8]) -> Result<(), Trouble> {
     for (index, byte) in bytes.iter().enumerate() {
         if index == MOST_SHOWN {

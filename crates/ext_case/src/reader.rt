@@ -17,10 +17,7 @@ struct Reader {
     open: Option<Named>,
 }
 
-/// The cases of a file.
-///
-/// # Errors
-/// The first line that can't be read, and why.
+/// The cases of a file. Errors: The first line that can't be read, and why.
 pub fn read_cases(alloc: Global, bytes: &[u8]) -> Result<Cases, Fault> {
     let mut reader = Reader {
         before: Case {

@@ -12,9 +12,6 @@ pub(crate) struct Repetition {
 
 /// Adds a text so many times. At each mark in it stands the number of the repetition, counted from 1,000,000 so that all
 /// have as many digits.
-///
-/// # Errors
-/// `OutOfMemory`.
 pub(crate) fn append_repeated(
     into: &mut Vec<u8>,
     text: &Vec<u8>,

@@ -33,9 +33,6 @@ impl Texts {
     }
 
     /// Adds one.
-    ///
-    /// # Errors
-    /// `Unreadable` where one has that name, and `OutOfMemory`.
     pub(crate) fn add(&mut self, named: Named, of_all: bool) -> Result<(), Trouble> {
         if self.find(named.name.bytes()).is_some() {
             return Err(Trouble::Unreadable("two texts of one name"));
@@ -57,9 +54,6 @@ impl Texts {
     }
 
     /// The text of a name, copied.
-    ///
-    /// # Errors
-    /// `Unreadable` where none has that name, and `OutOfMemory`.
     pub(crate) fn text(&self, name: &[u8]) -> Result<Text, Trouble> {
         match self.find(name) {
             Some(text) => Ok(text.copy()?),
@@ -68,9 +62,6 @@ impl Texts {
     }
 
     /// The words of a statement: those that are written by the name of a text are that text.
-    ///
-    /// # Errors
-    /// `Unreadable` where none has such a name, and `OutOfMemory`.
     pub(crate) fn words(&self, alloc: Global, cuts: Vec<Cut>) -> Result<Words, Trouble> {
         let mut words = Words::new(alloc);
         for cut in cuts {
@@ -97,9 +88,6 @@ fn found<'a>(texts: &'a [Named], name: &[u8]) -> Option<&'a Text> {
 }
 
 /// Adds a line of a text, with its escapes undone. A lone backslash at its end leaves out its newline.
-///
-/// # Errors
-/// `Unreadable` where an escape is none, and `OutOfMemory`.
 pub(crate) fn append_text_line(alloc: Global, text: &mut Text, line: &[u8]) -> Result<(), Trouble> {
     let (bytes, ends_open) = undone(alloc, line)?;
     text.append(bytes.as_slice())?;

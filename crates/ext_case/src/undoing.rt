@@ -42,9 +42,6 @@ impl Undoing {
     }
 
     /// Takes the next byte.
-    ///
-    /// # Errors
-    /// `Unreadable` where the bytes are no escape, and `OutOfMemory`.
     pub(crate) fn take(&mut self, alloc: Global, byte: u8) -> Result<(), Trouble> {
         match self.state {
             State::Plain => self.take_plain(byte),
@@ -61,9 +58,6 @@ impl Undoing {
     }
 
     /// The text, and whether a lone backslash ends it.
-    ///
-    /// # Errors
-    /// `Unreadable` where an escape or a repetition is open.
     pub(crate) fn finish(self) -> Result<(Vec<u8>, bool), Trouble> {
         let ends_open = matches!(self.state, State::Escape);
         if self.open.is_empty() && (ends_open || matches!(self.state, State::Plain)) {

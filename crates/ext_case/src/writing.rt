@@ -5,17 +5,11 @@ use ext_text::{Path, Text};
 use std::alloc::Global;
 
 /// These bytes, and no newline.
-///
-/// # Errors
-/// `OutOfMemory`.
 pub fn written(alloc: Global, bytes: &[u8]) -> Result<Text, Trouble> {
     Ok(Text::from_bytes(alloc, bytes)?)
 }
 
 /// A line of this text.
-///
-/// # Errors
-/// `OutOfMemory`.
 pub fn line_of(alloc: Global, line: &str) -> Result<Text, Trouble> {
     let mut text = Text::new(alloc);
     append_line(&mut text, line.as_bytes())?;
@@ -23,9 +17,6 @@ pub fn line_of(alloc: Global, line: &str) -> Result<Text, Trouble> {
 }
 
 /// The digits of a number.
-///
-/// # Errors
-/// `OutOfMemory`.
 pub fn number_text(alloc: Global, number: u64) -> Result<Text, Trouble> {
     let mut digits = Vec::new(alloc);
     append_decimal(&mut digits, number)?;
@@ -33,9 +24,6 @@ pub fn number_text(alloc: Global, number: u64) -> Result<Text, Trouble> {
 }
 
 /// A line of this number.
-///
-/// # Errors
-/// `OutOfMemory`.
 pub fn number_line(alloc: Global, number: u64) -> Result<Text, Trouble> {
     let mut text = Text::new(alloc);
     append_number(alloc, &mut text, number)?;
@@ -43,21 +31,7 @@ pub fn number_line(alloc: Global, number: u64) -> Result<Text, Trouble> {
     Ok(text)
 }
 
-/// A line of this path.
-///
-/// # Errors
-/// `OutOfMemory`.
-pub fn path_line(alloc: Global, path: &Path) -> Result<Text, Trouble> {
-    let mut text = Text::new(alloc);
-    append_path(alloc, &mut text, path)?;
-    text.append(b"\n")?;
-    Ok(text)
-}
-
 /// Adds bytes and a newline.
-///
-/// # Errors
-/// `OutOfMemory`.
 pub fn append_line(text: &mut Text, line: &[u8]) -> Result<(), Trouble> {
     text.append(line)?;
     text.append(b"\n")?;
@@ -65,18 +39,12 @@ pub fn append_line(text: &mut Text, line: &[u8]) -> Result<(), Trouble> {
 }
 
 /// Adds text.
-///
-/// # Errors
-/// `OutOfMemory`.
 pub fn append_str(text: &mut Text, more: &str) -> Result<(), Trouble> {
     text.append(more.as_bytes())?;
     Ok(())
 }
 
 /// Adds the digits of a number.
-///
-/// # Errors
-/// `OutOfMemory`.
 pub fn append_number(alloc: Global, text: &mut Text, number: u64) -> Result<(), Trouble> {
     let mut digits = Vec::new(alloc);
     append_decimal(&mut digits, number)?;
@@ -85,9 +53,6 @@ pub fn append_number(alloc: Global, text: &mut Text, number: u64) -> Result<(), 
 }
 
 /// Adds a path, with a slash between each two names.
-///
-/// # Errors
-/// `OutOfMemory`.
 pub fn append_path(alloc: Global, text: &mut Text, path: &Path) -> Result<(), Trouble> {
     let mut bytes = Vec::new(alloc);
     path.append_to(&mut bytes)?;

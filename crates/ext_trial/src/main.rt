@@ -1,10 +1,9 @@
 //! The program `ext_trial FILE ..`: carries out the cases of files, and tells which fail.
 //!
 //! A case is text: `tests/cases/README.md` shows how it is written. Its statements are carried out by the words of
-//! `ext_trial_values` and `ext_trial_hosts`, which call what works on values, and of `ext_trial_scenes`,
-//! which call what works on devices. A command over a real folder is this crate's own. Each case that fails is told as
-//! `FILE:LINE: NAME: wanted .. and came ..`, and the last line is `N passed, N failed`. The status is 1 where a case failed or a
-//! file can't be read, else 0.
+//! `ext_trial_values`, which call what works on values, and of `ext_trial_scenes`, which call what works on devices. A command
+//! over a real folder is this crate's own. Each case that fails is told as `FILE:LINE: NAME: wanted .. and came ..`, and the last
+//! line is `N passed, N failed`. The status is 1 where a case failed or a file can't be read, else 0.
 #![tactic(auto)]
 
 mod playing;

@@ -5,9 +5,6 @@ use ext_case::{Case, Statement, Trouble, one_and_more, string};
 use ext_text::Text;
 
 /// The first statement of a case that fails; `None` where none does.
-///
-/// # Errors
-/// `OutOfMemory`.
 pub(crate) fn play(
     rt: &HostRuntime,
     before: &Case,

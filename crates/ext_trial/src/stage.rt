@@ -24,9 +24,6 @@ impl Stage {
 }
 
 /// What a statement writes; `None` where its word is none.
-///
-/// # Errors
-/// `Unreadable` where it can't be carried out, and `OutOfMemory`.
 pub(crate) fn answer(
     rt: &HostRuntime,
     stage: &mut Stage,
@@ -35,9 +32,6 @@ pub(crate) fn answer(
 ) -> Result<Option<Text>, Trouble> {
     let alloc = rt.alloc();
     if let Some(text) = ext_trial_values::answer(alloc, word, arguments)? {
-        return Ok(Some(text));
-    }
-    if let Some(text) = ext_trial_hosts::answer(alloc, word, arguments)? {
         return Ok(Some(text));
     }
     match (word, &stage.folders) {

@@ -8,9 +8,7 @@ use ext_text::{Path, Text};
 use std::alloc::Global;
 
 /// What a read of `PATH AT ROOM` gives: the bytes, `nothing` where no file stands, or `a fault`. It asks for the size first.
-///
-/// # Errors
-/// `Unreadable` where the arguments are others or there is no room, and `OutOfMemory`.
+/// Errors: `Unreadable` where the arguments are others or there is no room.
 pub fn read_text(
     alloc: Global,
     depot: &mut MemoryDepot,

@@ -19,10 +19,7 @@ use std::alloc::Global;
 ///
 /// The condition is looked for by two calls `kind`, at the folder around the path and at the path, of a rename at both
 /// paths, and the root is its own folder. So the call is the third of three, but for `kind` itself, which has no condition,
-/// and for the removal of a folder, which is listed first.
-///
-/// # Errors
-/// `Unreadable` where it is no call, and `OutOfMemory`.
+/// and for the removal of a folder, which is listed first. Errors: `Unreadable` where it is no call.
 pub fn call_text(
     alloc: Global,
     disk: &mut MemoryDisk,
@@ -133,9 +130,6 @@ fn has_folder<D: Disk>(disk: &mut D, path: &Path, around: &Path) -> Result<bool,
 }
 
 /// The names in a folder; `None` where none stands at the path.
-///
-/// # Errors
-/// The disk failed, or out of memory.
 pub(crate) fn list<D: Disk>(
     alloc: Global,
     disk: &mut D,

@@ -10,9 +10,6 @@ use std::alloc::Global;
 const MOST_SHOWN: usize = 65_536;
 
 /// Adds what stands at a path.
-///
-/// # Errors
-/// `OutOfMemory`.
 pub(crate) fn append_kind(
     alloc: Global,
     text: &mut Text,
@@ -28,10 +25,7 @@ pub(crate) fn append_kind(
     }
 }
 
-/// The bytes of a file, or a line that says why there are none.
-///
-/// # Errors
-/// `Unreadable` where it is no path, and `OutOfMemory`.
+/// The bytes of a file, or a line that says why there are none. Errors: `Unreadable` where it is no path.
 pub fn file_text(alloc: Global, disk: &mut MemoryDisk, at: &Text) -> Result<Text, Trouble> {
     match read_file(alloc, disk, &path(alloc, at)?, MOST_SHOWN) {
         Ok(Found::File(text)) => Ok(text),
@@ -44,9 +38,6 @@ pub fn file_text(alloc: Global, disk: &mut MemoryDisk, at: &Text) -> Result<Text
 
 /// A line for each call that the disk was asked for, or for the last so many of them: which, its path, and its bytes where it
 /// has some.
-///
-/// # Errors
-/// `OutOfMemory`.
 pub fn calls_text(alloc: Global, disk: &MemoryDisk, count: u64) -> Result<Text, Trouble> {
     let mut text = Text::new(alloc);
     let first = disk.calls().saturating_sub(count);
@@ -85,10 +76,7 @@ fn name_of(op: DiskOp) -> &'static str {
     }
 }
 
-/// A line of the sizes of the calls of one kind at a path, with a space between each two.
-///
-/// # Errors
-/// `Unreadable` where it is no path, and `OutOfMemory`.
+/// A line of the sizes of the calls of one kind at a path, with a space between each two. Errors: `Unreadable` where it is no path.
 pub fn sizes_text(
     alloc: Global,
     disk: &MemoryDisk,

@@ -28,9 +28,6 @@ impl Outcome {
 }
 
 /// Adds why what is in a store folder is no store: ` broken` and the line, or a space and what is damaged.
-///
-/// # Errors
-/// `OutOfMemory`.
 pub fn append_bad_store(alloc: Global, text: &mut Text, bad: &BadStore) -> Result<(), Trouble> {
     match bad {
         BadStore::Broken { line } => {
@@ -45,9 +42,6 @@ pub fn append_bad_store(alloc: Global, text: &mut Text, bad: &BadStore) -> Resul
 }
 
 /// Adds where a damaged file is kept, its stamp, and that of what stands there, or `-`.
-///
-/// # Errors
-/// `OutOfMemory`.
 pub(crate) fn append_damage(
     alloc: Global,
     text: &mut Text,
@@ -64,9 +58,6 @@ pub(crate) fn append_damage(
 }
 
 /// Adds a space, a size, a space and a digest.
-///
-/// # Errors
-/// `OutOfMemory`.
 pub(crate) fn append_stamp(alloc: Global, text: &mut Text, stamp: &Stamp) -> Result<(), Trouble> {
     append_field(alloc, text, stamp.size)?;
     append_str(text, " ")?;
@@ -75,9 +66,6 @@ pub(crate) fn append_stamp(alloc: Global, text: &mut Text, stamp: &Stamp) -> Res
 }
 
 /// Adds a space and a number.
-///
-/// # Errors
-/// `OutOfMemory`.
 pub fn append_field(alloc: Global, text: &mut Text, number: u64) -> Result<(), Trouble> {
     append_str(text, " ")?;
     append_number(alloc, text, number)

@@ -10,10 +10,7 @@ use ext_store_files::{make_folder, sync_folder, write_file};
 use ext_text::{Name, Path, Text, Words};
 use std::alloc::Global;
 
-/// A path, cut before its last name.
-///
-/// # Errors
-/// `Unreadable` where it has none, and `OutOfMemory`.
+/// A path, cut before its last name. Errors: `Unreadable` where it has none.
 pub fn cut(alloc: Global, bytes: &[u8]) -> Result<(Path, Name), Trouble> {
     let (dir, last) = match bytes.iter().rposition(|byte| *byte == b'/') {
         Some(at) => around(bytes, at),
@@ -31,10 +28,7 @@ fn around(bytes: &[u8], at: usize) -> (&[u8], &[u8]) {
     }
 }
 
-/// The path of a name in a folder.
-///
-/// # Errors
-/// `Unreadable` where it would be too long, and `OutOfMemory`.
+/// The path of a name in a folder. Errors: `Unreadable` where it would be too long.
 pub fn below(dir: &Path, name: &Name) -> Result<Path, Trouble>
     ensures { IfOk result (λ path. path ≡ dir.now ++ name.now ∷ []) }
 {
@@ -45,9 +39,6 @@ pub fn below(dir: &Path, name: &Name) -> Result<Path, Trouble>
 }
 
 /// Whether the folder is there, and nothing of the name in it.
-///
-/// # Errors
-/// The disk failed.
 pub(crate) fn is_free<D: Disk>(
     disk: &mut D,
     dir: &Path,
@@ -74,9 +65,7 @@ enum Standing<'a> {
 
 /// `folder PATH`, `file PATH BYTES`, `files PATH COUNT` or `sync PATH`: makes a folder, a file or so many empty ones whose names are
 /// numbers from 0 on, in the place of a file that stood there, with the folders above it; or syncs the names in a folder.
-///
-/// # Errors
-/// `Unreadable` where it can't stand there or the disk fails, and `OutOfMemory`.
+/// Errors: `Unreadable` where it can't stand there or the disk fails.
 pub fn put_on(alloc: Global, disk: &mut MemoryDisk, arguments: &[Text]) -> Result<(), Trouble> {
     let (kind, at, rest) = two_and_more(arguments)?;
     match string(kind)? {
@@ -157,9 +146,6 @@ fn sync_there<D: Disk>(disk: &mut D, dir: &Path) -> Result<(), Failed> {
 }
 
 /// The outcome of a call that a case asks for and that may not fail.
-///
-/// # Errors
-/// `Unreadable` where it failed.
 pub(crate) fn told<T>(outcome: Result<T, Failed>) -> Result<T, Trouble> {
     match outcome {
         Ok(value) => Ok(value),

@@ -23,9 +23,7 @@ pub struct Spot {
 }
 
 /// What stands on a disk, a folder before what is in it. The root is not told.
-///
-/// # Errors
-/// `Unreadable` where the disk fails or there is too much on it, and `OutOfMemory`.
+/// Errors: `Unreadable` where the disk fails or there is too much on it.
 pub fn spots_on(alloc: Global, disk: &mut MemoryDisk) -> Result<Vec<Spot>, Trouble> {
     let mut spots = Vec::new(alloc);
     let mut left = Vec::new(alloc);
@@ -77,9 +75,6 @@ fn bytes_at(alloc: Global, disk: &mut MemoryDisk, at: &Path) -> Result<Text, Tro
 }
 
 /// A line for each spot: `folder PATH`, or `file PATH BYTES`.
-///
-/// # Errors
-/// `OutOfMemory`.
 pub fn whole_text(alloc: Global, spots: &[Spot]) -> Result<Text, Trouble> {
     let mut text = written(alloc, b"")?;
     for spot in spots {

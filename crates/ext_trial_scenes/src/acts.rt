@@ -85,9 +85,6 @@ pub(crate) fn empty_disk(alloc: Global) -> MemoryDisk {
 }
 
 /// A depot of these files, of which these calls fail.
-///
-/// # Errors
-/// `OutOfMemory`.
 pub(crate) fn depot_of(alloc: Global, files: &Files, fails: Calls) -> Result<MemoryDepot, Trouble> {
     let mut depot = MemoryDepot::new(alloc, fails);
     for (at, bytes) in files.iter() {
@@ -97,9 +94,6 @@ pub(crate) fn depot_of(alloc: Global, files: &Files, fails: Calls) -> Result<Mem
 }
 
 /// Empty disks and a depot of these files, on which nothing fails.
-///
-/// # Errors
-/// `OutOfMemory`.
 pub(crate) fn fresh_devices(alloc: Global, files: &Files) -> Result<MemoryDevices, Trouble> {
     let depot = depot_of(alloc, files, Calls::new(alloc))?;
     Ok(MemoryDevices {
@@ -109,9 +103,6 @@ pub(crate) fn fresh_devices(alloc: Global, files: &Files) -> Result<MemoryDevice
 }
 
 /// Stops a disk now, and goes on with what is left of it.
-///
-/// # Errors
-/// `OutOfMemory`.
 pub(crate) fn stop_disk(
     alloc: Global,
     devices: &mut MemoryDevices,
@@ -124,9 +115,6 @@ pub(crate) fn stop_disk(
 }
 
 /// How an act ends over these streams. What puts things on a disk writes nothing.
-///
-/// # Errors
-/// `Unreadable` where the act can't be done there, and `OutOfMemory`.
 pub(crate) fn act_over(
     alloc: Global,
     act: &Act,
@@ -160,9 +148,6 @@ fn done(alloc: Global, reply: Text) -> Result<Outcome, Trouble> {
 }
 
 /// How an act ends over streams on which nothing fails.
-///
-/// # Errors
-/// As for [`act_over`].
 pub(crate) fn act_on(
     alloc: Global,
     act: &Act,
@@ -172,9 +157,6 @@ pub(crate) fn act_on(
 }
 
 /// Does all of these acts, each of which ends well.
-///
-/// # Errors
-/// `Unreadable` where one does not, and `OutOfMemory`.
 pub(crate) fn act_all(
     alloc: Global,
     acts: &[Act],

@@ -1,9 +1,8 @@
 // A change is made once for each call that it makes, with that call failing or the disk stopped there.
 use crate::acts::{
-    MemoryDevices, act_on, act_over, depot_of, empty_disk, fresh_devices, stop_disk,
+    MemoryDevices, Side, act_on, act_over, depot_of, empty_disk, fresh_devices, stop_disk,
 };
-use crate::ends::{Ends, Play, Told, agree, ask, ends_apart, ends_of, prepare};
-use crate::exits::{Device, Stream, is_borne};
+use crate::ends::{Done, Ends, Play, ask, ends_of, prepare};
 use crate::streams::{Streams, only};
 use ext_case::{Trouble, append_str};
 use ext_disk::{MemoryDisk, Pick};
@@ -16,114 +15,62 @@ use std::mem;
 // As many calls of one device are tried at most.
 const MOST_CALLS: u64 = 100_000;
 
-fn append_call(alloc: Global, text: &mut Text, word: &str, call: u64) -> Result<(), Trouble> {
+/// A device of a change.
+#[derive(Clone, Copy)]
+pub(crate) enum Device {
+    /// Where a command reads from.
+    Source,
+    /// Where it writes to.
+    Sink,
+    /// The disk of which statements speak. It stops at a call and leaves what the pick says, or the call fails alone.
+    Disk(Option<Pick>),
+    /// The depot.
+    Depot,
+}
+
+/// Lets each call of the device that the change makes fail alone, or stops the disk there and after the change. Gives how many calls that
+/// are, and writes those that the change does not bear.
+pub(crate) fn fail_every(
+    alloc: Global,
+    play: &Play<'_>,
+    device: Device,
+    text: &mut Text,
+) -> Result<u64, Trouble> {
+    let mut devices = fresh_devices(alloc, play.files)?;
+    let ends = ends_of(alloc, play, &mut devices)?;
+    if !matches!(device, Device::Source | Device::Sink) && !ends.are_apart() {
+        return Err(Trouble::Unreadable("the change does nothing that can be told"));
+    }
+    let last = last_call(&ends, device);
+    for call in 1..=last {
+        match fault(alloc, play, &ends, (device, call), &mut devices)? {
+            Borne::NoSuchCall => return Ok(call.saturating_sub(1)),
+            Borne::Well => {}
+            Borne::Badly => append_call(alloc, text, "call", call)?,
+        }
+    }
+    Ok(last)
+}
+
+/// Adds a line of a word and a number.
+pub(crate) fn append_call(
+    alloc: Global,
+    text: &mut Text,
+    word: &str,
+    number: u64,
+) -> Result<(), Trouble> {
     append_str(text, word)?;
-    append_field(alloc, text, call)?;
+    append_field(alloc, text, number)?;
     append_str(text, "\n")
 }
 
-/// Stops the disk at each call of the change, and after it. What a stop leaves by this pick is what a fault of the disk may
-/// leave, and after the change what stands then. Writes the calls where it is not.
-///
-/// # Errors
-/// `Unreadable` where the scene can't be played, and `OutOfMemory`.
-pub(crate) fn stop_every(
-    alloc: Global,
-    play: &Play<'_>,
-    pick: Pick,
-    text: &mut Text,
-) -> Result<(), Trouble> {
-    let mut devices = fresh_devices(alloc, play.files)?;
-    let ends = ends_apart(alloc, play, &mut devices)?;
-    for stop in 1..=ends.calls_after {
-        if stop > ends.calls_before && !survives(alloc, play, &ends, stop, pick, &mut devices)? {
-            append_call(alloc, text, "stop", stop)?;
-        }
+// The last call that is tried. A disk is stopped once after the change, too.
+fn last_call(ends: &Ends, device: Device) -> u64 {
+    match device {
+        Device::Disk(None) => ends.calls,
+        Device::Disk(Some(_)) => ends.calls.saturating_add(1),
+        _ => MOST_CALLS,
     }
-    if !stays(alloc, play, &ends, pick, &mut devices)? {
-        append_str(text, "stop after the change\n")?;
-    }
-    Ok(())
-}
-
-// Whether a stop at this call leaves, by this pick, what a fault of the disk may leave.
-fn survives(
-    alloc: Global,
-    play: &Play<'_>,
-    ends: &Ends,
-    stop: u64,
-    pick: Pick,
-    devices: &mut MemoryDevices,
-) -> Result<bool, Trouble> {
-    let disk = MemoryDisk::new(alloc, Calls::new(alloc), Some(stop));
-    prepare(alloc, play, disk, devices)?;
-    let outcome = act_on(alloc, play.change, devices)?;
-    let found = ask_after_stop(alloc, play, pick, devices)?;
-    Ok(is_borne(ends, Device::Disk(play.side), &outcome, &found))
-}
-
-// Whether a stop after the change leaves what stands after it.
-fn stays(
-    alloc: Global,
-    play: &Play<'_>,
-    ends: &Ends,
-    pick: Pick,
-    devices: &mut MemoryDevices,
-) -> Result<bool, Trouble> {
-    prepare(alloc, play, empty_disk(alloc), devices)?;
-    let outcome = act_on(alloc, play.change, devices)?;
-    let found = ask_after_stop(alloc, play, pick, devices)?;
-    Ok(outcome.is_status("0") && stands_after(ends, &found))
-}
-
-fn stands_after(ends: &Ends, found: &Told) -> bool {
-    match ends.lines.last() {
-        Some(last) => agree(found, &last.told),
-        None => false,
-    }
-}
-
-fn ask_after_stop(
-    alloc: Global,
-    play: &Play<'_>,
-    pick: Pick,
-    devices: &mut MemoryDevices,
-) -> Result<Told, Trouble> {
-    stop_disk(alloc, devices, play.side, pick)?;
-    ask(alloc, play.change, devices)
-}
-
-/// Lets each call of the disk that the change makes fail alone. Writes the calls that it does not bear.
-///
-/// # Errors
-/// `Unreadable` where the scene can't be played, and `OutOfMemory`.
-pub(crate) fn fail_disk_every(
-    alloc: Global,
-    play: &Play<'_>,
-    text: &mut Text,
-) -> Result<(), Trouble> {
-    let mut devices = fresh_devices(alloc, play.files)?;
-    let ends = ends_apart(alloc, play, &mut devices)?;
-    for call in 1..=ends.calls_after {
-        if call > ends.calls_before && !bears_disk_fault(alloc, play, &ends, call, &mut devices)? {
-            append_call(alloc, text, "disk", call)?;
-        }
-    }
-    Ok(())
-}
-
-fn bears_disk_fault(
-    alloc: Global,
-    play: &Play<'_>,
-    ends: &Ends,
-    call: u64,
-    devices: &mut MemoryDevices,
-) -> Result<bool, Trouble> {
-    let disk = MemoryDisk::new(alloc, only(alloc, call)?, None);
-    prepare(alloc, play, disk, devices)?;
-    let outcome = act_on(alloc, play.change, devices)?;
-    let found = ask(alloc, play.change, devices)?;
-    Ok(is_borne(ends, Device::Disk(play.side), &outcome, &found))
 }
 
 // What came of a fault.
@@ -135,95 +82,135 @@ enum Borne {
     Badly,
 }
 
-fn judge(ends: &Ends, device: Device, outcome: &Outcome, found: &Told) -> Borne {
-    if outcome.is_same(&ends.outcome) {
-        Borne::NoSuchCall
-    } else if is_borne(ends, device, outcome, found) {
-        Borne::Well
-    } else {
-        Borne::Badly
-    }
-}
-
-/// Lets each call of the depot that the change makes fail alone. Gives how many calls there are, and writes those that it does
-/// not bear.
-///
-/// # Errors
-/// `Unreadable` where the scene can't be played, and `OutOfMemory`.
-pub(crate) fn fail_depot_every(
-    alloc: Global,
-    play: &Play<'_>,
-    text: &mut Text,
-) -> Result<u64, Trouble> {
-    let mut devices = fresh_devices(alloc, play.files)?;
-    let ends = ends_apart(alloc, play, &mut devices)?;
-    for call in 1..MOST_CALLS {
-        match depot_fault(alloc, play, &ends, call, &mut devices)? {
-            Borne::NoSuchCall => return Ok(call - 1),
-            Borne::Well => {}
-            Borne::Badly => append_call(alloc, text, "depot", call)?,
-        }
-    }
-    Err(Trouble::Unreadable("too many calls of the depot"))
-}
-
-fn depot_fault(
+fn fault(
     alloc: Global,
     play: &Play<'_>,
     ends: &Ends,
+    at: (Device, u64),
+    devices: &mut MemoryDevices,
+) -> Result<Borne, Trouble> {
+    let outcome = made(alloc, play, ends, at, devices)?;
+    let is_same = outcome.is_same(&ends.outcome);
+    // A source is read to its end before the disk is looked at.
+    let is_early = devices.store.disk.calls() == ends.calls_before;
+    match at.0 {
+        Device::Disk(None) => {}
+        Device::Disk(Some(pick)) => stop_disk(alloc, devices, play.side, pick)?,
+        _ if is_same => return Ok(Borne::NoSuchCall),
+        _ => {}
+    }
+    let found = ask(alloc, play.change, devices)?;
+    let is_well = match at {
+        (Device::Source, _) if !is_early => false,
+        (Device::Disk(_), call) if call > ends.calls => is_same && stands_after(ends, &found),
+        (device, _) => is_borne(ends, device, play.side, &outcome, &found),
+    };
+    Ok(if is_well { Borne::Well } else { Borne::Badly })
+}
+
+fn stands_after(ends: &Ends, found: &Text) -> bool {
+    match ends.lines.last() {
+        Some(last) => found.bytes() == last.told.bytes(),
+        None => false,
+    }
+}
+
+// Makes the change where a call of the device fails.
+fn made(
+    alloc: Global,
+    play: &Play<'_>,
+    ends: &Ends,
+    at: (Device, u64),
+    devices: &mut MemoryDevices,
+) -> Result<Outcome, Trouble> {
+    let (device, call) = at;
+    prepare(alloc, play, disk_of(alloc, ends, device, call)?, devices)?;
+    if matches!(device, Device::Depot) {
+        return made_beside(alloc, play, call, devices);
+    }
+    let mut streams = Streams::new(play.change.source.copy()?);
+    streams.piece = play.piece;
+    streams.fail(device, call);
+    act_over(alloc, play.change, &streams, devices)
+}
+
+// An empty disk, which fails at this call of the change where it is the device.
+fn disk_of(alloc: Global, ends: &Ends, device: Device, call: u64) -> Result<MemoryDisk, Trouble> {
+    let call = ends.calls_before.saturating_add(call);
+    match device {
+        Device::Disk(None) => Ok(MemoryDisk::new(alloc, only(alloc, call)?, None)),
+        Device::Disk(Some(_)) => Ok(MemoryDisk::new(alloc, Calls::new(alloc), Some(call))),
+        _ => Ok(empty_disk(alloc)),
+    }
+}
+
+// Makes the change beside a depot of which a call fails.
+fn made_beside(
+    alloc: Global,
+    play: &Play<'_>,
     call: u64,
     devices: &mut MemoryDevices,
-) -> Result<Borne, Trouble> {
-    prepare(alloc, play, empty_disk(alloc), devices)?;
+) -> Result<Outcome, Trouble> {
     let failing = depot_of(alloc, play.files, only(alloc, call)?)?;
     let depot = mem::replace(&mut devices.store.depot, failing);
-    let outcome = act_on(alloc, play.change, devices)?;
+    let outcome = act_on(alloc, play.change, devices);
     devices.store.depot = depot;
-    let found = ask(alloc, play.change, devices)?;
-    Ok(judge(ends, Device::Depot, &outcome, &found))
+    outcome
 }
 
-/// Lets each call of a stream fail alone that a command makes, over streams of its source. Writes how many calls there are, and
-/// those that it does not bear.
-///
-/// # Errors
-/// `Unreadable` where the scene can't be played or the command makes too many calls, and `OutOfMemory`.
-pub(crate) fn fail_stream_every(
-    alloc: Global,
-    play: &Play<'_>,
-    streams: &mut Streams,
-    stream: Stream,
-    text: &mut Text,
-) -> Result<(), Trouble> {
-    let mut devices = fresh_devices(alloc, play.files)?;
-    let ends = ends_of(alloc, play, &mut devices)?;
-    for call in 1..MOST_CALLS {
-        streams.fail(stream, call);
-        match stream_fault(alloc, play, &ends, streams, stream, &mut devices)? {
-            Borne::NoSuchCall => return append_call(alloc, text, "calls", call - 1),
-            Borne::Well => {}
-            Borne::Badly => append_call(alloc, text, "call", call)?,
+// Whether a change that ended so, and left this, did what it may where a call of the device failed. The first of its lines
+// were done and wrote their replies, and one was not:
+//
+// | device | status | written of that line's reply | what the store tells |
+// |---|---|---|---|
+// | source | 3 | nothing, nor of another's | what it told before the change |
+// | sink | 4 | a proper prefix | what it tells after the line |
+// | disk | 5 | a prefix | what it tells before the line, or after it |
+// | depot | 6 | nothing | what it tells before the line |
+//
+// A run that publishes writes nothing where a disk fails, and ends with 6 where that is the one in which it publishes.
+fn is_borne(ends: &Ends, device: Device, side: Side, outcome: &Outcome, found: &Text) -> bool {
+    let written = outcome.reply.bytes();
+    outcome.is_status(status_of(device, side))
+        && match device {
+            Device::Source => written.is_empty() && found.bytes() == ends.first.bytes(),
+            Device::Disk(_) if ends.publishes && !written.is_empty() => false,
+            _ => is_left(ends, device, written, found.bytes()),
         }
-    }
-    Err(Trouble::Unreadable("too many calls of the stream"))
 }
 
-fn stream_fault(
-    alloc: Global,
-    play: &Play<'_>,
-    ends: &Ends,
-    streams: &Streams,
-    stream: Stream,
-    devices: &mut MemoryDevices,
-) -> Result<Borne, Trouble> {
-    prepare(alloc, play, empty_disk(alloc), devices)?;
-    let outcome = act_over(alloc, play.change, streams, devices)?;
-    let is_early = devices.store.disk.calls() == ends.calls_before;
-    let found = ask(alloc, play.change, devices)?;
-    let borne = judge(ends, Device::Stream(stream), &outcome, &found);
-    Ok(match (borne, stream) {
-        // A source is read to its end before the disk is looked at.
-        (Borne::Well, Stream::Source) if !is_early => Borne::Badly,
-        _ => borne,
-    })
+fn status_of(device: Device, side: Side) -> &'static str {
+    match (device, side) {
+        (Device::Source, _) => "3",
+        (Device::Sink, _) => "4",
+        (Device::Disk(_), Side::Store) => "5",
+        (Device::Disk(_), Side::Out) | (Device::Depot, _) => "6",
+    }
+}
+
+// Whether one of the lines may be the one that was not done.
+fn is_left(ends: &Ends, device: Device, written: &[u8], found: &[u8]) -> bool {
+    let mut before = ends.first.bytes();
+    let mut rest = written;
+    for line in ends.lines.iter() {
+        if is_left_by_line(before, line, device, rest, found) {
+            return true;
+        }
+        match rest.strip_prefix(line.reply.bytes()) {
+            Some(after) => rest = after,
+            None => return false,
+        }
+        before = line.told.bytes();
+    }
+    false
+}
+
+fn is_left_by_line(before: &[u8], line: &Done, device: Device, part: &[u8], found: &[u8]) -> bool {
+    let (reply, after) = (line.reply.bytes(), line.told.bytes());
+    match device {
+        Device::Source => false,
+        Device::Sink => part.len() < reply.len() && reply.starts_with(part) && found == after,
+        Device::Disk(_) => reply.starts_with(part) && (found == before || found == after),
+        Device::Depot => part.is_empty() && found == before,
+    }
 }

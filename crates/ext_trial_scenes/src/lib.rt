@@ -3,16 +3,12 @@
 //! A [`Scene`] is what the statements of a case have made so far. [`answer`] carries out one statement over it. Commands run
 //! through [`ext_top::run`], runs that publish through [`ext_publish::publish`], and what neither shows is looked at by the calls of
 //! the devices. The `every` forms play the scene again on fresh devices, once for each call of its last run, and say where it leaves
-//! neither what stood before nor what stands after.
+//! neither what stood before nor what stands after. A call gives `Unreadable` where a statement can't mean that there, and `OutOfMemory`.
 #![tactic(auto)]
 
 mod acts;
-mod batches;
-mod command_words;
 mod ends;
 mod every;
-mod exits;
-mod laws;
 mod publishing;
 mod resources;
 mod scene;

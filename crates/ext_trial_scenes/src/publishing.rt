@@ -12,9 +12,6 @@ use ext_trial_disks::{
 use std::alloc::Global;
 
 /// How a run of these words ends.
-///
-/// # Errors
-/// `OutOfMemory`, of the runner and not of the run.
 pub(crate) fn publish_over(
     alloc: Global,
     words: &Words,
@@ -50,9 +47,6 @@ fn status_text(alloc: Global, status: &PubStatus) -> Result<Text, Trouble> {
 
 /// What stands on the disk in which is published. While the manifest does not list what the words name, that is without what a run
 /// of them may leave there: what is at and below the coming manifest, the tree text and the resource, and the folders above.
-///
-/// # Errors
-/// `Unreadable` where the words are not three or the disk fails, and `OutOfMemory`.
 pub(crate) fn left_text(
     alloc: Global,
     words: &Words,

@@ -1,4 +1,5 @@
 // Resources of the depot, whose tree texts follow from their entries, and manifests that list files.
+use crate::acts::Files;
 use crate::scene::Scene;
 use ext_case::{Trouble, append_line, name, one, one_and_more, path, written};
 use ext_lines::read_octal;
@@ -91,31 +92,30 @@ pub(crate) fn is_entry(word: &str) -> bool {
 }
 
 /// `resource NAME`: a resource of the depot without entries.
-///
-/// # Errors
-/// `Unreadable` where it is no path, and `OutOfMemory`.
-pub(crate) fn begin(alloc: Global, scene: &mut Scene, arguments: &[Text]) -> Result<Text, Trouble> {
+pub(crate) fn begin(alloc: Global, scene: &mut Scene, name: &Text) -> Result<(), Trouble> {
     let resource = Resource {
-        at: one(arguments)?.copy()?,
+        at: name.copy()?,
         entries: BTreeMap::new(alloc),
     };
+    keep(alloc, scene, resource)
+}
+
+// Puts the tree text of a resource into the depot. Statements that follow speak of it.
+fn keep(alloc: Global, scene: &mut Scene, resource: Resource) -> Result<(), Trouble> {
     let (at, text) = resource.tree(alloc)?;
     scene.put(at, text)?;
     scene.resource = Some(resource);
-    Ok(Text::new(alloc))
+    Ok(())
 }
 
 /// `f PATH BYTES`, `l PATH TARGET`, `d PATH`, `o PATH` or `w PATH`, of which the first and the last but one may have a mode as in
 /// `f:755`: an entry of the resource, in the place of one that stood there.
-///
-/// # Errors
-/// `Unreadable` where it can't stand there, and `OutOfMemory`.
 pub(crate) fn put(
     alloc: Global,
     scene: &mut Scene,
     word: &str,
     arguments: &[Text],
-) -> Result<Text, Trouble> {
+) -> Result<(), Trouble> {
     let (at, rest) = one_and_more(arguments)?;
     let at = path(alloc, at)?;
     let entry = entry_of(word.as_bytes(), rest)?;
@@ -133,16 +133,13 @@ fn put_into(
     at: Path,
     entry: Entry<Stamp>,
     rest: &[Text],
-) -> Result<Text, Trouble> {
+) -> Result<(), Trouble> {
     if entry.is_file() {
         let file = resource.file(alloc, &at)?;
         scene.put(file, one(rest)?.copy()?)?;
     }
     resource.entries.insert(at, entry)?;
-    let (tree, text) = resource.tree(alloc)?;
-    scene.put(tree, text)?;
-    scene.resource = Some(resource);
-    Ok(Text::new(alloc))
+    keep(alloc, scene, resource)
 }
 
 // The entry of a word, and of what stands behind its path.
@@ -168,24 +165,28 @@ fn stamp_of(bytes: &Text) -> Stamp {
 }
 
 /// `listed PATH ..`: each file of the depot is listed in the manifest of its folder, in the order of the names.
-///
-/// # Errors
-/// `Unreadable` where there is no such file, and `OutOfMemory`.
-pub(crate) fn list(alloc: Global, scene: &mut Scene, arguments: &[Text]) -> Result<Text, Trouble> {
+pub(crate) fn list(alloc: Global, scene: &mut Scene, arguments: &[Text]) -> Result<(), Trouble> {
     for argument in arguments {
-        let (dir, file) = cut(alloc, argument.bytes())?;
-        let sums = below(&dir, &name(alloc, &written(alloc, b"SHA256SUMS")?)?)?;
-        let Some(bytes) = scene.files.get(&path(alloc, argument)?) else {
-            return Err(Trouble::Unreadable("no such file in the depot"));
-        };
-        let line = line_of(alloc, bytes.bytes(), file.bytes())?;
-        let text = match scene.files.get(&sums) {
-            Some(old) => with_line(alloc, old.bytes(), line.bytes())?,
-            None => with_line(alloc, b"", line.bytes())?,
-        };
+        let (sums, text) = listed(alloc, &scene.files, argument)?;
         scene.put(sums, text)?;
     }
-    Ok(Text::new(alloc))
+    Ok(())
+}
+
+// Where the manifest of a file's folder stands, and its text once it lists the file.
+fn listed(alloc: Global, files: &Files, at: &Text) -> Result<(Path, Text), Trouble> {
+    let Some(bytes) = files.get(&path(alloc, at)?) else {
+        return Err(Trouble::Unreadable("no such file in the depot"));
+    };
+    let (dir, file) = cut(alloc, at.bytes())?;
+    let line = line_of(alloc, bytes.bytes(), file.bytes())?;
+    let sums = below(&dir, &name(alloc, &written(alloc, b"SHA256SUMS")?)?)?;
+    let old = match files.get(&sums) {
+        Some(old) => old.bytes(),
+        None => b"",
+    };
+    let text = with_line(alloc, old, line.bytes())?;
+    Ok((sums, text))
 }
 
 fn line_of(alloc: Global, bytes: &[u8], file: &[u8]) -> Result<Text, Trouble> {

@@ -1,9 +1,8 @@
 // What the statements of a case have made so far.
-mod plays;
 mod runs;
 
 use crate::acts::{Act, Files, MemoryDevices, Side, act_on, depot_of};
-use crate::exits::Stream;
+use crate::every::Device;
 use crate::resources::Resource;
 use crate::streams::{Streams, beside_streams};
 use ext_case::Trouble;
@@ -110,9 +109,6 @@ impl Scene {
     }
 
     /// Makes a later call of the disk fail, or this one and all that follow. What was done is done again on a disk that does so.
-    ///
-    /// # Errors
-    /// `Unreadable` where it can't be done, and `OutOfMemory`.
     pub(crate) fn fail_disk(
         &mut self,
         alloc: Global,
@@ -135,21 +131,18 @@ impl Scene {
         Ok(())
     }
 
-    /// Makes a call of the depot fail.
-    ///
-    /// # Errors
-    /// `Unreadable` where the devices were used already.
-    pub(crate) fn fail_depot(&mut self, call: u64) -> Result<(), Trouble> {
-        if self.devices.is_some() {
-            return Err(Trouble::Unreadable("the devices were used already"));
+    /// Makes a call of a device fail: a later one of the disk, one of the depot before any device is used, and one of a stream in each
+    /// command that follows.
+    pub(crate) fn fail(&mut self, alloc: Global, device: Device, call: u64) -> Result<(), Trouble> {
+        match device {
+            Device::Disk(_) => return self.fail_disk(alloc, call, false),
+            Device::Depot if self.devices.is_some() => {
+                return Err(Trouble::Unreadable("the devices were used already"));
+            }
+            Device::Depot => self.depot_fails.push(call)?,
+            Device::Source | Device::Sink => self.streams.fail(device, call),
         }
-        self.depot_fails.push(call)?;
         Ok(())
-    }
-
-    /// Makes a call of a stream fail, of each command that follows.
-    pub(crate) fn fail_stream(&mut self, stream: Stream, call: u64) {
-        self.streams.fail(stream, call);
     }
 
     /// Runs each command that follows over streams that move so many bytes a call, once for each of these.
@@ -161,9 +154,6 @@ impl Scene {
     }
 
     /// Puts a file into the depot.
-    ///
-    /// # Errors
-    /// `OutOfMemory`.
     pub(crate) fn put(&mut self, path: Path, bytes: Text) -> Result<(), Trouble> {
         if let Some(devices) = &mut self.devices {
             devices.store.depot.put(path.copy()?, bytes.copy()?)?;
@@ -173,9 +163,6 @@ impl Scene {
     }
 
     /// The devices.
-    ///
-    /// # Errors
-    /// `OutOfMemory`.
     pub(crate) fn devices(&mut self, alloc: Global) -> Result<&mut MemoryDevices, Trouble> {
         if self.devices.is_none() {
             let devices = self.make_devices(alloc)?;
@@ -202,9 +189,6 @@ impl Scene {
     }
 
     /// The disk of which statements speak.
-    ///
-    /// # Errors
-    /// `OutOfMemory`.
     pub(crate) fn disk(&mut self, alloc: Global) -> Result<&mut MemoryDisk, Trouble> {
         let side = self.side;
         Ok(self.devices(alloc)?.disk(side))

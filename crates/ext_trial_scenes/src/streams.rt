@@ -1,5 +1,5 @@
 // The streams of a command, and its run.
-use crate::exits::Stream;
+use crate::every::Device;
 use ext_case::{Trouble, append_number, append_str};
 use ext_depot::Depot;
 use ext_disk::Disk;
@@ -37,11 +37,12 @@ impl Streams {
         }
     }
 
-    /// Makes a call of a stream fail, and no other of that stream.
-    pub(crate) fn fail(&mut self, stream: Stream, call: u64) {
-        match stream {
-            Stream::Source => self.source_fails = call,
-            Stream::Sink => self.sink_fails = call,
+    /// Makes a call fail where the device is a stream, and no other of that stream.
+    pub(crate) fn fail(&mut self, device: Device, call: u64) {
+        match device {
+            Device::Source => self.source_fails = call,
+            Device::Sink => self.sink_fails = call,
+            Device::Disk(_) | Device::Depot => {}
         }
     }
 
@@ -110,9 +111,6 @@ fn is_told(reply: &[u8], told: &[Text]) -> bool {
 }
 
 /// The calls of a device of which only this one fails; none where it is 0.
-///
-/// # Errors
-/// `OutOfMemory`.
 pub(crate) fn only(alloc: Global, call: u64) -> Result<Calls, Trouble> {
     let mut calls = Calls::new(alloc);
     if call > 0 {
@@ -123,9 +121,6 @@ pub(crate) fn only(alloc: Global, call: u64) -> Result<Calls, Trouble> {
 
 /// A status as a statement states it: its number, of words that are no command with the place of the fault, and of a bad
 /// store with what is wrong.
-///
-/// # Errors
-/// `OutOfMemory`.
 fn status_text(alloc: Global, status: &Status) -> Result<Text, Trouble> {
     let mut text = Text::new(alloc);
     append_number(alloc, &mut text, u64::from(status.number()))?;

@@ -1,20 +1,19 @@
 // The words of scenes.
 use crate::acts::{Kind, Side};
-use crate::command_words::may_change_text;
-use crate::exits::Stream;
-use crate::laws::call_laws;
+use crate::every::{Device, append_call};
 use crate::resources;
 use crate::resources::is_entry;
 use crate::scene::Scene;
-use ext_case::{Trouble, none, number, number_line, number_text, one, path, size, string, two};
+use ext_case::{Trouble, line_of, number, number_line, number_text, one, path, size, string, two};
+use ext_cmd::{CmdErr, read_words};
 use ext_disk::{DiskOp, Pick};
 use ext_text::{Text, Words};
+use ext_top::may_change;
 use ext_trial_disks::{calls_text, file_text, read_text, sizes_text, spots_on, whole_text};
 use std::alloc::Global;
 
-// The words, in the order of the arms that carry them out: first those that say what devices have and where they fail, then those that
-// carry something out, and then those that look.
-const WORDS: [&str; 24] = [
+// The words, in the order of the arms that carry them out: first those that write nothing.
+const WORDS: [&str; 23] = [
     "in",
     "disk",
     "depot",
@@ -23,9 +22,9 @@ const WORDS: [&str; 24] = [
     "serve",
     "input",
     "pieces",
+    "after",
     "fail",
     "stop",
-    "after",
     "call",
     "$",
     "publish",
@@ -38,13 +37,10 @@ const WORDS: [&str; 24] = [
     "appended",
     "depot-read",
     "may-change",
-    "laws",
 ];
 
 /// What a statement writes; `None` where no statement of scenes begins with the word.
-///
-/// # Errors
-/// `Unreadable` where it can't be carried out, and `OutOfMemory`.
+/// Errors: `Unreadable` where it can't be carried out.
 pub fn answer(
     alloc: Global,
     scene: &mut Scene,
@@ -52,11 +48,35 @@ pub fn answer(
     arguments: &[Text],
 ) -> Result<Option<Text>, Trouble> {
     if is_entry(word) {
-        return Ok(Some(resources::put(alloc, scene, word, arguments)?));
+        resources::put(alloc, scene, word, arguments)?;
+        return Ok(Some(Text::new(alloc)));
     }
     match WORDS.iter().position(|known| *known == word) {
+        Some(number) if number < 9 => {
+            prepare(alloc, scene, number, arguments)?;
+            Ok(Some(Text::new(alloc)))
+        }
         Some(number) => Ok(Some(carried_out(alloc, scene, number, arguments)?)),
         None => Ok(None),
+    }
+}
+
+fn prepare(
+    alloc: Global,
+    scene: &mut Scene,
+    number: usize,
+    arguments: &[Text],
+) -> Result<(), Trouble> {
+    match number {
+        0 => choose(scene, one(arguments)?),
+        1 => put_on_disk(alloc, scene, arguments),
+        2 => put_in_depot(alloc, scene, arguments),
+        3 => resources::begin(alloc, scene, one(arguments)?),
+        4 => resources::list(alloc, scene, arguments),
+        5 => scene.serve(alloc),
+        6 => give_input(scene, one(arguments)?),
+        7 => cut_streams(alloc, scene, arguments),
+        _ => after_stop(alloc, scene, arguments),
     }
 }
 
@@ -67,17 +87,8 @@ fn carried_out(
     arguments: &[Text],
 ) -> Result<Text, Trouble> {
     match number {
-        0 => choose(alloc, scene, arguments),
-        1 => scene.act(alloc, Kind::Put, arguments),
-        2 => put_in_depot(alloc, scene, arguments),
-        3 => resources::begin(alloc, scene, arguments),
-        4 => resources::list(alloc, scene, arguments),
-        5 => serve(alloc, scene, arguments),
-        6 => give_input(alloc, scene, arguments),
-        7 => cut_streams(alloc, scene, arguments),
-        8 => fail(alloc, scene, arguments),
-        9 => stop(alloc, scene, arguments),
-        10 => after_stop(alloc, scene, arguments),
+        9 => fail(alloc, scene, arguments),
+        10 => stop(alloc, scene, arguments),
         11 => scene.act(alloc, Kind::Call, arguments),
         12 => scene.run(alloc, Kind::Run, arguments),
         13 => scene.run(alloc, Kind::Publish, arguments),
@@ -89,92 +100,96 @@ fn carried_out(
         19 => sizes_text(alloc, scene.disk(alloc)?, DiskOp::Read, one(arguments)?),
         20 => appended(alloc, scene, arguments),
         21 => read_text(alloc, &mut scene.devices(alloc)?.store.depot, arguments),
-        22 => may_change_text(alloc, arguments),
-        _ => laws(alloc, arguments),
+        _ => may_change_text(alloc, arguments),
     }
 }
 
 // `in store` or `in out`: the disk of which the statements that follow speak.
-fn choose(alloc: Global, scene: &mut Scene, arguments: &[Text]) -> Result<Text, Trouble> {
-    scene.side = match string(one(arguments)?)? {
+fn choose(scene: &mut Scene, side: &Text) -> Result<(), Trouble> {
+    scene.side = match string(side)? {
         "store" => Side::Store,
         "out" => Side::Out,
         _ => return Err(Trouble::Unreadable("no such disk")),
     };
-    Ok(Text::new(alloc))
+    Ok(())
+}
+
+// `disk WHAT PATH ..`: puts something on the disk.
+fn put_on_disk(alloc: Global, scene: &mut Scene, arguments: &[Text]) -> Result<(), Trouble> {
+    let _nothing = scene.act(alloc, Kind::Put, arguments)?;
+    Ok(())
 }
 
 // `depot PATH BYTES`: a file of the depot.
-fn put_in_depot(alloc: Global, scene: &mut Scene, arguments: &[Text]) -> Result<Text, Trouble> {
+fn put_in_depot(alloc: Global, scene: &mut Scene, arguments: &[Text]) -> Result<(), Trouble> {
     let (at, bytes) = two(arguments)?;
-    scene.put(path(alloc, at)?, bytes.copy()?)?;
-    Ok(Text::new(alloc))
-}
-
-// `serve`: the depot has what stands on the disk, too.
-fn serve(alloc: Global, scene: &mut Scene, arguments: &[Text]) -> Result<Text, Trouble> {
-    none(arguments)?;
-    scene.serve(alloc)?;
-    Ok(Text::new(alloc))
+    scene.put(path(alloc, at)?, bytes.copy()?)
 }
 
 // `input BYTES`: what standard input has.
-fn give_input(alloc: Global, scene: &mut Scene, arguments: &[Text]) -> Result<Text, Trouble> {
-    scene.streams.source = one(arguments)?.copy()?;
-    Ok(Text::new(alloc))
+fn give_input(scene: &mut Scene, bytes: &Text) -> Result<(), Trouble> {
+    scene.streams.source = bytes.copy()?;
+    Ok(())
 }
 
 // `pieces SIZE..`: how many bytes the calls of streams move.
-fn cut_streams(alloc: Global, scene: &mut Scene, arguments: &[Text]) -> Result<Text, Trouble> {
+fn cut_streams(alloc: Global, scene: &mut Scene, arguments: &[Text]) -> Result<(), Trouble> {
     let mut sizes = Vec::new(alloc);
     for argument in arguments {
         sizes.push(size(argument)?)?;
     }
     scene.cut_streams(sizes);
-    Ok(Text::new(alloc))
+    Ok(())
+}
+
+// `after stop PICK`.
+fn after_stop(alloc: Global, scene: &mut Scene, arguments: &[Text]) -> Result<(), Trouble> {
+    let (_stop, pick) = two(arguments)?;
+    let _nothing = scene.act(alloc, Kind::Stop(pick_of(pick)?), &[])?;
+    Ok(())
 }
 
 // `fail DEVICE CALL` or `fail DEVICE every`; of the depot also `never`.
 fn fail(alloc: Global, scene: &mut Scene, arguments: &[Text]) -> Result<Text, Trouble> {
     let (device, call) = two(arguments)?;
-    let device = string(device)?;
+    let device = device_of(device)?;
     match string(call)? {
         "every" => fail_every(alloc, scene, device),
-        "never" => fail_never(alloc, scene),
+        "never" => fail_never(alloc, scene, device),
         _ => {
-            fail_once(alloc, scene, device, number(call, u64::MAX)?)?;
+            scene.fail(alloc, device, number(call, u64::MAX)?)?;
             Ok(Text::new(alloc))
         }
     }
 }
 
-fn fail_once(alloc: Global, scene: &mut Scene, device: &str, call: u64) -> Result<(), Trouble> {
-    match device {
-        "disk" => return scene.fail_disk(alloc, call, false),
-        "depot" => return scene.fail_depot(call),
-        "source" => scene.fail_stream(Stream::Source, call),
-        "sink" => scene.fail_stream(Stream::Sink, call),
-        _ => return Err(Trouble::Unreadable("no such device")),
-    }
-    Ok(())
-}
-
-fn fail_every(alloc: Global, scene: &mut Scene, device: &str) -> Result<Text, Trouble> {
-    match device {
-        "disk" => scene.fail_disk_every(alloc),
-        "source" => scene.fail_stream_every(alloc, Stream::Source),
-        "sink" => scene.fail_stream_every(alloc, Stream::Sink),
-        "depot" => match scene.fail_depot_every(alloc)? {
-            (_, 0) => Err(Trouble::Unreadable("the change makes no call of the depot")),
-            (text, _) => Ok(text),
-        },
+fn device_of(word: &Text) -> Result<Device, Trouble> {
+    match string(word)? {
+        "disk" => Ok(Device::Disk(None)),
+        "depot" => Ok(Device::Depot),
+        "source" => Ok(Device::Source),
+        "sink" => Ok(Device::Sink),
         _ => Err(Trouble::Unreadable("no such device")),
     }
 }
 
-// The change makes no call of the depot.
-fn fail_never(alloc: Global, scene: &mut Scene) -> Result<Text, Trouble> {
-    match scene.fail_depot_every(alloc)? {
+// Of a stream, how many calls there are is written, too.
+fn fail_every(alloc: Global, scene: &Scene, device: Device) -> Result<Text, Trouble> {
+    let (text, count) = scene.fail_every(alloc, device)?;
+    let mut text = text;
+    match device {
+        Device::Depot if count == 0 => {
+            return Err(Trouble::Unreadable("the change makes no call of the depot"));
+        }
+        Device::Source | Device::Sink => append_call(alloc, &mut text, "calls", count)?,
+        Device::Disk(_) | Device::Depot => {}
+    }
+    Ok(text)
+}
+
+// The change makes no call of the device.
+fn fail_never(alloc: Global, scene: &Scene, device: Device) -> Result<Text, Trouble> {
+    match scene.fail_every(alloc, device)? {
         (text, 0) => Ok(text),
         (_, count) => number_line(alloc, count),
     }
@@ -187,22 +202,21 @@ fn stop(alloc: Global, scene: &mut Scene, arguments: &[Text]) -> Result<Text, Tr
             scene.fail_disk(alloc, number(call, u64::MAX)?, true)?;
             Ok(Text::new(alloc))
         }
-        [_every, _pick, pick] => stop_every(alloc, scene, pick),
+        [_every, _pick, pick] => match string(pick)? {
+            "every" => stop_every(alloc, scene, &[Pick::Old, Pick::New, Pick::Junk]),
+            _ => stop_every(alloc, scene, &[pick_of(pick)?]),
+        },
         _ => Err(Trouble::Unreadable("stop where?")),
     }
 }
 
-fn stop_every(alloc: Global, scene: &mut Scene, pick: &Text) -> Result<Text, Trouble> {
-    match string(pick)? {
-        "every" => scene.stop_every(alloc, &[Pick::Old, Pick::New, Pick::Junk]),
-        _ => scene.stop_every(alloc, &[pick_of(pick)?]),
+fn stop_every(alloc: Global, scene: &Scene, picks: &[Pick]) -> Result<Text, Trouble> {
+    let mut text = Text::new(alloc);
+    for pick in picks {
+        let (calls, _count) = scene.fail_every(alloc, Device::Disk(Some(*pick)))?;
+        text.append(calls.bytes())?;
     }
-}
-
-// `after stop PICK`.
-fn after_stop(alloc: Global, scene: &mut Scene, arguments: &[Text]) -> Result<Text, Trouble> {
-    let (_stop, pick) = two(arguments)?;
-    scene.act(alloc, Kind::Stop(pick_of(pick)?), &[])
+    Ok(text)
 }
 
 fn pick_of(word: &Text) -> Result<Pick, Trouble> {
@@ -215,9 +229,6 @@ fn pick_of(word: &Text) -> Result<Pick, Trouble> {
 }
 
 /// The words of a command.
-///
-/// # Errors
-/// `OutOfMemory`.
 pub fn words_of(alloc: Global, arguments: &[Text]) -> Result<Words, Trouble> {
     let mut words = Words::new(alloc);
     for argument in arguments {
@@ -277,11 +288,11 @@ fn whole(alloc: Global, scene: &mut Scene, arguments: &[Text]) -> Result<Text, T
     }
 }
 
-// `laws stores`: calls the laws of stores and of commands that look at none.
-fn laws(alloc: Global, arguments: &[Text]) -> Result<Text, Trouble> {
-    match string(one(arguments)?)? {
-        "stores" => call_laws(),
-        _ => return Err(Trouble::Unreadable("no such laws")),
+// Whether the command of these words may change a store.
+fn may_change_text(alloc: Global, arguments: &[Text]) -> Result<Text, Trouble> {
+    match read_words(alloc, &words_of(alloc, arguments)?) {
+        Ok(command) => line_of(alloc, if may_change(&command) { "yes" } else { "no" }),
+        Err(CmdErr::OutOfMemory) => Err(Trouble::OutOfMemory),
+        Err(CmdErr::Usage { .. }) => Err(Trouble::Unreadable("no command")),
     }
-    Ok(Text::new(alloc))
 }

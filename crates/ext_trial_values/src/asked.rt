@@ -135,6 +135,18 @@ impl<'a> Asked<'a> {
         }
     }
 
+    /// The arguments from one on, one after another, with this between each two.
+    pub(crate) fn joined(&self, from: usize, between: &[u8]) -> Said {
+        let mut text = Text::new(self.alloc);
+        for (index, part) in self.after(from).iter().enumerate() {
+            if index > 0 {
+                text.append(between)?;
+            }
+            text.append(part.bytes())?;
+        }
+        Ok(text)
+    }
+
     /// A line of these parts.
     pub(crate) fn line(&self, parts: &[&[u8]]) -> Said {
         let mut text = Text::new(self.alloc);

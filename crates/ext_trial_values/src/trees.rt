@@ -20,7 +20,7 @@ pub(crate) const WORDS: [Row; 11] = [
     ("reader", "read", 3),
     ("writer", "write", 4),
     ("writer", "vector", 1),
-    ("laws", "values", 0),
+    ("laws", "stamps", 0),
 ];
 
 /// What the word of a number writes.
@@ -28,11 +28,11 @@ pub(crate) fn reply(asked: Asked, number: usize) -> Said {
     match number {
         0 => read_entry(asked),
         10 => {
-            let tree = tree(read_tree(asked.alloc, text(asked, b"")?.bytes()))?;
+            let tree = tree(read_tree(asked.alloc, asked.joined(0, b"")?.bytes()))?;
             asked.count("entries ", tree.entries() as usize)
         }
         20 => {
-            let trees = tree(read_trees(asked.alloc, text(asked, b"")?.bytes()))?;
+            let trees = tree(read_trees(asked.alloc, asked.joined(0, b"")?.bytes()))?;
             asked.count("trees ", trees.as_slice().len())
         }
         30..=60 => of_tree(asked, number, tree_at(asked, 0)?),
@@ -44,18 +44,6 @@ pub(crate) fn reply(asked: Asked, number: usize) -> Said {
             Ok(Text::new(asked.alloc))
         }
     }
-}
-
-// The arguments one after another, with this between each two.
-fn text(asked: Asked, between: &[u8]) -> Said {
-    let mut text = Text::new(asked.alloc);
-    for (index, part) in asked.rest.iter().enumerate() {
-        if index > 0 {
-            text.append(between)?;
-        }
-        text.append(part.bytes())?;
-    }
-    Ok(text)
 }
 
 // A tree, or trees, that were read.
@@ -74,7 +62,7 @@ pub(crate) fn tree_at(asked: Asked, index: usize) -> Result<Tree<Stamp>, Stop> {
 
 // The entry of the line of these words, a space between each two: its path, what it is, and its line again.
 fn read_entry(asked: Asked) -> Said {
-    match entry_of_line::<Stamp>(asked.alloc, text(asked, b" ")?.bytes())? {
+    match entry_of_line::<Stamp>(asked.alloc, asked.joined(0, b" ")?.bytes())? {
         None => Err(Stop::Says("no entry")),
         Some((path, entry)) => {
             let mut line = Vec::new(asked.alloc);

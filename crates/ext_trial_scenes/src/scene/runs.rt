@@ -1,6 +1,8 @@
 // Acts over the devices of a scene.
 use super::Scene;
 use crate::acts::{Act, Kind, act_all, act_on, act_over, fresh_devices, stop_disk};
+use crate::ends::Play;
+use crate::every::{Device, fail_every};
 use crate::words::words_of;
 use ext_case::Trouble;
 use ext_disk::Pick;
@@ -11,9 +13,6 @@ use std::mem;
 
 impl Scene {
     /// The act of these words on the disk of which statements speak.
-    ///
-    /// # Errors
-    /// `OutOfMemory`.
     pub(crate) fn act_of(&self, alloc: Global, kind: Kind, words: &[Text]) -> Result<Act, Trouble> {
         Ok(Act {
             kind,
@@ -24,9 +23,6 @@ impl Scene {
     }
 
     /// Does an act on the disk of which statements speak, and keeps it, of a call where it changed something.
-    ///
-    /// # Errors
-    /// `Unreadable` where it can't be done, and `OutOfMemory`.
     pub(crate) fn act(
         &mut self,
         alloc: Global,
@@ -43,9 +39,6 @@ impl Scene {
 
     /// Runs a command or publishes, once for each size of pieces, and keeps it. Where one ends otherwise than the first, that is
     /// what it gives.
-    ///
-    /// # Errors
-    /// `Unreadable` where it can't be run, and `OutOfMemory`.
     pub(crate) fn run(
         &mut self,
         alloc: Global,
@@ -90,10 +83,28 @@ impl Scene {
         }
     }
 
+    /// Makes the last run anew with each of its calls of a device failing, or with the disk stopped there. Gives what it does not bear, and
+    /// how many calls that are.
+    pub(crate) fn fail_every(&self, alloc: Global, device: Device) -> Result<(Text, u64), Trouble> {
+        let [before @ .., change] = self.acts.as_slice() else {
+            return Err(Trouble::Unreadable("no statement stands before"));
+        };
+        if !change.is_run() {
+            return Err(Trouble::Unreadable("the statement before is no command"));
+        }
+        let play = Play {
+            before,
+            change,
+            files: &self.files,
+            side: self.side,
+            piece: self.streams.piece,
+        };
+        let mut text = Text::new(alloc);
+        let count = fail_every(alloc, &play, device, &mut text)?;
+        Ok((text, count))
+    }
+
     /// What a stop now would leave of the disk. All that was done is done again on another disk, which is stopped.
-    ///
-    /// # Errors
-    /// `Unreadable` where something of it is not done, and `OutOfMemory`.
     pub(crate) fn left_by_stop(&self, alloc: Global, pick: Pick) -> Result<Text, Trouble> {
         let mut devices = fresh_devices(alloc, &self.files)?;
         act_all(alloc, self.acts.as_slice(), &mut devices)?;
@@ -103,9 +114,6 @@ impl Scene {
     }
 
     /// Puts the files that stand on the disk into the depot.
-    ///
-    /// # Errors
-    /// `Unreadable` where the disk fails, and `OutOfMemory`.
     pub(crate) fn serve(&mut self, alloc: Global) -> Result<(), Trouble> {
         for spot in spots_on(alloc, self.disk(alloc)?)? {
             let Spot { at, bytes } = spot;

@@ -1,39 +1,27 @@
-// Words about patterns, transfer files and updates.
-use crate::asked::{Asked, MANY, Row, Said, Stop, append, name};
+// Words about patterns and transfer files.
+use crate::asked::{Asked, Row, Said, Stop, append, name};
 use crate::files::release_at;
-use crate::trees::tree_at;
-use ext_choice::{Choice, RoomErr, choose, vacuum_list};
 use ext_cmd::transfer_fault_word;
-use ext_installed::installed;
 use ext_pattern::{Pattern, PatternErr, read_pattern};
 use ext_release::Release;
 use ext_text::{Arch, Digest, Name, Text};
 use ext_transfer::{Location, ResourceType, Transfer, TransferErr, read_transfer};
-use ext_tree::{Stamp, Tree};
-use ext_vers::{Version, is_version};
-use ext_versions::Versions;
+use ext_vers::is_version;
 
-pub(crate) const WORDS: [Row; 7] = [
+pub(crate) const WORDS: [Row; 5] = [
     ("pattern", "read", 1),
     ("pattern", "match", 2),
     ("pattern", "fill", 3),
     ("transfer", "read", 1),
     ("transfer", "on", 3),
-    ("update", "choose", 3),
-    ("update", "vacuum", MANY),
 ];
 
 /// What the word of a number writes.
 pub(crate) fn reply(asked: Asked, number: usize) -> Said {
     match number {
         0..=20 => of_pattern(asked, number, &pattern(asked)?),
-        30 => {
-            let transfer = transfer(asked, b"a", asked.bytes(0), None, Arch::X86_64)?;
-            told(asked, &transfer)
-        }
-        40 => on_host(asked),
-        50 => chosen(asked),
-        _ => vacuumed(asked),
+        30 => told(asked, &transfer(asked, asked.bytes(0), None, Arch::X86_64)?),
+        _ => on_host(asked),
     }
 }
 
@@ -75,15 +63,14 @@ fn of_pattern(asked: Asked, number: usize, pattern: &Pattern) -> Said {
     }
 }
 
-// The transfer of a file of this name on a host.
+// The transfer of a file on a host.
 fn transfer(
     asked: Asked,
-    file: &[u8],
     bytes: &[u8],
     host: Option<&Release>,
     arch: Arch,
 ) -> Result<Transfer, Stop> {
-    let file = name(Name::read(asked.alloc, file))?;
+    let file = name(Name::read(asked.alloc, b"a"))?;
     match read_transfer(asked.alloc, &file, bytes, host, arch) {
         Ok(transfer) => Ok(transfer),
         Err(TransferErr::OutOfMemory) => Err(Stop::OutOfMemory),
@@ -97,10 +84,10 @@ fn on_host(asked: Asked) -> Said {
     let release = release_at(asked, 0)?;
     match Arch::read(asked.bytes(1)) {
         None => Err(Stop::Bad("not an architecture")),
-        Some(arch) => {
-            let transfer = transfer(asked, b"a", asked.bytes(2), Some(&release), arch)?;
-            told(asked, &transfer)
-        }
+        Some(arch) => told(
+            asked,
+            &transfer(asked, asked.bytes(2), Some(&release), arch)?,
+        ),
     }
 }
 
@@ -147,71 +134,4 @@ fn append_list(text: &mut Text, word: &[u8], list: &[Text]) -> Result<(), Stop> 
         append(text, &[word, each.bytes()])?;
     }
     Ok(())
-}
-
-// What an update does about available and installed versions, where one is wanted or, with `-`, none.
-fn chosen(asked: Asked) -> Said {
-    let available = versions_of(asked, 1)?;
-    let installed = versions_of(asked, 2)?;
-    match choose(&available, &installed, unless_dash(asked.bytes(0))) {
-        Choice::Install(place) => match available.as_slice().get(place) {
-            Some(version) => asked.line(&[b"install ", version.bytes()]),
-            None => Err(Stop::Bad("no such place")),
-        },
-        Choice::Present => asked.line(&[b"present"]),
-        Choice::NoneNewer => asked.line(&[b"none newer"]),
-        Choice::NoSuch => asked.line(&[b"no such"]),
-    }
-}
-
-fn unless_dash(word: &[u8]) -> Option<&[u8]> {
-    if word == b"-".as_slice() {
-        None
-    } else {
-        Some(word)
-    }
-}
-
-// The versions of an argument, parted by colons; none of an empty one.
-fn versions_of(asked: Asked, index: usize) -> Result<Versions, Stop> {
-    let mut versions = Vec::new(asked.alloc);
-    for part in asked.bytes(index).split(|byte| *byte == b':') {
-        if !part.is_empty() {
-            versions.push(Version::new(Text::from_bytes(asked.alloc, part)?))?;
-        }
-    }
-    Ok(Versions::of(versions))
-}
-
-// The paths that go so that the transfers of files, named `1`, `2` and so on, have room beside a version that is coming or,
-// with `-`, none.
-fn vacuumed(asked: Asked) -> Said {
-    let tree = tree_at(asked, 1)?;
-    let mut transfers = Vec::new(asked.alloc);
-    for file in asked.after(2) {
-        let name = asked.digits(transfers.len() as u64 + 1)?;
-        transfers.push(transfer(asked, name.as_slice(), file.bytes(), None, Arch::X86_64)?)?;
-    }
-    gone(asked, &tree, transfers.as_slice())
-}
-
-fn gone(asked: Asked, tree: &Tree<Stamp>, transfers: &[Transfer]) -> Said {
-    if transfers.is_empty() {
-        return Err(Stop::Bad("no transfer file"));
-    }
-    let found = installed(asked.alloc, tree, transfers)?;
-    match vacuum_list(asked.alloc, transfers, &found, unless_dash(asked.bytes(0))) {
-        Ok(paths) => {
-            let mut text = Text::new(asked.alloc);
-            for path in paths.as_slice() {
-                append(&mut text, &[b"/", path.text()])?;
-            }
-            Ok(text)
-        }
-        Err(RoomErr::NoRoom { file, protected }) => {
-            let count = asked.digits(protected)?;
-            asked.line(&[b"no room ", count.as_slice(), b" ", file.bytes()])
-        }
-        Err(RoomErr::OutOfMemory) => Err(Stop::OutOfMemory),
-    }
 }
