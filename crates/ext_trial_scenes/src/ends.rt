@@ -38,9 +38,8 @@ fn look(alloc: Global, change: &Act, devices: &mut MemoryDevices) -> Result<Text
         return look_at_both(alloc, &change.words, devices);
     }
     let mut told = Text::new(alloc);
-    for word in ["tree", "check"] {
-        append_outcome(&mut told, &command(alloc, word, devices)?)?;
-    }
+    append_command(alloc, "tree", devices, &mut told)?;
+    append_command(alloc, "check", devices, &mut told)?;
     Ok(told)
 }
 
@@ -55,22 +54,24 @@ fn look_at_both(
     Ok(told)
 }
 
-// How a command of one word ends.
-fn command(alloc: Global, word: &str, devices: &mut MemoryDevices) -> Result<Outcome, Trouble> {
+// Adds how a command of one word ends.
+fn append_command(
+    alloc: Global,
+    word: &str,
+    devices: &mut MemoryDevices,
+    told: &mut Text,
+) -> Result<(), Trouble> {
     let mut words = Words::new(alloc);
     words.push(Text::from_bytes(alloc, word.as_bytes())?)?;
-    run_over(
-        alloc,
-        &words,
-        &Streams::new(Text::new(alloc)),
-        &mut devices.store,
-    )
+    let streams = Streams::new(Text::new(alloc));
+    let outcome = run_over(alloc, &words, &streams, &mut devices.store)?;
+    append_outcome(told, &outcome)
 }
 
 fn append_outcome(told: &mut Text, outcome: &Outcome) -> Result<(), Trouble> {
-    for part in [outcome.status.bytes(), b"\n", outcome.reply.bytes()] {
-        told.append(part)?;
-    }
+    told.append(outcome.status.bytes())?;
+    told.append(b"\n")?;
+    told.append(outcome.reply.bytes())?;
     Ok(())
 }
 
@@ -129,13 +130,14 @@ pub(crate) fn ends_of(
     let calls = devices.disk(play.side).calls().saturating_sub(calls_before);
     prepare(alloc, play, empty_disk(alloc), devices)?;
     let first = ask(alloc, play.change, devices)?;
+    let lines = lines_done(alloc, play, devices)?;
     Ok(Ends {
         calls_before,
         calls,
         outcome,
         publishes: matches!(play.change.kind, Kind::Publish),
         first,
-        lines: lines_done(alloc, play, devices)?,
+        lines,
     })
 }
 

@@ -89,21 +89,22 @@ fn fault(
     at: (Device, u64),
     devices: &mut MemoryDevices,
 ) -> Result<Borne, Trouble> {
+    let (device, call) = at;
     let outcome = made(alloc, play, ends, at, devices)?;
     let is_same = outcome.is_same(&ends.outcome);
     // A source is read to its end before the disk is looked at.
     let is_early = devices.store.disk.calls() == ends.calls_before;
-    match at.0 {
+    match device {
         Device::Disk(None) => {}
         Device::Disk(Some(pick)) => stop_disk(alloc, devices, play.side, pick)?,
         _ if is_same => return Ok(Borne::NoSuchCall),
         _ => {}
     }
     let found = ask(alloc, play.change, devices)?;
-    let is_well = match at {
-        (Device::Source, _) if !is_early => false,
-        (Device::Disk(_), call) if call > ends.calls => is_same && stands_after(ends, &found),
-        (device, _) => is_borne(ends, device, play.side, &outcome, &found),
+    let is_well = match device {
+        Device::Source if !is_early => false,
+        Device::Disk(_) if call > ends.calls => is_same && stands_after(ends, &found),
+        _ => is_borne(ends, device, play.side, &outcome, &found),
     };
     Ok(if is_well { Borne::Well } else { Borne::Badly })
 }
@@ -124,7 +125,8 @@ fn made(
     devices: &mut MemoryDevices,
 ) -> Result<Outcome, Trouble> {
     let (device, call) = at;
-    prepare(alloc, play, disk_of(alloc, ends, device, call)?, devices)?;
+    let disk = disk_of(alloc, ends, device, call)?;
+    prepare(alloc, play, disk, devices)?;
     if matches!(device, Device::Depot) {
         return made_beside(alloc, play, call, devices);
     }
@@ -153,9 +155,9 @@ fn made_beside(
 ) -> Result<Outcome, Trouble> {
     let failing = depot_of(alloc, play.files, only(alloc, call)?)?;
     let depot = mem::replace(&mut devices.store.depot, failing);
-    let outcome = act_on(alloc, play.change, devices);
+    let outcome = act_on(alloc, play.change, devices)?;
     devices.store.depot = depot;
-    outcome
+    Ok(outcome)
 }
 
 // Whether a change that ended so, and left this, did what it may where a call of the device failed. The first of its lines
@@ -180,11 +182,11 @@ fn is_borne(ends: &Ends, device: Device, side: Side, outcome: &Outcome, found: &
 }
 
 fn status_of(device: Device, side: Side) -> &'static str {
-    match (device, side) {
-        (Device::Source, _) => "3",
-        (Device::Sink, _) => "4",
-        (Device::Disk(_), Side::Store) => "5",
-        (Device::Disk(_), Side::Out) | (Device::Depot, _) => "6",
+    match device {
+        Device::Source => "3",
+        Device::Sink => "4",
+        Device::Disk(_) if matches!(side, Side::Store) => "5",
+        Device::Disk(_) | Device::Depot => "6",
     }
 }
 
@@ -206,7 +208,8 @@ fn is_left(ends: &Ends, device: Device, written: &[u8], found: &[u8]) -> bool {
 }
 
 fn is_left_by_line(before: &[u8], line: &Done, device: Device, part: &[u8], found: &[u8]) -> bool {
-    let (reply, after) = (line.reply.bytes(), line.told.bytes());
+    let reply = line.reply.bytes();
+    let after = line.told.bytes();
     match device {
         Device::Source => false,
         Device::Sink => part.len() < reply.len() && reply.starts_with(part) && found == after,

@@ -290,9 +290,10 @@ fn whole(alloc: Global, scene: &mut Scene, arguments: &[Text]) -> Result<Text, T
 
 // Whether the command of these words may change a store.
 fn may_change_text(alloc: Global, arguments: &[Text]) -> Result<Text, Trouble> {
-    match read_words(alloc, &words_of(alloc, arguments)?) {
+    let words = words_of(alloc, arguments)?;
+    match read_words(alloc, &words) {
         Ok(command) => line_of(alloc, if may_change(&command) { "yes" } else { "no" }),
         Err(CmdErr::OutOfMemory) => Err(Trouble::OutOfMemory),
-        Err(CmdErr::Usage { .. }) => Err(Trouble::Unreadable("no command")),
+        Err(CmdErr::Usage { place: _ }) => Err(Trouble::Unreadable("no command")),
     }
 }

@@ -6,6 +6,7 @@ use ext_cmd::{
     Answer, Presence, Refusal, VersionItem, VersionItems, answer_text, number, refusal_text,
 };
 use ext_history::{Mark, Marks};
+use ext_host::Host;
 use ext_index::{IndexErr, index_size, read_index, write_index};
 use ext_text::{Digest, Name, Names, Path, Text, Which};
 use ext_transfer::TransferFault;
@@ -25,16 +26,23 @@ pub(crate) fn reply(asked: Asked, number: usize) -> Said {
     }
 }
 
-// What is asked of an index of a generation: it printed again, the number of its text, or the length of the index printed again.
+// What is asked of an index of a generation.
 fn index(asked: Asked, asks: usize) -> Said {
     let generation = asked.number(0)?;
     let text = asked.joined(1, b"")?;
     match read_index(asked.alloc, text.bytes(), generation) {
-        Ok((host, _)) if asks == 0 => Ok(write_index(asked.alloc, &host, generation)?),
-        Ok((_, number)) if asks == 1 => asked.line(&[asked.digits(u64::from(number))?.as_slice()]),
-        Ok((host, _)) => asked.line(&[asked.digits(index_size(&host, generation))?.as_slice()]),
+        Ok((host, number)) => shown(asked, asks, generation, &host, number),
         Err(IndexErr::Broken { line }) => Err(Stop::Fault("fault ", line, "")),
         Err(IndexErr::OutOfMemory) => Err(Stop::OutOfMemory),
+    }
+}
+
+// The index printed again, the number of its text, or the length of the index printed again.
+fn shown(asked: Asked, asks: usize, generation: u32, host: &Host, number: u32) -> Said {
+    match asks {
+        0 => Ok(write_index(asked.alloc, host, generation)?),
+        1 => asked.line(&[asked.digits(u64::from(number))?.as_slice()]),
+        _ => asked.line(&[asked.digits(index_size(host, generation))?.as_slice()]),
     }
 }
 
@@ -42,14 +50,17 @@ fn index(asked: Asked, asks: usize) -> Said {
 fn told(asked: Asked, answers: bool) -> Said {
     let mut text = Text::new(asked.alloc);
     for row in 0..7u64 {
-        let lines = if answers {
-            answer_text(asked.alloc, answer(asked, row)?)?
-        } else {
-            refused(asked, &refusal(asked, row)?)?
-        };
-        text.append(lines.bytes())?;
+        text.append(told_row(asked, answers, row)?.bytes())?;
     }
     Ok(text)
+}
+
+fn told_row(asked: Asked, answers: bool, row: u64) -> Said {
+    if !answers {
+        return refused(asked, &refusal(asked, row)?);
+    }
+    let answer = answer(asked, row)?;
+    Ok(answer_text(asked.alloc, answer)?)
 }
 
 fn answer(asked: Asked, row: u64) -> Result<Answer, Stop> {
@@ -123,9 +134,10 @@ fn refused(asked: Asked, refusal: &Refusal) -> Said {
 }
 
 fn refusal(asked: Asked, row: u64) -> Result<Refusal, Stop> {
-    let path = Path::root(asked.alloc);
     match row {
-        0 => Ok(Refusal::ReadOnly { path }),
+        0 => Ok(Refusal::ReadOnly {
+            path: Path::root(asked.alloc),
+        }),
         1 => Ok(Refusal::Limit { which: Which::File }),
         2 => Ok(Refusal::Limit {
             which: Which::Index,
@@ -134,17 +146,21 @@ fn refusal(asked: Asked, row: u64) -> Result<Refusal, Stop> {
         4 => Ok(Refusal::BadTransfer {
             line: u64::MAX,
             why: TransferFault::Specifier,
-            file: name(Name::read(asked.alloc, b"a b.transfer"))?,
+            file: file(asked)?,
         }),
         5 => Ok(Refusal::NoRoom {
             count: u64::MAX,
-            file: name(Name::read(asked.alloc, b"a b.transfer"))?,
+            file: file(asked)?,
         }),
-        _ => Ok(Refusal::Mismatch {
-            path,
-            listed: stamp(1_073_741_824, b"abc"),
-            found: stamp(1_073_741_825, b""),
-        }),
+        _ => Ok(mismatch(asked)),
+    }
+}
+
+fn mismatch(asked: Asked) -> Refusal {
+    Refusal::Mismatch {
+        path: Path::root(asked.alloc),
+        listed: stamp(1_073_741_824, b"abc"),
+        found: stamp(1_073_741_825, b""),
     }
 }
 
@@ -153,4 +169,8 @@ fn stamp(size: u64, bytes: &[u8]) -> Stamp {
         size,
         digest: Digest::of(bytes),
     }
+}
+
+fn file(asked: Asked) -> Result<Name, Stop> {
+    name(Name::read(asked.alloc, b"a b.transfer"))
 }
