@@ -92,3 +92,15 @@ pub fn string(argument: &Text) -> Result<&str, Trouble> {
         Err(_) => Err(Trouble::Unreadable("not UTF-8")),
     }
 }
+
+/// The place of a word among words with a space between each two; `None` where it is none of them.
+pub fn place_in(words: &str, asked: &[u8]) -> Option<usize> {
+    let mut place: usize = 0;
+    for word in words.as_bytes().split(|byte| *byte == b' ') {
+        if word == asked {
+            return Some(place);
+        }
+        place = place.saturating_add(1);
+    }
+    None
+}

@@ -56,7 +56,7 @@ impl Cutting {
             return Err(Trouble::Unreadable("a space too many; the empty word is \\e"));
         }
         let undoing = mem::replace(&mut self.undoing, Undoing::new(alloc));
-        let text = whole(undoing)?;
+        let text = whole(undoing.finish()?)?;
         self.is_begun = false;
         self.words.push(Cut {
             text,
@@ -76,8 +76,8 @@ pub(crate) fn undone(alloc: Global, line: &[u8]) -> Result<(Vec<u8>, bool), Trou
 }
 
 // The text of bytes that no lone backslash ends.
-fn whole(undoing: Undoing) -> Result<Text, Trouble> {
-    let (text, ends_open) = undoing.finish()?;
+fn whole(undone: (Vec<u8>, bool)) -> Result<Text, Trouble> {
+    let (text, ends_open) = undone;
     if ends_open {
         return Err(Trouble::Unreadable("a lone backslash"));
     }
@@ -86,9 +86,5 @@ fn whole(undoing: Undoing) -> Result<Text, Trouble> {
 
 /// A line with its escapes undone.
 pub(crate) fn whole_line(alloc: Global, line: &[u8]) -> Result<Text, Trouble> {
-    let mut undoing = Undoing::new(alloc);
-    for byte in line {
-        undoing.take(alloc, *byte)?;
-    }
-    whole(undoing)
+    whole(undone(alloc, line)?)
 }

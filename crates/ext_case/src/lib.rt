@@ -18,12 +18,12 @@ mod undoing;
 mod writing;
 
 pub use arguments::{
-    name, number, one, one_and_more, path, size, small, string, three, two, two_and_more,
+    name, number, one, one_and_more, path, place_in, size, small, string, three, two, two_and_more,
 };
 pub use case::{Case, Cases, Fault, Statement};
 pub use difference::{append_difference, append_shown};
 pub use reader::read_cases;
 pub use trouble::Trouble;
 pub use writing::{
-    append_line, append_number, append_path, append_str, line_of, number_line, number_text, written,
+    append_line, append_number, append_str, line_of, number_line, number_text, written,
 };

@@ -1,7 +1,7 @@
 // What a word writes.
 use crate::trouble::Trouble;
 use ext_lines::append_decimal;
-use ext_text::{Path, Text};
+use ext_text::Text;
 use std::alloc::Global;
 
 /// These bytes, and no newline.
@@ -49,13 +49,5 @@ pub fn append_number(alloc: Global, text: &mut Text, number: u64) -> Result<(), 
     let mut digits = Vec::new(alloc);
     append_decimal(&mut digits, number)?;
     text.append(digits.as_slice())?;
-    Ok(())
-}
-
-/// Adds a path, with a slash between each two names.
-pub fn append_path(alloc: Global, text: &mut Text, path: &Path) -> Result<(), Trouble> {
-    let mut bytes = Vec::new(alloc);
-    path.append_to(&mut bytes)?;
-    text.append(bytes.as_slice())?;
     Ok(())
 }

@@ -1,10 +1,9 @@
 // Where the statements of a case are carried out.
-use ext_case::{Trouble, string, three, two};
+use ext_case::{Trouble, two};
 use ext_folder::{FolderDepot, FolderDisk};
-use ext_text::{Text, Words};
+use ext_text::Text;
 use ext_trial_scenes::{Scene, beside_streams, run_over, words_of};
 use std::alloc::Global;
-use std::fs;
 
 /// The devices of a case: those in memory, or two folders of the system.
 #[derive(Drop)]
@@ -41,21 +40,8 @@ pub(crate) fn answer(
             Ok(Some(Text::new(alloc)))
         }
         ("$", Some(_)) => Ok(Some(run_in_folders(rt, stage, arguments)?)),
-        ("of-file", _) => of_file(rt, arguments),
         _ => ext_trial_scenes::answer(alloc, &mut stage.scene, word, arguments),
     }
-}
-
-// What a word of a reader writes of a file of the system, whose bytes are its argument.
-fn of_file(rt: &HostRuntime, arguments: &[Text]) -> Result<Option<Text>, Trouble> {
-    let (path, word, asked) = three(arguments)?;
-    let Ok(bytes) = fs::read(rt, string(path)?) else {
-        return Err(Trouble::Unreadable("the file can't be read"));
-    };
-    let mut words = Words::new(rt.alloc());
-    words.push(asked.copy()?)?;
-    words.push(Text::from_vec(bytes))?;
-    ext_trial_values::answer(rt.alloc(), string(word)?, words.as_slice())
 }
 
 // Runs a command over the two folders.

@@ -150,23 +150,13 @@ fn read_text(alloc: Global, disk: &mut MemoryDisk, arguments: &[Text]) -> Result
         return Err(Trouble::Unreadable("no room"));
     }
     let from = number(from, u64::MAX)?;
-    match read_spot(disk, &path(alloc, at)?, from, &mut buf)? {
+    let at = path(alloc, at)?;
+    let around = folder_around(&at)?;
+    match read(disk, &at, &around, from, &mut buf) {
         Ok(Some(count)) => Ok(Text::from_bytes(alloc, buf.get(..count).unwrap_or(b"?"))?),
         Ok(None) => line_of(alloc, "not allowed"),
         Err(Failed) => line_of(alloc, "failed"),
     }
-}
-
-fn read_spot(
-    disk: &mut MemoryDisk,
-    path: &Path,
-    at: u64,
-    buf: &mut [u8],
-) -> Result<Result<Option<usize>, Failed>, Trouble>
-    requires { 0 < length buf.old }
-{
-    let around = folder_around(path)?;
-    Ok(read(disk, path, &around, at, buf))
 }
 
 // How many bytes of the file at a path are read into the buffer; `None` where no file stands there.

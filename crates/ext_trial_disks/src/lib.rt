@@ -12,7 +12,7 @@ mod spots;
 
 pub use depot_words::read_text;
 pub use disk_calls::call_text;
-pub use looking::{calls_text, file_text, sizes_text};
+pub use looking::{calls_at, calls_text, file_text};
 pub use outcome::{Outcome, append_bad_store, append_field};
 pub use placing::{below, cut, put_on};
 pub use spots::{Spot, is_at_or_below, spots_on, whole_text};

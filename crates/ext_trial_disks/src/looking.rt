@@ -1,9 +1,9 @@
 // What a file of the disk has, and which calls it was asked for.
 use crate::outcome::append_field;
-use ext_case::{Trouble, append_line, append_number, append_path, append_str, line_of, path};
+use ext_case::{Trouble, append_line, append_str, line_of, path};
 use ext_disk::{DiskCall, DiskOp, Kind, MemoryDisk};
 use ext_store_files::{Found, read_file};
-use ext_text::{Path, Text};
+use ext_text::Text;
 use std::alloc::Global;
 
 // As many bytes of a file are shown at most.
@@ -53,7 +53,7 @@ fn append_call(alloc: Global, text: &mut Text, call: &DiskCall) -> Result<(), Tr
     append_str(text, name_of(call.op))?;
     if !call.path.is_root() {
         append_str(text, " ")?;
-        append_path(alloc, text, &call.path)?;
+        text.append(call.path.text())?;
     }
     if call.bytes > 0 {
         append_field(alloc, text, call.bytes)?;
@@ -76,33 +76,19 @@ fn name_of(op: DiskOp) -> &'static str {
     }
 }
 
-/// A line of the sizes of the calls of one kind at a path, with a space between each two. Errors: `Unreadable` where it is no path.
-pub fn sizes_text(
-    alloc: Global,
-    disk: &MemoryDisk,
-    op: DiskOp,
-    at: &Text,
-) -> Result<Text, Trouble> {
-    let at = path(alloc, at)?;
+/// The same of the calls of one name at a path.
+pub fn calls_at(alloc: Global, disk: &MemoryDisk, name: &[u8], at: &[u8]) -> Result<Text, Trouble> {
     let mut text = Text::new(alloc);
     for index in 0..disk.calls() {
         if let Some(call) = disk.call(index)
-            && is_at(call, op, &at)
+            && is_at(call, name, at)
         {
-            append_size(alloc, &mut text, call.bytes)?;
+            append_call(alloc, &mut text, call)?;
         }
     }
-    append_line(&mut text, b"")?;
     Ok(text)
 }
 
-fn is_at(call: &DiskCall, op: DiskOp, at: &Path) -> bool {
-    call.op == op && call.path == *at
-}
-
-fn append_size(alloc: Global, text: &mut Text, size: u64) -> Result<(), Trouble> {
-    if !text.bytes().is_empty() {
-        append_str(text, " ")?;
-    }
-    append_number(alloc, text, size)
+fn is_at(call: &DiskCall, name: &[u8], at: &[u8]) -> bool {
+    name_of(call.op).as_bytes() == name && call.path.text() == at
 }

@@ -11,6 +11,7 @@ use std::alloc::Global;
 /// A change, what was done before it, the files of the depot, the disk whose calls fail, and how many bytes a call of a stream moves.
 #[derive(Clone, Copy)]
 pub(crate) struct Play<'a> {
+    pub(crate) alloc: Global,
     pub(crate) before: &'a [Act],
     pub(crate) change: &'a Act,
     pub(crate) files: &'a Files,
@@ -20,37 +21,29 @@ pub(crate) struct Play<'a> {
 
 /// What a store tells, where the change is made too. First it tells of a command its tree and a check of its files, and of a run that
 /// publishes what stands on both disks. Then comes how the change ends there, and then the first again.
-pub(crate) fn ask(
-    alloc: Global,
-    change: &Act,
-    devices: &mut MemoryDevices,
-) -> Result<Text, Trouble> {
-    let mut told = look(alloc, change, devices)?;
-    let outcome = act_on(alloc, change, devices)?;
+pub(crate) fn ask(play: &Play<'_>, devices: &mut MemoryDevices) -> Result<Text, Trouble> {
+    let mut told = look(play, devices)?;
+    let outcome = act_on(play.alloc, play.change, devices)?;
     append_outcome(&mut told, &outcome)?;
-    told.append(look(alloc, change, devices)?.bytes())?;
+    told.append(look(play, devices)?.bytes())?;
     Ok(told)
 }
 
 // What a store tells of itself.
-fn look(alloc: Global, change: &Act, devices: &mut MemoryDevices) -> Result<Text, Trouble> {
-    if matches!(change.kind, Kind::Publish) {
-        return look_at_both(alloc, &change.words, devices);
+fn look(play: &Play<'_>, devices: &mut MemoryDevices) -> Result<Text, Trouble> {
+    if matches!(play.change.kind, Kind::Publish) {
+        return look_at_both(play, devices);
     }
-    let mut told = Text::new(alloc);
-    append_command(alloc, "tree", devices, &mut told)?;
-    append_command(alloc, "check", devices, &mut told)?;
+    let mut told = Text::new(play.alloc);
+    append_command(play.alloc, "tree", devices, &mut told)?;
+    append_command(play.alloc, "check", devices, &mut told)?;
     Ok(told)
 }
 
-fn look_at_both(
-    alloc: Global,
-    words: &Words,
-    devices: &mut MemoryDevices,
-) -> Result<Text, Trouble> {
-    let spots = spots_on(alloc, &mut devices.store.disk)?;
-    let mut told = whole_text(alloc, spots.as_slice())?;
-    told.append(left_text(alloc, words, &mut devices.out)?.bytes())?;
+fn look_at_both(play: &Play<'_>, devices: &mut MemoryDevices) -> Result<Text, Trouble> {
+    let spots = spots_on(play.alloc, &mut devices.store.disk)?;
+    let mut told = whole_text(play.alloc, spots.as_slice())?;
+    told.append(left_text(play.alloc, &play.change.words, &mut devices.out)?.bytes())?;
     Ok(told)
 }
 
@@ -82,14 +75,13 @@ pub(crate) struct Done {
     pub(crate) told: Text,
 }
 
-/// A change where nothing fails: the calls of the disk before it and in it, how it ends, whether it publishes, what the store tells
-/// before it, and its lines. A batch has those of its source; any other change is one line.
+/// A change where nothing fails: the calls of the disk before it and in it, how it ends, what the store tells before it, and its lines.
+/// A batch has those of its source; any other change is one line.
 #[derive(Drop)]
 pub(crate) struct Ends {
     pub(crate) calls_before: u64,
     pub(crate) calls: u64,
     pub(crate) outcome: Outcome,
-    pub(crate) publishes: bool,
     pub(crate) first: Text,
     pub(crate) lines: Vec<Done>,
 }
@@ -107,53 +99,43 @@ impl Ends {
 /// Puts a disk in the place of the one whose calls fail, and an empty one in that of the other, and does there what was done before the
 /// change.
 pub(crate) fn prepare(
-    alloc: Global,
     play: &Play<'_>,
     disk: MemoryDisk,
     devices: &mut MemoryDevices,
 ) -> Result<(), Trouble> {
-    let _store = devices.replace(Side::Store, empty_disk(alloc));
-    let _out = devices.replace(Side::Out, empty_disk(alloc));
+    let _store = devices.replace(Side::Store, empty_disk(play.alloc));
+    let _out = devices.replace(Side::Out, empty_disk(play.alloc));
     let _empty = devices.replace(play.side, disk);
-    act_all(alloc, play.before, devices)
+    act_all(play.alloc, play.before, devices)
 }
 
 /// The ends of a change.
-pub(crate) fn ends_of(
-    alloc: Global,
-    play: &Play<'_>,
-    devices: &mut MemoryDevices,
-) -> Result<Ends, Trouble> {
-    prepare(alloc, play, empty_disk(alloc), devices)?;
+pub(crate) fn ends_of(play: &Play<'_>, devices: &mut MemoryDevices) -> Result<Ends, Trouble> {
+    prepare(play, empty_disk(play.alloc), devices)?;
     let calls_before = devices.disk(play.side).calls();
-    let outcome = act_on(alloc, play.change, devices)?;
+    let outcome = act_on(play.alloc, play.change, devices)?;
     let calls = devices.disk(play.side).calls().saturating_sub(calls_before);
-    prepare(alloc, play, empty_disk(alloc), devices)?;
-    let first = ask(alloc, play.change, devices)?;
-    let lines = lines_done(alloc, play, devices)?;
+    prepare(play, empty_disk(play.alloc), devices)?;
+    let first = ask(play, devices)?;
+    let lines = lines_done(play, devices)?;
     Ok(Ends {
         calls_before,
         calls,
         outcome,
-        publishes: matches!(play.change.kind, Kind::Publish),
         first,
         lines,
     })
 }
 
 // The lines of a change, each done after those before it.
-fn lines_done(
-    alloc: Global,
-    play: &Play<'_>,
-    devices: &mut MemoryDevices,
-) -> Result<Vec<Done>, Trouble> {
+fn lines_done(play: &Play<'_>, devices: &mut MemoryDevices) -> Result<Vec<Done>, Trouble> {
     let source = play.change.source.bytes();
-    let mut lines = Vec::new(alloc);
+    let mut lines = Vec::new(play.alloc);
     let mut written: usize = 0;
     for count in 0..=source.len() {
         let front = source.get(..count).unwrap_or(b"");
         if count == source.len() || is_batch(play.change) && front.ends_with(b"\n") {
-            let line = line_done(alloc, play, front, written, devices)?;
+            let line = line_done(play, front, written, devices)?;
             written = written.saturating_add(line.reply.bytes().len());
             lines.push(line)?;
         }
@@ -170,18 +152,17 @@ fn is_batch(change: &Act) -> bool {
 
 // What comes of the last line of these, before which those before it wrote so many bytes.
 fn line_done(
-    alloc: Global,
     play: &Play<'_>,
     lines: &[u8],
     written: usize,
     devices: &mut MemoryDevices,
 ) -> Result<Done, Trouble> {
-    prepare(alloc, play, empty_disk(alloc), devices)?;
-    let streams = Streams::new(Text::from_bytes(alloc, lines)?);
-    let outcome = act_over(alloc, play.change, &streams, devices)?;
+    prepare(play, empty_disk(play.alloc), devices)?;
+    let streams = Streams::new(Text::from_bytes(play.alloc, lines)?);
+    let outcome = act_over(play.alloc, play.change, &streams, devices)?;
     let reply = outcome.reply.bytes().get(written..).unwrap_or(b"");
     Ok(Done {
-        reply: Text::from_bytes(alloc, reply)?,
-        told: ask(alloc, play.change, devices)?,
+        reply: Text::from_bytes(play.alloc, reply)?,
+        told: ask(play, devices)?,
     })
 }

@@ -1,6 +1,6 @@
 // A change is made once for each call that it makes, with that call failing or the disk stopped there.
 use crate::acts::{
-    MemoryDevices, Side, act_on, act_over, depot_of, empty_disk, fresh_devices, stop_disk,
+    Kind, MemoryDevices, Side, act_on, act_over, depot_of, empty_disk, fresh_devices, stop_disk,
 };
 use crate::ends::{Done, Ends, Play, ask, ends_of, prepare};
 use crate::streams::{Streams, only};
@@ -30,23 +30,23 @@ pub(crate) enum Device {
 
 /// Lets each call of the device that the change makes fail alone, or stops the disk there and after the change. Gives how many calls that
 /// are, and writes those that the change does not bear.
-pub(crate) fn fail_every(
-    alloc: Global,
-    play: &Play<'_>,
-    device: Device,
-    text: &mut Text,
-) -> Result<u64, Trouble> {
-    let mut devices = fresh_devices(alloc, play.files)?;
-    let ends = ends_of(alloc, play, &mut devices)?;
+pub(crate) fn fail_every(play: &Play<'_>, device: Device, text: &mut Text) -> Result<u64, Trouble> {
+    let mut devices = fresh_devices(play.alloc, play.files)?;
+    let ends = ends_of(play, &mut devices)?;
     if !matches!(device, Device::Source | Device::Sink) && !ends.are_apart() {
         return Err(Trouble::Unreadable("the change does nothing that can be told"));
     }
-    let last = last_call(&ends, device);
+    // A disk is stopped once after the change, too.
+    let last = match device {
+        Device::Disk(None) => ends.calls,
+        Device::Disk(Some(_)) => ends.calls.saturating_add(1),
+        _ => MOST_CALLS,
+    };
     for call in 1..=last {
-        match fault(alloc, play, &ends, (device, call), &mut devices)? {
-            Borne::NoSuchCall => return Ok(call.saturating_sub(1)),
-            Borne::Well => {}
-            Borne::Badly => append_call(alloc, text, "call", call)?,
+        match is_borne_at(play, &ends, (device, call), &mut devices)? {
+            None => return Ok(call.saturating_sub(1)),
+            Some(true) => {}
+            Some(false) => append_call(play.alloc, text, "call", call)?,
         }
     }
     Ok(last)
@@ -64,49 +64,30 @@ pub(crate) fn append_call(
     append_str(text, "\n")
 }
 
-// The last call that is tried. A disk is stopped once after the change, too.
-fn last_call(ends: &Ends, device: Device) -> u64 {
-    match device {
-        Device::Disk(None) => ends.calls,
-        Device::Disk(Some(_)) => ends.calls.saturating_add(1),
-        _ => MOST_CALLS,
-    }
-}
-
-// What came of a fault.
-#[derive(Clone, Copy)]
-enum Borne {
-    // The change has no such call, and ended as without a fault.
-    NoSuchCall,
-    Well,
-    Badly,
-}
-
-fn fault(
-    alloc: Global,
+// Whether the change bears that this call fails; `None` where it makes no such call, and ended as without a fault.
+fn is_borne_at(
     play: &Play<'_>,
     ends: &Ends,
     at: (Device, u64),
     devices: &mut MemoryDevices,
-) -> Result<Borne, Trouble> {
+) -> Result<Option<bool>, Trouble> {
     let (device, call) = at;
-    let outcome = made(alloc, play, ends, at, devices)?;
+    let outcome = made(play, ends, at, devices)?;
     let is_same = outcome.is_same(&ends.outcome);
     // A source is read to its end before the disk is looked at.
     let is_early = devices.store.disk.calls() == ends.calls_before;
     match device {
         Device::Disk(None) => {}
-        Device::Disk(Some(pick)) => stop_disk(alloc, devices, play.side, pick)?,
-        _ if is_same => return Ok(Borne::NoSuchCall),
+        Device::Disk(Some(pick)) => stop_disk(play.alloc, devices, play.side, pick)?,
+        _ if is_same => return Ok(None),
         _ => {}
     }
-    let found = ask(alloc, play.change, devices)?;
-    let is_well = match device {
+    let found = ask(play, devices)?;
+    Ok(Some(match device {
         Device::Source if !is_early => false,
         Device::Disk(_) if call > ends.calls => is_same && stands_after(ends, &found),
-        _ => is_borne(ends, device, play.side, &outcome, &found),
-    };
-    Ok(if is_well { Borne::Well } else { Borne::Badly })
+        _ => is_borne(play, ends, device, &outcome, &found),
+    }))
 }
 
 fn stands_after(ends: &Ends, found: &Text) -> bool {
@@ -118,22 +99,21 @@ fn stands_after(ends: &Ends, found: &Text) -> bool {
 
 // Makes the change where a call of the device fails.
 fn made(
-    alloc: Global,
     play: &Play<'_>,
     ends: &Ends,
     at: (Device, u64),
     devices: &mut MemoryDevices,
 ) -> Result<Outcome, Trouble> {
     let (device, call) = at;
-    let disk = disk_of(alloc, ends, device, call)?;
-    prepare(alloc, play, disk, devices)?;
+    let disk = disk_of(play.alloc, ends, device, call)?;
+    prepare(play, disk, devices)?;
     if matches!(device, Device::Depot) {
-        return made_beside(alloc, play, call, devices);
+        return made_beside(play, call, devices);
     }
     let mut streams = Streams::new(play.change.source.copy()?);
     streams.piece = play.piece;
     streams.fail(device, call);
-    act_over(alloc, play.change, &streams, devices)
+    act_over(play.alloc, play.change, &streams, devices)
 }
 
 // An empty disk, which fails at this call of the change where it is the device.
@@ -148,14 +128,13 @@ fn disk_of(alloc: Global, ends: &Ends, device: Device, call: u64) -> Result<Memo
 
 // Makes the change beside a depot of which a call fails.
 fn made_beside(
-    alloc: Global,
     play: &Play<'_>,
     call: u64,
     devices: &mut MemoryDevices,
 ) -> Result<Outcome, Trouble> {
-    let failing = depot_of(alloc, play.files, only(alloc, call)?)?;
+    let failing = depot_of(play.alloc, play.files, only(play.alloc, call)?)?;
     let depot = mem::replace(&mut devices.store.depot, failing);
-    let outcome = act_on(alloc, play.change, devices)?;
+    let outcome = act_on(play.alloc, play.change, devices)?;
     devices.store.depot = depot;
     Ok(outcome)
 }
@@ -171,12 +150,13 @@ fn made_beside(
 // | depot | 6 | nothing | what it tells before the line |
 //
 // A run that publishes writes nothing where a disk fails, and ends with 6 where that is the one in which it publishes.
-fn is_borne(ends: &Ends, device: Device, side: Side, outcome: &Outcome, found: &Text) -> bool {
+fn is_borne(play: &Play<'_>, ends: &Ends, device: Device, outcome: &Outcome, found: &Text) -> bool {
     let written = outcome.reply.bytes();
-    outcome.is_status(status_of(device, side))
+    let publishes = matches!(play.change.kind, Kind::Publish);
+    outcome.is_status(status_of(device, play.side))
         && match device {
             Device::Source => written.is_empty() && found.bytes() == ends.first.bytes(),
-            Device::Disk(_) if ends.publishes && !written.is_empty() => false,
+            Device::Disk(_) if publishes && !written.is_empty() => false,
             _ => is_left(ends, device, written, found.bytes()),
         }
 }

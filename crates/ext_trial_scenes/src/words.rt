@@ -4,40 +4,22 @@ use crate::every::{Device, append_call};
 use crate::resources;
 use crate::resources::is_entry;
 use crate::scene::Scene;
-use ext_case::{Trouble, line_of, number, number_line, number_text, one, path, size, string, two};
+use ext_case::{
+    Trouble, line_of, number, number_line, number_text, one, path, place_in, size, string, two,
+};
 use ext_cmd::{CmdErr, read_words};
-use ext_disk::{DiskOp, Pick};
+use ext_disk::Pick;
 use ext_text::{Text, Words};
 use ext_top::may_change;
-use ext_trial_disks::{calls_text, file_text, read_text, sizes_text, spots_on, whole_text};
+use ext_trial_disks::{calls_at, calls_text, file_text, read_text, spots_on, whole_text};
 use std::alloc::Global;
 
-// The words, in the order of the arms that carry them out: first those that write nothing.
-const WORDS: [&str; 23] = [
-    "in",
-    "disk",
-    "depot",
-    "resource",
-    "listed",
-    "serve",
-    "input",
-    "pieces",
-    "after",
-    "fail",
-    "stop",
-    "call",
-    "$",
-    "publish",
-    "status",
-    "whole",
-    "shows",
-    "called",
-    "appends",
-    "reads",
-    "appended",
-    "depot-read",
-    "may-change",
-];
+// The words of statements that write nothing, in the order of the arms that carry them out.
+const SILENT: &str = "in disk depot resource listed serve input pieces after";
+
+// The others.
+const TELLING: &str =
+    "fail stop call $ publish status whole shows called appended depot-read may-change";
 
 /// What a statement writes; `None` where no statement of scenes begins with the word.
 /// Errors: `Unreadable` where it can't be carried out.
@@ -51,11 +33,11 @@ pub fn answer(
         resources::put(alloc, scene, word, arguments)?;
         return Ok(Some(Text::new(alloc)));
     }
-    match WORDS.iter().position(|known| *known == word) {
-        Some(number) if number < 9 => {
-            prepare(alloc, scene, number, arguments)?;
-            Ok(Some(Text::new(alloc)))
-        }
+    if let Some(number) = place_in(SILENT, word.as_bytes()) {
+        prepare(alloc, scene, number, arguments)?;
+        return Ok(Some(Text::new(alloc)));
+    }
+    match place_in(TELLING, word.as_bytes()) {
         Some(number) => Ok(Some(carried_out(alloc, scene, number, arguments)?)),
         None => Ok(None),
     }
@@ -73,7 +55,8 @@ fn prepare(
         2 => put_in_depot(alloc, scene, arguments),
         3 => resources::begin(alloc, scene, one(arguments)?),
         4 => resources::list(alloc, scene, arguments),
-        5 => scene.serve(alloc),
+        5 if arguments.is_empty() => scene.serve(alloc),
+        5 => Err(Trouble::Unreadable("no argument is wanted")),
         6 => give_input(scene, one(arguments)?),
         7 => cut_streams(alloc, scene, arguments),
         _ => after_stop(alloc, scene, arguments),
@@ -87,19 +70,17 @@ fn carried_out(
     arguments: &[Text],
 ) -> Result<Text, Trouble> {
     match number {
-        9 => fail(alloc, scene, arguments),
-        10 => stop(alloc, scene, arguments),
-        11 => scene.act(alloc, Kind::Call, arguments),
-        12 => scene.run(alloc, Kind::Run, arguments),
-        13 => scene.run(alloc, Kind::Publish, arguments),
-        14 => status(alloc, scene, arguments),
-        15 => whole(alloc, scene, arguments),
-        16 => file_text(alloc, scene.disk(alloc)?, one(arguments)?),
-        17 => called(alloc, scene, arguments),
-        18 => sizes_text(alloc, scene.disk(alloc)?, DiskOp::Append, one(arguments)?),
-        19 => sizes_text(alloc, scene.disk(alloc)?, DiskOp::Read, one(arguments)?),
-        20 => appended(alloc, scene, arguments),
-        21 => read_text(alloc, &mut scene.devices(alloc)?.store.depot, arguments),
+        0 => fail(alloc, scene, arguments),
+        1 => stop(alloc, scene, arguments),
+        2 => scene.act(alloc, Kind::Call, arguments),
+        3 => scene.run(alloc, Kind::Run, arguments),
+        4 => scene.run(alloc, Kind::Publish, arguments),
+        5 => status(alloc, scene, arguments),
+        6 => whole(alloc, scene, arguments),
+        7 => file_text(alloc, scene.disk(alloc)?, one(arguments)?),
+        8 => called(alloc, scene, arguments),
+        9 => appended(alloc, scene, arguments),
+        10 => read_text(alloc, &mut scene.devices(alloc)?.store.depot, arguments),
         _ => may_change_text(alloc, arguments),
     }
 }
@@ -155,7 +136,10 @@ fn fail(alloc: Global, scene: &mut Scene, arguments: &[Text]) -> Result<Text, Tr
     let device = device_of(device)?;
     match string(call)? {
         "every" => fail_every(alloc, scene, device),
-        "never" => fail_never(alloc, scene, device),
+        "never" => match scene.fail_every(alloc, device)? {
+            (text, 0) => Ok(text),
+            (_, count) => number_line(alloc, count),
+        },
         _ => {
             scene.fail(alloc, device, number(call, u64::MAX)?)?;
             Ok(Text::new(alloc))
@@ -185,14 +169,6 @@ fn fail_every(alloc: Global, scene: &Scene, device: Device) -> Result<Text, Trou
         Device::Disk(_) | Device::Depot => {}
     }
     Ok(text)
-}
-
-// The change makes no call of the device.
-fn fail_never(alloc: Global, scene: &Scene, device: Device) -> Result<Text, Trouble> {
-    match scene.fail_every(alloc, device)? {
-        (text, 0) => Ok(text),
-        (_, count) => number_line(alloc, count),
-    }
 }
 
 // `stop CALL`, or `stop every pick PICK` where `every` is each pick.
@@ -268,13 +244,17 @@ fn appended(alloc: Global, scene: &mut Scene, arguments: &[Text]) -> Result<Text
     stated(alloc, &number_text(alloc, count)?, arguments)
 }
 
-// `called`, or `called COUNT` for the last so many.
+// `called`, `called COUNT` for the last so many, or `called CALL PATH`.
 fn called(alloc: Global, scene: &mut Scene, arguments: &[Text]) -> Result<Text, Trouble> {
-    let count = match arguments {
-        [] => u64::MAX,
-        _ => number(one(arguments)?, u64::MAX)?,
-    };
-    calls_text(alloc, scene.disk(alloc)?, count)
+    let disk = scene.disk(alloc)?;
+    match arguments {
+        [] => calls_text(alloc, disk, u64::MAX),
+        [count] => calls_text(alloc, disk, number(count, u64::MAX)?),
+        _ => {
+            let (call, at) = two(arguments)?;
+            calls_at(alloc, disk, call.bytes(), at.bytes())
+        }
+    }
 }
 
 // `whole`, or `whole PICK` for what a stop now would leave.

@@ -1,5 +1,5 @@
 // What is asked: tables of words, the arguments of a word, and lines that come of it.
-use ext_case::{Trouble, line_of, number_text};
+use ext_case::{Trouble, line_of, number_text, place_in};
 use ext_lines::{append_decimal, append_octal, read_decimal};
 use ext_text::{Name, NameErr, OutOfMemory, Path, PathErr, Text};
 use std::alloc::{AllocError, AllocFailed, Global};
@@ -29,18 +29,6 @@ pub(crate) fn number_of(
         }
     }
     Ok(None)
-}
-
-// The place of a word among words with a space between each two.
-fn place_in(words: &str, asked: &[u8]) -> Option<usize> {
-    let mut place: usize = 0;
-    for word in words.as_bytes().split(|byte| *byte == b' ') {
-        if word == asked {
-            return Some(place);
-        }
-        place = place.saturating_add(1);
-    }
-    None
 }
 
 /// What a word writes, or why it writes something else than what it calls gives.
@@ -135,13 +123,10 @@ impl<'a> Asked<'a> {
         }
     }
 
-    /// The arguments from one on, one after another, with this between each two.
-    pub(crate) fn joined(&self, from: usize, between: &[u8]) -> Said {
+    /// The arguments from one on, one after another.
+    pub(crate) fn joined(&self, from: usize) -> Said {
         let mut text = Text::new(self.alloc);
-        for (index, part) in self.after(from).iter().enumerate() {
-            if index > 0 {
-                text.append(between)?;
-            }
+        for part in self.after(from) {
             text.append(part.bytes())?;
         }
         Ok(text)

@@ -29,7 +29,7 @@ pub(crate) fn reply(asked: Asked, number: usize) -> Said {
 // What is asked of an index of a generation.
 fn index(asked: Asked, asks: usize) -> Said {
     let generation = asked.number(0)?;
-    let text = asked.joined(1, b"")?;
+    let text = asked.joined(1)?;
     match read_index(asked.alloc, text.bytes(), generation) {
         Ok((host, number)) => shown(asked, asks, generation, &host, number),
         Err(IndexErr::Broken { line }) => Err(Stop::Fault("fault ", line, "")),
@@ -105,21 +105,19 @@ fn changes(asked: Asked) -> Result<Answer, Stop> {
 fn versions(asked: Asked) -> Result<Answer, Stop> {
     let mut items = VersionItems::new(asked.alloc);
     for row in 0..4u64 {
-        let text = Text::from_bytes(asked.alloc, b"1.0")?;
-        items.push(version_item(text, row))?;
+        items.push(version_item(Text::from_bytes(asked.alloc, b"1.0")?, row))?;
     }
     Ok(Answer::Versions(items))
 }
 
 fn version_item(text: Text, row: u64) -> VersionItem {
-    let presence = match row {
-        3 => Presence::Installed,
-        _ => Presence::Absent,
-    };
     VersionItem {
         version: Version::new(text),
         available: row == 3,
-        presence,
+        presence: match row {
+            3 => Presence::Installed,
+            _ => Presence::Absent,
+        },
         protected: row == 1 || row == 3,
         obsolete: row >= 2,
     }

@@ -3,7 +3,7 @@ use crate::asked::{Asked, MANY, Row, Said, Stop, append, name, path};
 use crate::trees::tree_at;
 use ext_text::{Name, Path, PathRef, SortedPaths, Text};
 use ext_tree::{Stamp, Tree};
-use ext_vers::{Version, compare, order};
+use ext_vers::{compare, order};
 use ext_walk::{end_of_path, end_of_text, resolve};
 use std::cmp::Ordering;
 
@@ -12,7 +12,7 @@ pub(crate) const WORDS: [Row; 7] = [
     ("path", "read parent absolute", 1),
     ("path", "child join prefix compare", 2),
     ("path", "sorted among", MANY),
-    ("version", "sorted ascending", MANY),
+    ("version", "ascending", MANY),
     ("walk", "text path", 3),
     ("walk", "resolve", 2),
 ];
@@ -28,8 +28,7 @@ pub(crate) fn reply(asked: Asked, number: usize) -> Said {
         10..=23 => of_path(asked, number, &path_at(asked, 0)?),
         30 => sorted(asked),
         31 => among(asked),
-        40 => sorted_versions(asked),
-        41 => ascending(asked),
+        40 => ascending(asked),
         _ => walk(asked, number),
     }
 }
@@ -112,21 +111,6 @@ fn among(asked: Asked) -> Said {
         holds(paths.has_below(&names), b" below"),
         holds(paths.meets(&names), b" meets"),
     ])
-}
-
-// The texts in the order of versions, each once.
-fn sorted_versions(asked: Asked) -> Said {
-    let mut versions = Vec::new(asked.alloc);
-    for argument in asked.rest {
-        versions.push(Version::new(argument.copy()?))?;
-    }
-    versions.sort_unstable();
-    versions.dedup();
-    let mut text = Text::new(asked.alloc);
-    for version in versions {
-        append(&mut text, &[version.copy()?.bytes()])?;
-    }
-    Ok(text)
 }
 
 // Whether the texts of each line of the arguments are below those of each later line, and those of one line, parted by `=`,

@@ -93,6 +93,7 @@ impl Scene {
             return Err(Trouble::Unreadable("the statement before is no command"));
         }
         let play = Play {
+            alloc,
             before,
             change,
             files: &self.files,
@@ -100,7 +101,7 @@ impl Scene {
             piece: self.streams.piece,
         };
         let mut text = Text::new(alloc);
-        let count = fail_every(alloc, &play, device, &mut text)?;
+        let count = fail_every(&play, device, &mut text)?;
         Ok((text, count))
     }
 
