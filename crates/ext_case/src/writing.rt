@@ -46,8 +46,6 @@ pub fn append_str(text: &mut Text, more: &str) -> Result<(), Trouble> {
 
 /// Adds the digits of a number.
 pub fn append_number(alloc: Global, text: &mut Text, number: u64) -> Result<(), Trouble> {
-    let mut digits = Vec::new(alloc);
-    append_decimal(&mut digits, number)?;
-    text.append(digits.as_slice())?;
+    text.append(number_text(alloc, number)?.bytes())?;
     Ok(())
 }

@@ -41,10 +41,7 @@ impl MemoryDevices {
 
     /// Puts another disk in the place of one.
     pub(crate) fn replace(&mut self, side: Side, disk: MemoryDisk) -> MemoryDisk {
-        match side {
-            Side::Store => mem::replace(&mut self.store.disk, disk),
-            Side::Out => mem::replace(&mut self.out, disk),
-        }
+        mem::replace(self.disk(side), disk)
     }
 }
 
@@ -124,7 +121,10 @@ pub(crate) fn act_over(
     match act.kind {
         Kind::Run => run_over(alloc, &act.words, streams, &mut devices.store),
         Kind::Publish => publish_over(alloc, &act.words, streams, devices),
-        _ => done(alloc, asked(alloc, act, devices)?),
+        _ => Ok(Outcome {
+            status: written(alloc, b"0")?,
+            reply: asked(alloc, act, devices)?,
+        }),
     }
 }
 
@@ -137,14 +137,6 @@ fn asked(alloc: Global, act: &Act, devices: &mut MemoryDevices) -> Result<Text, 
         _ => put_on(alloc, devices.disk(act.side), words)?,
     }
     Ok(Text::new(alloc))
-}
-
-// It ended well, and wrote this.
-fn done(alloc: Global, reply: Text) -> Result<Outcome, Trouble> {
-    Ok(Outcome {
-        status: written(alloc, b"0")?,
-        reply,
-    })
 }
 
 /// How an act ends over streams on which nothing fails.

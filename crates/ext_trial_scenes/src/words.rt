@@ -21,8 +21,7 @@ const SILENT: &str = "in disk depot resource listed serve input pieces after";
 const TELLING: &str =
     "fail stop call $ publish status whole shows called appended depot-read may-change";
 
-/// What a statement writes; `None` where no statement of scenes begins with the word.
-/// Errors: `Unreadable` where it can't be carried out.
+/// What a statement writes; `None` where no statement of scenes begins with the word. Errors: `Unreadable` where it can't be carried out.
 pub fn answer(
     alloc: Global,
     scene: &mut Scene,
