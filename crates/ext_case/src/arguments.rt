@@ -75,11 +75,6 @@ pub fn number(argument: &Text, most: u64) -> Result<u64, Trouble>
     }
 }
 
-/// The argument as a decimal number below 4,294,967,296. Errors: `Unreadable` where it is none.
-pub fn small(argument: &Text) -> Result<u32, Trouble> {
-    Ok(number(argument, 4_294_967_295)? as u32)
-}
-
 /// The argument as a decimal number that an index may be. Errors: `Unreadable` where it is none.
 pub fn size(argument: &Text) -> Result<usize, Trouble> {
     Ok(number(argument, u64::MAX)? as usize)

@@ -18,7 +18,7 @@ mod undoing;
 mod writing;
 
 pub use arguments::{
-    name, number, one, one_and_more, path, place_in, size, small, string, three, two, two_and_more,
+    name, number, one, one_and_more, path, place_in, size, string, three, two, two_and_more,
 };
 pub use case::{Case, Cases, Fault, Statement};
 pub use difference::{append_difference, append_shown};

@@ -46,7 +46,10 @@ impl Undoing {
         match self.state {
             State::Plain => self.take_plain(byte),
             State::Escape => self.take_escape(byte),
-            State::FirstDigit => self.take_first_digit(byte),
+            State::FirstDigit => {
+                self.state = State::SecondDigit(digit(byte)?);
+                Ok(())
+            }
             State::SecondDigit(high) => self.take_second_digit(high, byte),
             State::Count(count) => self.take_count(alloc, count, byte),
         }
@@ -87,11 +90,6 @@ impl Undoing {
             b'e' => {}
             _ => self.text.push(named_byte(byte)?)?,
         }
-        Ok(())
-    }
-
-    fn take_first_digit(&mut self, byte: u8) -> Result<(), Trouble> {
-        self.state = State::SecondDigit(digit(byte)?);
         Ok(())
     }
 

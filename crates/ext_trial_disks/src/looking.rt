@@ -36,8 +36,7 @@ pub fn file_text(alloc: Global, disk: &mut MemoryDisk, at: &Text) -> Result<Text
     }
 }
 
-/// A line for each call that the disk was asked for, or for the last so many of them: which, its path, and its bytes where it
-/// has some.
+/// A line for each call that the disk was asked for, or for the last so many of them: which, its path, and its bytes where it has some.
 pub fn calls_text(alloc: Global, disk: &MemoryDisk, count: u64) -> Result<Text, Trouble> {
     let mut text = Text::new(alloc);
     let first = disk.calls().saturating_sub(count);
@@ -81,14 +80,11 @@ pub fn calls_at(alloc: Global, disk: &MemoryDisk, name: &[u8], at: &[u8]) -> Res
     let mut text = Text::new(alloc);
     for index in 0..disk.calls() {
         if let Some(call) = disk.call(index)
-            && is_at(call, name, at)
+            && name_of(call.op).as_bytes() == name
+            && call.path.text() == at
         {
             append_call(alloc, &mut text, call)?;
         }
     }
     Ok(text)
-}
-
-fn is_at(call: &DiskCall, name: &[u8], at: &[u8]) -> bool {
-    name_of(call.op).as_bytes() == name && call.path.text() == at
 }

@@ -3,7 +3,7 @@ ghost use Rattle.std.specs.Prelude.{◌≡◌, ◌∷◌, ◌++◌, [], IsTrue, 
 ghost use Rattle.ext_disk.specs.Calls.{make_file, MayCall};
 
 use crate::disk_calls::call_text;
-use ext_case::{Trouble, append_number, name, one, path, small, string, two_and_more, written};
+use ext_case::{Trouble, append_number, name, number, one, path, string, two_and_more, written};
 use ext_disk::{Disk, Kind, MemoryDisk};
 use ext_io::Failed;
 use ext_store_files::{make_folder, sync_folder, write_file};
@@ -71,17 +71,17 @@ pub fn put_on(alloc: Global, disk: &mut MemoryDisk, arguments: &[Text]) -> Resul
     match string(kind)? {
         "folder" => put(alloc, disk, at.bytes(), Standing::Folder),
         "file" => put(alloc, disk, at.bytes(), Standing::File(one(rest)?.bytes())),
-        "files" => put_files(alloc, disk, at, small(one(rest)?)?),
+        "files" => put_files(alloc, disk, at, number(one(rest)?, u64::MAX)?),
         "sync" => told(sync_there(disk, &path(alloc, at)?)),
         _ => Err(Trouble::Unreadable("no such thing on a disk")),
     }
 }
 
-fn put_files(alloc: Global, disk: &mut MemoryDisk, dir: &Text, count: u32) -> Result<(), Trouble> {
+fn put_files(alloc: Global, disk: &mut MemoryDisk, dir: &Text, count: u64) -> Result<(), Trouble> {
     for number in 0..count {
         let mut at = dir.copy()?;
         at.append(b"/")?;
-        append_number(alloc, &mut at, u64::from(number))?;
+        append_number(alloc, &mut at, number)?;
         put(alloc, disk, at.bytes(), Standing::Empty)?;
     }
     Ok(())

@@ -89,9 +89,14 @@ pub(crate) struct Ends {
 impl Ends {
     /// Whether the change makes calls of the disk, and a store tells something else before it than after it.
     pub(crate) fn are_apart(&self) -> bool {
+        self.calls > 0 && self.first.bytes() != self.last()
+    }
+
+    /// What the store tells after the change.
+    pub(crate) fn last(&self) -> &[u8] {
         match self.lines.last() {
-            Some(last) => self.calls > 0 && self.first.bytes() != last.told.bytes(),
-            None => false,
+            Some(last) => last.told.bytes(),
+            None => b"",
         }
     }
 }

@@ -85,16 +85,9 @@ fn is_borne_at(
     let found = ask(play, devices)?;
     Ok(Some(match device {
         Device::Source if !is_early => false,
-        Device::Disk(_) if call > ends.calls => is_same && stands_after(ends, &found),
+        Device::Disk(_) if call > ends.calls => is_same && found.bytes() == ends.last(),
         _ => is_borne(play, ends, device, &outcome, &found),
     }))
-}
-
-fn stands_after(ends: &Ends, found: &Text) -> bool {
-    match ends.lines.last() {
-        Some(last) => found.bytes() == last.told.bytes(),
-        None => false,
-    }
 }
 
 // Makes the change where a call of the device fails.

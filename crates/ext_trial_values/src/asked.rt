@@ -56,11 +56,9 @@ impl Stop {
             Stop::Fault(word, number, more) => {
                 let mut text = Text::from_bytes(alloc, word.as_bytes())?;
                 text.append(number_text(alloc, number)?.bytes())?;
-                text.append(if more.is_empty() {
-                    b"".as_slice()
-                } else {
-                    b" "
-                })?;
+                if !more.is_empty() {
+                    text.append(b" ")?;
+                }
                 text.append(line_of(alloc, more)?.bytes())?;
                 Ok(Some(text))
             }

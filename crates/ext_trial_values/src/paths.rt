@@ -71,8 +71,7 @@ fn holds(holds: bool, word: &'static [u8]) -> &'static [u8] {
     if holds { word } else { b"" }
 }
 
-// The order of two paths, whether they are the same, and whether the first starts with the other, is below it, and is
-// related to it.
+// The order of two paths, whether they are the same, and whether the first starts with the other, is below it, and is related to it.
 fn relations(asked: Asked, at: &Path, other: &Path) -> Said {
     asked.line(&[
         order_word(at.cmp(other)),
