@@ -14,10 +14,9 @@ pub(crate) struct Counts {
 impl Counts {
     /// Counts one more.
     pub(crate) fn add(&mut self, passes: bool) {
-        if passes {
-            self.passed = self.passed.saturating_add(1);
-        } else {
-            self.failed = self.failed.saturating_add(1);
+        match passes {
+            true => self.passed = self.passed.saturating_add(1),
+            false => self.failed = self.failed.saturating_add(1),
         }
     }
 }
