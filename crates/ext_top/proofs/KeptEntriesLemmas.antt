@@ -8,8 +8,7 @@ use Rattle.ext_tree.specs.declared.entry.Entry.{Entry}
 use Rattle.ext_tree.specs.declared.entry.Entry.TheVariants.{Dir, Opaque, File, Link, Hide}
 use Rattle.ext_host.specs.Held.{HeldFile}
 use Rattle.ext_host.specs.Host.{base_at, hierarchies_in, is_in, merged_hierarchies, present}
-use Rattle.ext_host.specs.declared.body.Body.{Body}
-use Rattle.ext_host.specs.declared.body.Body.TheVariants.{Here, Kept, Depot}
+use Rattle.ext_host.specs.declared.body.Body.TheVariants.{Kept}
 use Rattle.ext_host.specs.declared.home.Home.{Home}
 use Rattle.ext_host.specs.declared.host.Host.{Host}
 use Rattle.ext_homes.specs.Placed.{ArePlaced, IsBodyPlaced, IsEntryPlaced, IsHostPlaced, Stored}

@@ -1,5 +1,5 @@
 -- What attaching and detaching leave of a host: outside of the paths at which they write or cut, all that there was.
-use Rattle.std.proofs.Common.{◌≡◌, ℕ, zero, suc, Bool, true, false, cond, not, ◌&&◌, ◌||◌, if◌then◌else◌, List, [], ◌∷◌, ◌++◌, Option, Some, None, Ok, refl, sym, ap, ◌∙◌, subst, arith}
+use Rattle.std.proofs.Common.{◌≡◌, ℕ, zero, suc, Bool, true, false, cond, not, ◌&&◌, ◌||◌, if◌then◌else◌, List, [], ◌∷◌, ◌++◌, None, refl, sym, ap, ◌∙◌, subst, arith}
 use Rattle.std.specs.Prelude.{Contains}
 use Rattle.std.specs.List.{filter, list_any}
 use Rattle.std.proofs.lemmas.Bool.{and_parts, false_from_ne_true, or_parts, true≢false}
@@ -20,11 +20,11 @@ use Rattle.ext_host.specs.declared.manifest.Manifest.{Manifest}
 use Rattle.ext_units.specs.ImageName.{first_part, image_name}
 use Rattle.ext_units.specs.declared.image.Image.{Image}
 use Rattle.ext_updated.proofs.ForCallers.{prefixes_related}
-use Rattle.ext_attached.specs.Going.{cut_paths, detached, paths_without}
+use Rattle.ext_attached.specs.Going.{cut_paths, detached}
 use Rattle.ext_attached.specs.declared.going.By.{By}
 use Rattle.ext_attached.specs.declared.going.By.TheVariants.{FirstPart}
 use Rattle.ext_added.specs.declared.ask.Ask.{Ask}
-use Rattle.ext_port.specs.Laws.{added_of, is_way, with_ways}
+use Rattle.ext_port.specs.Laws.{added_of, with_ways}
 use Rattle.ext_port.specs.Starting.{cut_of, start_host}
 use Rattle.ext_port.specs.declared.attaching.Attach.{Attach}
 use Rattle.ext_port.proofs.ForCallers.{LeavesOthers, attaches_leaves}

@@ -1,33 +1,29 @@
 -- Detaching undoes attaching: what was put goes, files that were there keep their homes, and nothing but the room of the store can be
 -- in the way.
-use Rattle.std.proofs.Common.{◌≡◌, ℕ, ◌+◌, ◌≤◌, ◌==◌, Bool, true, false, cond, not, if◌then◌else◌, List, [], ◌∷◌, ◌++◌, length, inl, inr, Option, Some, None, Result, Ok, Err, refl, sym, ap, ◌∙◌, subst, arith}
+use Rattle.std.proofs.Common.{◌≡◌, ℕ, ◌+◌, ◌==◌, Bool, true, false, cond, not, if◌then◌else◌, List, [], ◌∷◌, ◌++◌, length, inl, inr, Option, Some, None, Ok, Err, refl, sym, ap, ◌∙◌, subst, arith}
 use Rattle.std.specs.FinMap.Entries.{where_key}
-use Rattle.std.specs.List.{AllByRecursion, filter, list_any}
+use Rattle.std.specs.List.{AllByRecursion}
 use Rattle.std.proofs.lemmas.Bool.{true≢false}
 use Rattle.ext_text.specs.Path.{path_cmp}
 use Rattle.ext_text.specs.SortedPaths.{covers, meets}
 use Rattle.ext_text.specs.declared.which.Which.{Which}
 use Rattle.ext_text.proofs.ForCallers.{all_append, all_back}
 use Rattle.ext_depot.specs.Depot.{DepotState, Files}
-use Rattle.ext_disk.specs.Disk.{Tree}
 use Rattle.ext_tree.specs.Cut.{cut_all}
 use Rattle.ext_tree.specs.Graft.{or_made}
 use Rattle.ext_tree.specs.Tree.{Entries, IsTree, lookup}
 use Rattle.ext_tree.specs.declared.entry.Entry.{Entry}
 use Rattle.ext_tree.specs.declared.entry.Entry.TheVariants.{Dir, Opaque, File, Link, Hide}
-use Rattle.ext_tree.specs.declared.stamp.Stamp.{Stamp}
 use Rattle.ext_tree.proofs.ForCallers.{is_cut_all, tree_cut_all}
-use Rattle.ext_host.specs.Drawn.{IsFileOf, trees_of}
 use Rattle.ext_host.specs.Held.{HeldFile}
 use Rattle.ext_host.specs.ReadOnly.{is_read_only}
 use Rattle.ext_host.specs.Shelf.{stored}
 use Rattle.ext_host.specs.Touch.{untouched_all}
-use Rattle.ext_host.specs.Valid.{AreAttachments, IsValidHost}
+use Rattle.ext_host.specs.Valid.{AreAttachments}
 use Rattle.ext_host.specs.declared.body.Body.{Body}
 use Rattle.ext_host.specs.declared.body.Body.TheVariants.{Here, Kept, Depot}
 use Rattle.ext_host.specs.declared.home.Home.{Home}
 use Rattle.ext_host.specs.declared.host.Host.{Host}
-use Rattle.ext_host.specs.declared.host.Plan.{Plan}
 use Rattle.ext_host.specs.declared.manifest.Manifest.{Manifest}
 use Rattle.ext_units.specs.ImageName.{first_part, image_name}
 use Rattle.ext_units.specs.declared.image.Image.{Image}
@@ -40,13 +36,12 @@ use Rattle.ext_attached.specs.declared.going.By.TheVariants.{Name, FirstPart}
 use Rattle.ext_attached.proofs.ForCallers.{cut_found, staying_attached}
 use Rattle.ext_port.specs.Laws.{added_of, is_way, with_ways}
 use Rattle.ext_port.specs.Starting.{cut_of, start_host}
-use Rattle.ext_port.specs.declared.attaching.Attach.{Attach}
 use Rattle.ext_port.proofs.ForCallers.{LeavesOthers, LeavesRest}
 use Rattle.ext_homes.specs.Placed.{ArePlaced, IsBodyPlaced, IsEntryPlaced, IsHostPlaced, Stored}
 use Rattle.ext_homes.specs.Refused.{StopsAt}
 use Rattle.ext_gen.specs.Opened.{Generation}
-use Rattle.ext_gen.specs.Preparing.{contents_after, contents_of, coming_number, host_before, limit_of}
-use Rattle.ext_gen.specs.Store.{Stands, State, at, generation_in, none}
+use Rattle.ext_gen.specs.Preparing.{contents_after, contents_of, coming_number}
+use Rattle.ext_gen.specs.Store.{State, at, generation_in, none}
 use Rattle.ext_gen.proofs.ForCallers.{current_is_opened, opened_is_well_formed}
 use Rattle.ext_cmd.specs.Portable.{ask_of, extensions_of}
 use Rattle.ext_cmd.specs.Replies.{answer_text}
@@ -57,18 +52,16 @@ use Rattle.ext_cmd.specs.declared.portable.PortCommand.TheVariants as commands
 use Rattle.ext_cmd.specs.declared.refusal.Refusal.{Refusal}
 use Rattle.ext_cmd.specs.declared.refusal.Refusal.TheVariants as refusals
 use Rattle.ext_intents.specs.Intents.{IsPlanned, Seen}
-use Rattle.ext_intents.specs.Portable.{AttachWants, DetachWants, attached_intent, not_detached}
-use Rattle.ext_intents.specs.Step.{Wants, WantsOf}
+use Rattle.ext_intents.specs.Portable.{AttachWants, DetachWants, not_detached}
+use Rattle.ext_intents.specs.Step.{WantsOf}
 use Rattle.ext_intents.specs.declared.intent.Intent.{Intent}
-use Rattle.ext_intents.specs.declared.intent.Intent.TheVariants.{Changes, Refuses}
-use Rattle.ext_intents.specs.declared.plan_err.PlanErr.{PlanErr}
 use Rattle.ext_top.specs.Laws.{DetachingUndoesAttaching}
-use Rattle.ext_top.specs.Machine.{Comes, IsMismatch, IsNextState, IsNotThere, Outcome, RefusesNext, Replaces, Step, StopsFor, bytes_at, depot_of, gives, refuses, stored_of, trees_in}
-use Rattle.ext_top.specs.Services.{GivesBack, HasBack, HasNoRoom, IsBackFrom, attaching}
+use Rattle.ext_top.specs.Machine.{Comes, IsMismatch, IsNextState, IsNotThere, Outcome, RefusesNext, Replaces, Step, StopsFor, bytes_at, depot_of, gives, refuses, stored_of}
+use Rattle.ext_top.specs.Services.{GivesBack, HasNoRoom, IsBackFrom, attaching}
 use Rattle.ext_top.proofs.BaseStaysLemmas.{IfChanges}
-use Rattle.ext_top.proofs.KeptEntriesLemmas.{IsKeptAt, lower_placed, none_is, root_placed, stays_at}
+use Rattle.ext_top.proofs.KeptEntriesLemmas.{IsKeptAt, lower_placed, root_placed, stays_at}
 use Rattle.ext_top.proofs.ServicesLemmas.{attached_leaves}
-use Rattle.ext_top.proofs.UntouchedLemmas.{IsGood, next_bytes, next_good, number_in, one_more, stands_good, step_planned}
+use Rattle.ext_top.proofs.UntouchedLemmas.{IsGood, next_bytes, next_good, stands_good, step_planned}
 use Rattle.ext_top.proofs.ViewFilesLemmas.{lower_file, root_file}
 
 state_same : (u v : State) (a b : List ℕ) → gives u a ≡ gives v b → u ≡ v

@@ -2,12 +2,9 @@ use Rattle.std.proofs.Common.{◌≡◌, Ok, Err, refl}
 use Rattle.std.proofs.lemmas.Result.{err_from_is_err_and}
 use Rattle.ext_disk.proofs.ForCallers.{follows_itself, rests_follow}
 use Rattle.ext_store_files.proofs.ForCallers.{kept_itself}
-use Rattle.ext_intents.specs.declared.intent.Intent.{Intent}
-use Rattle.ext_top.specs.CarryingOut.{CarriesOut}
 use Rattle.ext_top.specs.Machine.{Comes}
 use Rattle.ext_top.proofs.ReadingLemmas.{answers_applied, refusal_applied, rest_is_cause, unread_applies}
 use Rattle.ext_top.proofs.WorkingLemmas.{reading_keeps, works_not, works_nothing}
-use Rattle.ext_top.specs.Working.{WantsWithin}
 use Rattle.ext_top.specs.declared.applied.Reply.TheVariants.{Text, Refused}
 use Rattle.ext_top.proofs.UnfinishedLemmas.{rest_unfinished}
 use Rattle.ext_top.proofs.CurrentLemmas.{points_rested, rested_current}

@@ -1,4 +1,4 @@
-use Rattle.std.proofs.Common.{◌≡◌, Err, refl}
+use Rattle.std.proofs.Common.{Err, refl}
 use Rattle.std.proofs.lemmas.Result.{err_from_is_err_and}
 use Rattle.ext_disk.proofs.ForCallers.{follows_itself}
 use Rattle.ext_store_files.proofs.ForCallers.{kept_itself}

@@ -1,4 +1,4 @@
-use Rattle.std.proofs.Common.{◌≡◌, Ok, Err, refl, sym, ◌∙◌, subst}
+use Rattle.std.proofs.Common.{Ok, Err, refl, sym, ◌∙◌, subst}
 use Rattle.std.proofs.lemmas.Result.{err_from_is_err_and}
 use Rattle.ext_disk.specs.Disk.{BothTold}
 use Rattle.ext_disk.proofs.ForCallers.{follows_then}
@@ -7,7 +7,6 @@ use Rattle.ext_homes.specs.Giving.{trees_before}
 use Rattle.ext_gen.specs.Opened.{Generation}
 use Rattle.ext_gen.specs.Preparing.{ArePastBefore, LimitSays, PrepareCause, coming_number, host_before, is_left, limit_of}
 use Rattle.ext_gen.specs.PreparingPaths.{Cleans}
-use Rattle.ext_cmd.specs.declared.answer.Answer.{Answer}
 use Rattle.ext_top.specs.Applying.{AppliesTold}
 use Rattle.ext_top.proofs.LineLemmas.{rose_from}
 use Rattle.ext_top.specs.Machine.{Replaces}
