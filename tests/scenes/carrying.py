@@ -1,5 +1,5 @@
-"""What tools/carry writes and compares, the order of the gate, and what tests/run counts: each in a small repository, whose
-`rt` is a script and whose programs are copies of the one that is tested."""
+"""What tools/carry writes and compares, and the order of the gate: each in a small repository, whose `rt` is a script and whose programs
+are copies of the one that is tested."""
 import os
 import shlex
 import shutil
@@ -236,51 +236,6 @@ def the_gate_keeps_what_it_built_the_programs_of(repository):
     expect(repository.run("tools/carry", "--after"), (b"", b"carry: nothing is told of the sources before the build\n", 1))
 
 
-COUNTS = b"#!/bin/sh\necho told\necho %d passed, %d failed, %d skipped\nexit %d\n"
-
-
-def tests_of(folder, program):
-    """A repository whose tests are scripts that count."""
-    made = built(folder, program)
-    (made.place / "tests").mkdir()
-    shutil.copy(TOP / "tests/run", made.place / "tests/run")
-    made.write("tests/cases/a.cases", b"")
-    made.build("ext_trial", b'#!/bin/sh\necho "$@"\necho 2 passed, 0 failed\n')
-    made.write("tests/program", COUNTS % (30, 0, 4, 0))
-    made.write("tests/system-calls", COUNTS % (500, 0, 0, 0))
-    made.write("tests/hostile", b'#!/bin/sh\necho "$@"\necho "60 passed, 0 failed, 0 skipped: failures of calls 9 (init 9)"\n')
-    made.write("tests/mutations", b'#!/bin/sh\necho "$@"\necho "14 passed, 0 failed, 0 skipped: mutations 6,000 (words 9)"\n')
-    made.tool("python3", "")
-    made.tool("strace", "")
-    return made
-
-
-ALL = b"== cases\ntests/cases/a.cases\n2 passed, 0 failed\n== tests/program\ntold\n30 passed, 0 failed, 4 skipped\n"
-CALLS = b"== tests/system-calls\ntold\n500 passed, 0 failed, 0 skipped\n"
-HOSTILE = b"== tests/hostile\n--short\n60 passed, 0 failed, 0 skipped: failures of calls 9 (init 9)\n"
-HOSTILE += b"== tests/mutations\n--short\n14 passed, 0 failed, 0 skipped: mutations 6,000 (words 9)\n"
-
-
-def the_tests_are_counted_together(repository):
-    expect(repository.run("tests/run"), (ALL + CALLS + HOSTILE + b"606 passed, 0 failed, 4 skipped\n", b"", 0))
-    repository.write("tests/system-calls", COUNTS % (499, 1, 0, 1))
-    told = CALLS.replace(b"500 passed, 0", b"499 passed, 1")
-    expect(repository.run("tests/run"), (ALL + told + HOSTILE + b"605 passed, 1 failed, 4 skipped\n", b"", 1))
-    repository.write("tests/system-calls", b"#!/bin/sh\nexit 1\n")
-    expect(repository.run("tests/run"), (ALL + b"== tests/system-calls\n" + HOSTILE + b"106 passed, 1 failed, 4 skipped\n", b"", 1))
-
-
-def a_missing_tool_ends_the_tests_unless_it_is_skipped(repository):
-    told = b""
-    for tool in "strace", "python3":
-        (repository.bin / tool).unlink()
-        told = b"tests/run: %s is missing: install the package %s, or skip what needs it with --skip-missing\n" % (tool.encode(), tool.encode()) + told
-        expect(repository.run("tests/run"), (b"", told, 2))
-    cases = ALL[: ALL.index(b"== tests/program")]
-    skipped = b"".join(b"skipped: %s: there is no python3\n" % name for name in (b"tests/program", b"tests/system-calls", b"tests/hostile", b"tests/mutations"))
-    expect(repository.run("tests/run", "--skip-missing"), (cases + skipped + b"2 passed, 0 failed, 4 skipped\n", b"", 0))
-
-
 WITH_PROGRAMS = [
     *(what_is_carried_runs_and_has_its_sums, a_program_of_other_sources_or_none_is_not_carried),
     *(other_sources_and_other_bytes_differ, with_another_kit_what_was_built_is_not_compared),
@@ -288,9 +243,7 @@ WITH_PROGRAMS = [
     *(each_moment_has_the_carried_programs, where_two_folders_cannot_be_exchanged_a_line_says_so),
     *(the_gate_ends_with_the_first_status_that_is_not_0, the_gate_keeps_what_it_built_the_programs_of),
 ]
-WITH_TESTS = [the_tests_are_counted_together, a_missing_tool_ends_the_tests_unless_it_is_skipped]
 
 
 def scenes(program):
     yield from in_each(built, WITH_PROGRAMS, program)
-    yield from in_each(tests_of, WITH_TESTS, program)

@@ -1,4 +1,5 @@
-"""A pool of processes in which scenes run side by side. What they tell comes in their order, whichever ends first."""
+"""A pool of processes in which scenes run side by side, each when its turn comes. What they tell comes in their order, whichever ends
+first."""
 import contextlib
 import io
 import multiprocessing
@@ -7,6 +8,7 @@ import sys
 from concurrent.futures import ProcessPoolExecutor
 
 from scenes.running import outcome
+from scenes.turns import ALONE, FIRST, NEXT, turn
 
 # The scenes of this run. A process of the pool has them from its beginning, since calls can't be sent to it.
 SCENES = []
@@ -17,11 +19,16 @@ def processors():
     return len(os.sched_getaffinity(0))
 
 
-def ended(at):
+def ended(at, how):
     """How a scene ended, and what it told."""
-    with contextlib.redirect_stdout(io.StringIO()) as told:
+    with turn(f"{part()}: {SCENES[at][0]}", how), contextlib.redirect_stdout(io.StringIO()) as told:
         end = outcome(*SCENES[at])
     return end, told.getvalue()
+
+
+def part():
+    """The part of the tests that this process works for."""
+    return os.path.basename(sys.argv[0])
 
 
 def show(text):
@@ -45,10 +52,10 @@ def run_all(beside, alone, jobs, is_long=lambda name: False):
 
     with ProcessPoolExecutor(jobs, mp_context=multiprocessing.get_context("fork")) as pool:
         order = sorted(range(len(beside)), key=lambda at: not is_long(beside[at][0]))
-        begun = {at: pool.submit(ended, at) for at in order}
+        begun = {at: pool.submit(ended, at, FIRST if is_long(beside[at][0]) else NEXT) for at in order}
         for at in range(len(beside)):
             tell(at, *begun[at].result())
     for at in range(len(beside), len(SCENES)):
-        tell(at, *ended(at))
+        tell(at, *ended(at, ALONE))
     show("")
     return ends

@@ -20,8 +20,8 @@ EMPTY_INDEX = (
 )
 OLD_INDEX = b"hostext-store 1\nhost x86-64 system\nattached 0\nkept 0\nroot 0\nlower 0\nend\n"
 INIT = ("init", "x86-64", "system")
-# In memory, where there is such a file system: a disk takes its time for each sync.
-ROOM = "/dev/shm" if os.access("/dev/shm", os.W_OK) else None
+# In memory, where there is such a file system: a disk takes its time for each sync. tests/run names a folder of its own there.
+ROOM = os.environ.get("HOSTEXT_ROOM") or ("/dev/shm" if os.access("/dev/shm", os.W_OK) else None)
 FAULTS = {5: b"hostext: disk fault\n", 6: b"hostext: depot fault\n", 8: b"hostext: bad store\n", 9: b"hostext: unfinished\n"}
 
 
