@@ -162,16 +162,17 @@ def a_turn_ends_with_its_process(repository):
 
 def a_terminal_shows_what_the_parts_are_at(repository):
     parts(repository, "tests/a --jobs")
-    repository.write("tests/a", WORKING.encode())
+    repository.write("tests/a", WORKING.replace("sleep(0.1)", "sleep(0.5)").encode())
     (repository.place / "at-work").mkdir()
     ours, theirs = os.openpty()
     try:
-        written, _, status = repository.run("tests/run", "--jobs", "1", stderr=theirs)
+        child = repository.start("tests/run", "--jobs", "1", stderr=theirs)
+        written, status = child.communicate(timeout=SECONDS)[0], child.returncode
         shown = os.read(ours, 65536).decode()
     finally:
         os.close(ours), os.close(theirs)
     lines = [line for line in shown.split(WIPED) if line]
-    wanted = r"0 of 1 parts are shown, [0-4] scenes have ended; at (none|a: scene ([0-3]|alone))"
+    wanted = r"0 of 1 parts are shown, [0-5] scenes have ended; at (none|a: scene ([0-3]|alone))"
     if status or b"5 passed" not in written or not shown.endswith(WIPED) or not any("at a: scene " in line for line in lines):
         raise Failed(f"it ends with {status}, and shows {shown!r}")
     if others := [line for line in lines if not re.fullmatch(wanted, line)]:

@@ -106,7 +106,7 @@ class Runner:
     """Runs parts, and answers those that ask for turns."""
 
     def __init__(self, jobs, rooms):
-        self.turns, self.rooms, self.parts, self.due = Turns(jobs), rooms, [], 0
+        self.turns, self.rooms, self.parts, self.due, self.said = Turns(jobs), rooms, [], 0, ""
         self.selector, self.socket = selectors.DefaultSelector(), socket.socket(socket.AF_UNIX)
         name = os.path.basename(rooms[0])
         self.socket.bind(turns.address(name))
@@ -126,7 +126,7 @@ class Runner:
         for at, part in enumerate(parts):
             while part.status is None:
                 self.wait(at)
-            show("")
+            self.say("")
             sums = [sum(pair) for pair in zip(sums, part.show())]
         return sums
 
@@ -147,8 +147,13 @@ class Runner:
                 self.turns.end(part)
         if time.monotonic() >= self.due:
             self.due = time.monotonic() + BETWEEN
-            at = ", ".join(turn.what for turn in self.turns.had.values())
-            show(f"{shown} of {len(self.parts)} parts are shown, {self.turns.ended} scenes have ended; at {at or 'none'}"[:WIDTH])
+            at = ", ".join(turn.what for turn in self.turns.had.values()) or "none"
+            self.say(f"{shown} of {len(self.parts)} parts are shown, {self.turns.ended} scenes have ended; at {at}"[:WIDTH])
+
+    def say(self, text):
+        if text != self.said:
+            show(text)
+            self.said = text
 
     def hear(self, asking, said):
         """Reads what one asks for, or that its turn has ended."""
