@@ -13,7 +13,7 @@ from scenes.running import ABC, Failed, expect, named, run, shortened, tree_text
 from scenes.stores import DONE, INIT, digest, in_a_place
 from scenes.words import MOST_SOURCE
 
-SEED, KILLS = 11, 300
+SEED, KILLS = 11, 100
 
 
 def batch(place, *lines, source=None):

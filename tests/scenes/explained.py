@@ -2,14 +2,13 @@
 `tree` writes before and after a refresh."""
 import hashlib
 import random
-from concurrent.futures import ThreadPoolExecutor
 
 from scenes.batches import batch
 from scenes.running import EMPTY, Failed, expect, named, shortened, tree_text
 from scenes.stores import DONE, in_a_place
 from scenes.views import ANY, EXTENSIONS, host, image, released, resource
 
-SEED, HOSTS, AT_ONCE = 43, 2_000, 4
+SEED, HOSTS = 43, 800
 NAMES = ["a", "b", "c"]
 
 
@@ -142,13 +141,9 @@ def look(place, rng):
 
 
 def random_hosts_are_told_as_a_refresh_shows_them(program):
-    """Two thousand of them, several at a time, each drawn by its own number."""
-
-    def one(at):
-        in_a_place(lambda place: look(place, random.Random(SEED * HOSTS + at)))(program)
-
-    with ThreadPoolExecutor(AT_ONCE) as threads:
-        list(threads.map(one, range(HOSTS)))
+    """Eight hundred of them, each drawn by its own number."""
+    for at in range(HOSTS):
+        in_a_place(lambda place, at=at: look(place, random.Random(SEED * HOSTS + at)))(program)
 
 
 CALLS = [the_layers_of_a_path_are_told, an_image_that_does_not_fit_is_told_by_force_alone, faults_of_the_host_are_told_first]

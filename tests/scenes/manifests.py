@@ -8,7 +8,7 @@ from pathlib import Path
 from scenes.running import Failed, named, program_of, run
 
 # So many texts are read in so many runs of the program, those of a run drawn from a seed of its own.
-TEXTS, RUNS = 100_000, 100
+TEXTS, RUNS = 30_000, 30
 DIGITS = frozenset(b"0123456789abcdefABCDEF")
 # Bytes that a change puts in or writes over others.
 BYTES = b"\n\n\r\t \\*#/.0aAgG\x00\x1f\x7f\x80\xbf\xc3\xa4\xef\xff"

@@ -12,7 +12,7 @@ from scenes.batches import batch
 from scenes.stores import DONE, in_a_place
 from scenes.views import ANY, EXTENSIONS, host, image
 
-SEED, KILLS, MANY = 44, 60, 11_001
+SEED, KILLS, MANY = 44, 40, 11_001
 OLD = tree_text("d 755 app", f"f 755 3 {ABC} app/run", f"f 644 0 {EMPTY} app/state")
 NEW = tree_text("d 755 app", f"f 755 0 {EMPTY} app/run")
 

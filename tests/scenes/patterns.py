@@ -7,7 +7,7 @@ from pathlib import Path
 
 from scenes.running import Failed, program_of, run
 
-SEEDS = range(100)
+SEEDS = range(30)
 PAIRS = 1000
 
 VERSION_BYTES = re.compile(rb"[A-Za-z0-9._+~^-]{1,128}")

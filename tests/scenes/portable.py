@@ -20,7 +20,7 @@ UNITS, ADDED = "usr/lib/systemd/system", "systemd/system.attached"
 PROFILES = "usr/lib/systemd/portable/profile"
 PROFILE = b"[Service]\nPrivateTmp=yes\n"
 RELEASE = b"ID=debian\n"
-SEED, KILLS, MANY, SERVICES = 47, 100, 1_000, 150
+SEED, KILLS, MANY, SERVICES = 47, 50, 1_000, 150
 # Units of packages that most Debian systems have, by what their names begin with.
 PACKAGED = "apt-daily", "dpkg-db-backup", "e2scrub", "fstrim", "man-db"
 SUFFIXES = ".service", ".socket", ".target", ".timer", ".path"

@@ -23,7 +23,7 @@ HELP = b"hostext_publish STORE OUT ABS RES NAME\n"
 WORDS = "the words are ABS RES NAME, where ABS begins with a slash, RES is a path without one, and NAME is a name that doesn't end in .tree"
 CALL = "it is called as hostext_publish STORE OUT ABS RES NAME, or with --help or --version alone"
 CLASH = "one of STORE and OUT is the other or stands below it: publishing would write into the store, or a web server serve it"
-KILLS, FILES = 200, 200
+KILLS, FILES = 80, 200
 SUMS, NEXT = "SHA256SUMS", "SHA256SUMS.next"
 
 

@@ -20,6 +20,7 @@ EMPTY_INDEX = (
 )
 OLD_INDEX = b"hostext-store 1\nhost x86-64 system\nattached 0\nkept 0\nroot 0\nlower 0\nend\n"
 INIT = ("init", "x86-64", "system")
+KILLS = 80
 # In memory, where there is such a file system: a disk takes its time for each sync. tests/run names a folder of its own there.
 ROOM = os.environ.get("HOSTEXT_ROOM") or ("/dev/shm" if os.access("/dev/shm", os.W_OK) else None)
 FAULTS = {5: b"hostext: disk fault\n", 6: b"hostext: depot fault\n", 8: b"hostext: bad store\n", 9: b"hostext: unfinished\n"}
@@ -446,7 +447,7 @@ def a_kill_at_any_moment_leaves_the_tree_before_or_after(place):
     began = time.monotonic()
     subprocess.run(words, check=True, capture_output=True, timeout=SECONDS)
     whole, rng, seen = time.monotonic() - began, random.Random(7), set()
-    for _ in range(200):
+    for _ in range(KILLS):
         shutil.rmtree(place.store)
         shutil.copytree(kept, place.store)
         child = subprocess.Popen(words, stdout=subprocess.DEVNULL, stderr=subprocess.DEVNULL)
