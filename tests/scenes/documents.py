@@ -1,155 +1,15 @@
 """The documents beside the sources: that what the sources have stands in the documents. The files are read as texts, by their lines
 and words, and nothing of them is proved or built."""
 import re
+import sys
 
 from scenes.running import TOP, Failed, named, run
 
-# A line that makes names of definitions known, as `ghost use Rattle.ext_text.specs.Path.{IsPath, path_text as text};`.
-GHOST_USE = re.compile(r"ghost use Rattle\.(ext_\w+)\.specs\.([A-Z]\w*)\.\{([^}]*)\};")
-# A line by which a file of definitions hands on those of another.
-HANDED_ON = re.compile(r"^pub use Rattle\.(ext_\w+)\.specs\.([A-Z]\w*)\.\{([^}]*)\}", re.M)
-# Where a block of a type or a trait begins, a function in it or outside of one, and where a block ends.
-BEGINNINGS = re.compile(
-    r"^(?:pub )?(?P<kind>impl|trait)\b(?P<head>[^{;]*)\{|^(?P<is_public>pub )?fn (?P<outer>\w+)|^    (?P<inner_is_public>pub )?fn (?P<inner>\w+)|^\}",
-    re.M,
-)
-CLAUSE = re.compile(r"\b(?:requires|ensures)\b[^{]*\{")
+sys.path.insert(0, str(TOP / "tools"))
 
-
-class Sources:
-    """The files below some folder, whose texts are read once. A scene may be given other texts for some of them."""
-
-    def __init__(self, top=TOP, instead=()):
-        self.top, self.texts = top, dict(instead)
-
-    def text(self, path):
-        if path not in self.texts:
-            self.texts[path] = (self.top / path).read_text()
-        return self.texts[path]
-
-    def files(self, pattern):
-        return sorted(str(path.relative_to(self.top)) for path in self.top.glob(pattern))
-
-
-def crates_of(sources):
-    """The names of the crates, in the order of crates.txt."""
-    return [line.split(":")[0] for line in sources.text("crates.txt").splitlines() if line[:1].isalpha()]
-
-
-def up_to_its_end(text, at):
-    """The text from a brace on, up to the one that closes it."""
-    depth = 0
-    for end in range(at, len(text)):
-        depth += {"{": 1, "}": -1}.get(text[end], 0)
-        if depth == 0:
-            return text[at + 1 : end]
-    raise Failed(f"a brace is not closed: {text[at : at + 80]}")
-
-
-def without_comments(text):
-    return re.sub(r"^\s*//.*$", "", text, flags=re.M)
-
-
-def names_of(braced):
-    return list(filter(None, (name.strip() for name in braced.split(","))))
-
-
-def listed_by(lib):
-    """The names that the lines `pub use` of a lib.rt list, and its public modules."""
-    lines = re.findall(r"^pub use \w+::(?:\{([^}]*)\}|(\w+));", lib, re.M)
-    names = {name.split(" as ")[0] for several, one in lines for name in names_of(several or one)}
-    return names, set(re.findall(r"^pub mod (\w+);", lib, re.M))
-
-
-def module_of(path):
-    """The first module of a source file: crates/CRATE/src/MODULE.rt, or a file below crates/CRATE/src/MODULE."""
-    return path.split("/src/")[1].split("/")[0].removesuffix(".rt")
-
-
-def owner_of(head):
-    """The type or trait that a block is of, without its parameters; nothing for the block of a trait for a type, whose calls have
-    the contracts of the trait."""
-    for _ in range(2):
-        head = re.sub(r"<[^<>]*>", "", head)
-    return "" if " for " in head else re.search(r"\w+", head)[0]
-
-
-def public_functions(text):
-    """Each function of a file that is public, or a call of a trait: the type or trait that it belongs to, or nothing; its name; and
-    its head."""
-    owner, is_trait = "", False
-    for match in BEGINNINGS.finditer(text):
-        if match["kind"]:
-            owner, is_trait = owner_of(match["head"]), match["kind"] == "trait"
-        elif match["inner"]:
-            if owner and (match["inner_is_public"] or is_trait):
-                yield owner, match["inner"], head_from(text, match.start())
-        elif match["outer"]:
-            if match["is_public"]:
-                yield "", match["outer"], head_from(text, match.start())
-        else:
-            owner = ""
-
-
-def head_from(text, at):
-    """The head of a function with its clauses: up to its body, or to the semicolon of a trait's."""
-    end = at
-    while True:
-        found = re.compile(r"[{;]").search(text, end)
-        brace = found.start()
-        if found[0] == ";":
-            return text[at:brace]
-        before = text[at:brace]
-        if not re.search(r"\b(?:requires|ensures)\b[^{}]*$", before):
-            return before
-        end = brace + len(up_to_its_end(text, brace)) + 2
-
-
-def exported(sources, crate):
-    """Each exported call of a crate that is a library, with the file where it stands and its head."""
-    if not sources.files(f"crates/{crate}/src/lib.rt"):
-        return
-    names, modules = listed_by(sources.text(f"crates/{crate}/src/lib.rt"))
-    for path in sources.files(f"crates/{crate}/src/**/*.rt"):
-        text = without_comments(sources.text(path))
-        for owner, name, head in public_functions(text):
-            if (owner or name) in names or module_of(path) in modules:
-                yield path, f"{owner}::{name}" if owner else name, head
-
-
-def home_of(sources, file, name):
-    """The file where a definition stands that a file of definitions has or hands on."""
-    for crate, module, names in HANDED_ON.findall(sources.text(f"crates/{file}")):
-        if name in names_of(names):
-            return home_of(sources, f"{crate}/specs/{module}.antt", name)
-    return file
-
-
-def imported(sources, text):
-    """The definitions that a file of sources imports: by the name that it has there, its own name and the file where it stands."""
-    found = {}
-    for crate, module, names in GHOST_USE.findall(text):
-        for name in names_of(names):
-            own, _, here = name.partition(" as ")
-            found[here or own] = own, home_of(sources, f"{crate}/specs/{module}.antt", own)
-    return found
-
-
-def clauses(head):
-    for match in CLAUSE.finditer(head):
-        yield up_to_its_end(head, match.end() - 1)
-
-
-def cited(sources):
-    """Each definition that the contract of an exported call cites: its name and file, with a call that cites it."""
-    found = {}
-    for crate in crates_of(sources):
-        for path, call, head in exported(sources, crate):
-            known = imported(sources, sources.text(path))
-            words = {word for clause in clauses(head) for word in re.findall(r"[A-Za-z_]\w*", clause)}
-            for word in words & known.keys():
-                found.setdefault(known[word], f"{crate}::{call}")
-    return found
+from citing import Sources, crates_of
+from defining import DOCUMENT, WORDS, document
+from entries import Refused
 
 
 def cells_of(line):
@@ -186,31 +46,25 @@ def files_of(cell):
     return [first, *(file if "/" in file else f"{folder}/{file}" for file in others)]
 
 
-def defined(sources):
-    """The names on the rows of docs/DEFINITIONS.md, each with the files that its row names."""
-    return {(name, file) for _, names, files in rows_of(sources.text("docs/DEFINITIONS.md")) for name in quoted(names) for file in files_of(files)}
-
-
 def nothing_is_missing(what, missing):
     if missing:
         raise Failed(f"{what}: {', '.join(sorted(missing))}")
 
 
-def check_definitions(sources, found):
-    rows = defined(sources)
-    missing = (f"{name} of {file}, which {call} cites" for (name, file), call in found.items() if (name, file) not in rows)
-    nothing_is_missing("docs/DEFINITIONS.md has no row for", list(missing))
+def check_definitions(sources):
+    if sources.text(DOCUMENT) != document(sources):
+        raise Failed(f"{DOCUMENT} isn't what the sources say: tools/definitions writes it anew")
 
 
-def check_rows(sources):
-    """Each file on a row is there, and each name on it stands in one of the files of that row."""
-    lost = []
-    for _, names, files in rows_of(sources.text("docs/DEFINITIONS.md")):
-        texts = [sources.text(f"crates/{file}") for file in files_of(files) if (sources.top / "crates" / file).is_file()]
-        lost += [file for file in files_of(files) if not (sources.top / "crates" / file).is_file()]
-        beside = [sources.text(path) for path in sources.files(f"crates/{files_of(files)[0].rsplit('/', 1)[0]}/*")] if "beside it" in files else []
-        lost += [name for name in quoted(names) if not any(re.search(rf"\b{re.escape(name)}\b", text) for text in (*texts, *beside))]
-    nothing_is_missing("the sources have nothing of docs/DEFINITIONS.md for", lost)
+def refused(sources, why):
+    """What the definitions cannot be written of, with the first reason."""
+    try:
+        document(sources)
+    except Refused as reason:
+        if reason.args[0] != why:
+            raise Failed(f"it is refused since {reason.args[0]}, and not since {why}") from None
+        return
+    raise Failed(f"the definitions are written, though {why}")
 
 
 def check_crates(sources):
@@ -347,10 +201,30 @@ def help_of(program):
     return run(program, [b"--help"])[0].decode()
 
 
-def each_definition_that_a_contract_cites_is_on_a_row(_program):
+def the_definitions_are_those_of_the_sources(_program):
+    """And each that is cited has words, by the comment over it or by the file beside the tool, which names no other."""
     sources = Sources()
-    check_definitions(sources, cited(sources))
-    check_rows(sources)
+    check_definitions(sources)
+    edited = "ext_top/specs/Status.antt"
+    comment = "-- the number that the process ends with\n"
+    text, words = sources.text(f"crates/{edited}"), sources.text(WORDS)
+    if comment not in text:
+        raise Failed(f"{edited} hasn't {comment!r}")
+    other = {f"crates/{edited}": text.replace(comment, "-- another number\n")}
+    if "| another number | `status_number` |" not in document(Sources(instead=other)):
+        raise Failed("the comment over a definition isn't what its row has")
+    refused(Sources(instead={f"crates/{edited}": text.replace(comment, "")}), f"status_number of {edited} has no comment, and {WORDS} has no words for it")
+    given = {f"crates/{edited}": text.replace(comment, ""), WORDS: f"{words}{edited} status_number: a status\n"}
+    if "| a status | `status_number` |" not in document(Sources(instead=given)):
+        raise Failed("given words aren't what the row has")
+    more = {WORDS: f"{words}{edited} status_number: .. It is small\n"}
+    if "| the number that the process ends with. It is small | `status_number` |" not in document(Sources(instead=more)):
+        raise Failed("given words don't follow the comment")
+    refused(Sources(instead={WORDS: f"{words}{edited} nothing: words\n"}), f"{WORDS} has words for nothing of {edited}, which no contract of an exported call cites")
+    line = words.count("\n") + 1
+    for wrong in "status_number: words", words.splitlines()[-1]:
+        at = f"{WORDS}: line {line} is none of FILE NAME: words, or names what an earlier line names"
+        refused(Sources(instead={WORDS: f"{words}{wrong}\n"}), at)
 
 
 def each_crate_is_in_the_map_and_on_its_floor(_program):
@@ -392,10 +266,8 @@ def is_missed(check, path, begin, *given):
 
 
 def a_row_that_is_taken_away_is_missed(program):
-    shown, found = help_of(program), cited(Sources())
-    definitions = "docs/DEFINITIONS.md"
-    for begin in "| **The run of words**", "| **A switch**", "| **What unmerging gives**", "| **Laws of views**", "| **Blanks**":
-        is_missed(check_definitions, definitions, begin, found)
+    shown = help_of(program)
+    is_missed(check_definitions, DOCUMENT, "| what a command wants of a store |")
     for crate in "ext_lines", "ext_trial", "ext_cli":
         is_missed(check_crates, "docs/ARCHITECTURE.md", f"| `{crate}` |")
     is_missed(check_floors, "docs/ARCHITECTURE.md", " 7  index")
@@ -416,6 +288,6 @@ def a_row_that_is_taken_away_is_missed(program):
 
 
 scenes = named(
-    *(each_definition_that_a_contract_cites_is_on_a_row, each_crate_is_in_the_map_and_on_its_floor, each_refusal_status_and_command_is_told),
+    *(the_definitions_are_those_of_the_sources, each_crate_is_in_the_map_and_on_its_floor, each_refusal_status_and_command_is_told),
     *(the_version_names_the_kit_of_the_documents, each_decision_begins_with_a_question, a_row_that_is_taken_away_is_missed),
 )

@@ -6,10 +6,12 @@ import os
 import re
 
 from scenes.devices import become_nobody
-from scenes.documents import Sources, crates_of, exported, is_missed, nothing_is_missing, quoted, rows_of, section
+from scenes.documents import Sources, crates_of, is_missed, nothing_is_missing, quoted, rows_of, section
 from scenes.locks import ended, locked, start, waits
 from scenes.running import LICENCES, Failed, Skipped, expect, named, publisher, run, tree_text
 from scenes.stores import DONE, digest, in_a_place
+
+from citing import exported
 
 SECURITY = "SECURITY.md"
 # The text of the Apache License 2.0, word for word.
