@@ -17,7 +17,7 @@ from scenes.running import SECONDS, TOP, Failed, Skipped, publisher, shortened
 from scenes.serving import around as without_proxies
 
 
-DOCUMENTS = "README.md", "examples/README.md"
+DOCUMENTS = "README.md", "examples/README.md", "docs/HOWTO.md"
 
 
 def headed(text):
