@@ -12,7 +12,7 @@ from scenes.uses import tree_of
 
 RELEASE, EXTENSION = b"ID=debian\n", "usr/lib/extension-release.d/extension-release."
 UNCHANGED = b"unchanged\n"
-KILLS, FILES = 200, 200
+KILLS, FILES = 80, 200
 # The bytes of a line of a manifest before its name.
 DIGEST = 66
 

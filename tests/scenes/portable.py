@@ -20,7 +20,7 @@ UNITS, ADDED = "usr/lib/systemd/system", "systemd/system.attached"
 PROFILES = "usr/lib/systemd/portable/profile"
 PROFILE = b"[Service]\nPrivateTmp=yes\n"
 RELEASE = b"ID=debian\n"
-SEED, KILLS, MANY, SERVICES = 47, 50, 1_000, 150
+SEED, KILLS, MANY, SERVICES = 47, 50, 300, 150
 # Units of packages that most Debian systems have, by what their names begin with.
 PACKAGED = "apt-daily", "dpkg-db-backup", "e2scrub", "fstrim", "man-db"
 SUFFIXES = ".service", ".socket", ".target", ".timer", ".path"
@@ -225,7 +225,7 @@ def in_batches(place, *rows):
         expect(batch(place, *lines), (b"".join(replies), b"", 0))
 
 
-def a_thousand_services_are_attached_and_told(place):
+def hundreds_of_services_are_attached_and_told(place):
     begin(place)
     stems = [f"s{at:04}" for at in range(MANY)]
     files = {f"{stem}_1/{path}": content for stem in stems for path, content in image(f"{stem}.service").items()}
@@ -259,6 +259,6 @@ CALLS = [
     *(a_service_is_attached_told_and_taken_away, a_new_version_takes_the_place_of_the_old_one, an_image_that_an_update_brought_is_attached),
     *(a_merged_view_is_left_as_it_is, units_of_packages_are_attached_as_they_stand, systemd_reads_the_drop_ins_of_units_of_packages),
     systemd_finds_the_root_and_the_extensions_that_are_named,
-    *(a_thousand_services_are_attached_and_told, a_kill_leaves_a_service_attached_or_detached),
+    *(hundreds_of_services_are_attached_and_told, a_kill_leaves_a_service_attached_or_detached),
 ]
 scenes = named(*map(in_a_place, CALLS))
