@@ -31,7 +31,7 @@ root=$2/root
 within dpkg --install --force-depends /tmp/hostext.deb >&2
 within hostext --version
 within hostext . . compare 1 2
-if [ -e "$root/usr/bin/python3" ]; then
+if within dpkg --status python3 >/dev/null 2>&1; then
     for tool in fetch pack tree-text unpack update; do within "hostext-$tool" --help >/dev/null; done
 fi
 within dpkg --purge hostext >&2
