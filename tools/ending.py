@@ -35,6 +35,12 @@ def catch():
             signal.signal(number, stop)
 
 
+def heed():
+    """Lets a process that is started be ended by signals, whatever started this one had ignored."""
+    for number in SIGNALS:
+        signal.signal(number, signal.SIG_DFL)
+
+
 def hold():
     """Lets signals wait while something is made that nobody takes away yet. No process is started meanwhile, since it would inherit
     that."""

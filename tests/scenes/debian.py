@@ -7,6 +7,7 @@ import shutil
 import signal
 import stat
 import subprocess
+import sys
 import time
 from pathlib import Path
 
@@ -14,6 +15,10 @@ from scenes.keeping import need_root
 from scenes.running import SECONDS, TOP, Failed, Skipped, expect, named, shortened
 from scenes.stores import in_a_place
 from scenes.tools import beside, holds_nothing, left, script, tool
+
+sys.path.insert(0, str(TOP / "tools"))
+
+import ending
 
 NAME = "hostext_0.2.0_amd64.deb"
 PYTHON = b"#!/usr/bin/env python3\n", b"#!/usr/bin/python3\n"
@@ -176,7 +181,7 @@ def a_signal_leaves_nothing(place):
     around = {**os.environ, "HOSTEXT": str(place.program), "PATH": f"{bin}:{os.environ['PATH']}", "TMPDIR": str(room)}
     for number in signal.SIGINT, signal.SIGTERM, signal.SIGHUP:
         (bin / "begun").unlink(missing_ok=True)
-        child = subprocess.Popen([TOP / "tools/deb", out], env=around, stdin=subprocess.DEVNULL, stdout=subprocess.PIPE, stderr=subprocess.PIPE)
+        child = subprocess.Popen([TOP / "tools/deb", out], env=around, stdin=subprocess.DEVNULL, stdout=subprocess.PIPE, stderr=subprocess.PIPE, preexec_fn=ending.heed)
         began = time.monotonic()
         while not (bin / "begun").exists() and time.monotonic() < began + SECONDS:
             time.sleep(0.05)

@@ -29,7 +29,8 @@ NEAR = 0.007
 
 def small_gate(folder):
     made = Repository(folder)
-    shutil.copy(TOP / "tools/gate-minutes", made.place / "tools/gate-minutes")
+    for path in "tools/gate-minutes", "tools/processes.py":
+        shutil.copy(TOP / path, made.place / path)
     (made.bin / "python3").symlink_to(Path(sys.executable).resolve())
     for path in "kit/burn", "kit/rattle", "rt-run-1-a/bin/ext_top":
         made.write(path, f"#!{Path(sys.executable).resolve()} -IS\n{BURN}".encode())

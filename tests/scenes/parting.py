@@ -14,6 +14,10 @@ from scenes.pool import WIPED
 from scenes.repositories import Repository, in_each
 from scenes.running import SECONDS, TOP, Failed, Skipped, expect
 
+sys.path.insert(0, str(TOP / "tools"))
+
+import ending
+
 COUNTS = b"#!/bin/sh\necho told\necho %d passed, %d failed, %d skipped\nexit %d\n"
 TRIAL = b"== tests/trial\ntests/cases/a.cases\n2 passed, 0 failed\n"
 ALL = TRIAL + b"== tests/program\ntold\n30 passed, 0 failed, 4 skipped\n"
@@ -214,7 +218,7 @@ def a_signal_ends_all_and_leaves_nothing(repository):
     repository.write("tests/a", STUBBORN.encode())
     for number in signal.SIGINT, signal.SIGTERM, signal.SIGHUP:
         (repository.place / "made").unlink(missing_ok=True)
-        child = subprocess.Popen([repository.place / "tests/run"], env={**repository.around(), "TMPDIR": str(repository.home)}, stdout=subprocess.PIPE, stderr=subprocess.PIPE)
+        child = subprocess.Popen([repository.place / "tests/run"], env={**repository.around(), "TMPDIR": str(repository.home)}, stdout=subprocess.PIPE, stderr=subprocess.PIPE, preexec_fn=ending.heed)
         began = time.monotonic()
         while not (repository.place / "made").exists() and time.monotonic() < began + SECONDS:
             time.sleep(0.05)

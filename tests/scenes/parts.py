@@ -83,9 +83,9 @@ class Part:
         self.process, self.status = None, None
 
     def start(self, around):
-        """Starts it in a group of its own, so that a terminal interrupts tests/run alone."""
+        """Starts it in a group of its own, so that a terminal interrupts tests/run alone. Scenes end tools by signals, so none is ignored there."""
         try:
-            self.process = subprocess.Popen(self.words, stdin=subprocess.DEVNULL, stdout=self.out, stderr=self.told, env=around, cwd=TOP, start_new_session=True)
+            self.process = subprocess.Popen(self.words, stdin=subprocess.DEVNULL, stdout=self.out, stderr=self.told, env=around, cwd=TOP, start_new_session=True, preexec_fn=ending.heed)
         except OSError as error:
             self.told.write(f"tests/run: {self.words[0]}: {error.strerror}\n".encode())
             self.status = 127
