@@ -62,8 +62,9 @@ FILE_SYSTEMS = {
 USUAL = "ext4", "xfs", "btrfs"
 # What is left out of the programs' syncs in a control.
 CONTROLS = {"all syncs": "all", "the last sync of the store folder": "last"}
-# How many commands a list has, and how many of these run on a disk that a cut left; how deep such disks go.
-COMMANDS, MORE, MOST_AGAIN, DEEPEST = 16, 8, 4, 2
+# How many commands are recorded, how many a list has beside them, and how many of these run on a disk that a cut left; how deep such
+# disks go; and how often a host is set up first.
+COMMANDS, MORE, MOST_AGAIN, DEEPEST, SET_UP = 16, 8, 4, 2, 0.7
 
 
 @dataclass
@@ -144,7 +145,7 @@ class Round:
         self.programs, self.around = programs, {"LD_PRELOAD": os.fspath(self.library), "UNSYNCED": CONTROLS[control]} if control else {}
         memory = folder / "memory"
         memory.mkdir()
-        self.story = Story(programs, memory, self.rng, COMMANDS + MORE)
+        self.story = Story(programs, memory, self.rng, COMMANDS + MORE, self.rng.random() < SET_UP)
         self.at, self.counts = folder / "mounted", collections.Counter()
         self.at.mkdir()
 
@@ -152,17 +153,19 @@ class Round:
         return Host(self.programs, self.story.depot, self.at, around)
 
     def beginning(self):
-        """A new disk, which has the folders."""
+        """A new disk, which has the folders, and the host where one is set up."""
         base = self.folder / "new"
         self.system.make(base)
         try:
             with mounted(base, self.at, self.system.kind, self.system.options):
                 for name in "store", "out":
                     (self.at / name).mkdir()
+                for command, reply in zip(self.story.set_up, self.story.replies):
+                    self.replied(command, self.host().run(command), reply)
         except OSError as error:
             raise Skipped(f"{self.system.name} isn't mounted here: {error}") from None
         subprocess.run(["fallocate", "--dig-holes", base], check=True)
-        return Beginning(base, 0, 0, 0)
+        return Beginning(base, len(self.story.set_up), len(self.story.set_up), 0)
 
     def state_found(self, host, least, most):
         """Which state stands, of those that may."""

@@ -27,8 +27,8 @@ CHANGING = (
 )
 PUBLISHING = "/srv r N", "/srv r/s N", "/usr r N", "/etc/os-release s N", "/home r N", "/usr r published-2"
 PUBLISHED = "publish "
-# Of ten commands so many set something up, and so many publish.
-SETS, PUBLISHES = 3, 2
+# Of ten commands so many set something up, and so many publish; and such a share stays of those that change nothing.
+SETS, PUBLISHES, NOTHING = 2, 2, 0.3
 
 
 @dataclass(frozen=True)
@@ -75,22 +75,26 @@ class Host:
 
 
 class Story:
-    """A random list of commands, with its replies and its states: one before it, and one after each command."""
+    """A random list of commands, with its replies and its states: one before it, and one after each command. `set_up` are the first ones,
+    where these are to set up a host before anything is recorded."""
 
-    def __init__(self, programs, folder, rng, count):
+    def __init__(self, programs, folder, rng, count, is_set_up):
         self.programs = programs
         place = Place(programs[0], folder)
         fill(place)
         (folder / "out").mkdir()
         self.depot, self.host, self.rng = place.depot, Host(programs, place.depot, folder), rng
         self.commands, self.replies, self.states = [], [], [self.host.state()]
-        for number in range(count):
-            self.add(FIRST[number] if number < len(FIRST) else self.drawn(number))
+        self.set_up = (*FIRST, *rng.sample(SETTING, len(SETTING))) if is_set_up else ()
+        for command in self.set_up or FIRST:
+            self.add(command)
+        while len(self.commands) < len(self.set_up) + count:
+            self.add(self.drawn())
 
-    def drawn(self, number):
+    def drawn(self):
         which = self.rng.randrange(10)
         if which < PUBLISHES:
-            return PUBLISHED + self.rng.choice(PUBLISHING).replace("N", f"published-{number}")
+            return PUBLISHED + self.rng.choice(PUBLISHING).replace("N", f"published-{len(self.commands)}")
         command = self.rng.choice(SETTING if which < PUBLISHES + SETS else CHANGING)
         return command.replace("G", self.rng.choice(self.marks() or ["1"]))
 
@@ -98,12 +102,16 @@ class Story:
         return [line.split(" ")[0] for line in self.host.run("history")[0].decode().splitlines() if line[0].isdigit()]
 
     def add(self, command):
+        """Adds a command, but for most of those that change nothing."""
         reply, status = self.host.run(command)
         if status > 1:
             raise Failed(f"in memory `{command}` ends with {status}: {shortened(reply)}")
+        state = self.host.state()
+        if state == self.states[-1] and self.rng.random() > NOTHING:
+            return
         self.commands.append(command)
         self.replies.append((reply, status))
-        self.states.append(self.host.state())
+        self.states.append(state)
 
     def told(self, number):
         """A state for who reads it: the command after which it comes."""
