@@ -4,9 +4,11 @@ import collections
 import ctypes
 import os
 import random
+import select
 import shutil
 import signal
 import subprocess
+import time
 from contextlib import contextmanager
 from dataclasses import dataclass
 from pathlib import Path
@@ -97,7 +99,7 @@ def disturb(folder, rng):
             path.unlink(missing_ok=True)
         elif what == 7:
             LIBC.syncfs(ctypes.c_int(handle))
-        signal.sigtimedwait([], rng.uniform(0, 0.02))
+        time.sleep(rng.uniform(0, 0.02))
 
 
 @contextmanager
@@ -120,6 +122,14 @@ def disturbed(folder, rng):
 
 
 # The recording.
+
+
+def piece_of(child):
+    """What a process writes next, or nothing at its end. One that is too slow is ended."""
+    if not select.select([child.stdout], [], [], SECONDS)[0]:
+        child.kill()
+        raise Failed(f"a batch had written nothing after {SECONDS} seconds")
+    return os.read(child.stdout.fileno(), 1 << 16)
 
 
 class Told:
@@ -221,7 +231,7 @@ class Round:
         child.stdin.write(source)
         child.stdin.close()
         written, done = b"", 0
-        while piece := os.read(child.stdout.fileno(), 1 << 16):
+        while piece := piece_of(child):
             count, written = recorder.count(), written + piece
             while done < len(numbers) and len(written) >= len(b"".join(wanted[: done + 1])):
                 told.acknowledged.append(count)

@@ -75,10 +75,8 @@ def recorded(program, base, folder):
     recorder = Recorder(program, base, folder)
     try:
         yield recorder
-    except BaseException:
-        recorder.process.kill()
-        raise
-    recorder.end()
+    finally:
+        recorder.end()
 
 
 class Record:
