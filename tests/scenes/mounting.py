@@ -153,8 +153,9 @@ def copied(source, target):
             except OSError:
                 break
             end = os.lseek(old.fileno(), at, os.SEEK_HOLE)
+            os.lseek(new.fileno(), at, os.SEEK_SET)
             while at < end:
-                at += os.copy_file_range(old.fileno(), new.fileno(), end - at, at, at)
+                at += os.sendfile(new.fileno(), old.fileno(), at, end - at)
 
 
 def lacks(*programs):
