@@ -2,6 +2,7 @@
 of it are mounted and looked at."""
 import collections
 import ctypes
+import itertools
 import os
 import random
 import select
@@ -39,15 +40,17 @@ class FileSystem:
         if ended.returncode:
             raise Failed(f"{self.making[0]} ends with {ended.returncode}: {shortened(ended.stderr)}")
 
+    def is_known(self):
+        """Whether the running system has it."""
+        return any(line.split()[-1] == self.kind for line in Path("/proc/filesystems").read_text().splitlines())
+
     def why_not(self):
         """What is missing for it, or nothing."""
-        missing = lacks(self.making[0])
-        if missing:
+        if missing := lacks(self.making[0], "fallocate"):
             return f"there is no {missing}"
-        known = {line.split()[-1] for line in Path("/proc/filesystems").read_text().splitlines()}
-        if self.kind not in known and subprocess.run(["modprobe", self.kind], capture_output=True).returncode if shutil.which("modprobe") else self.kind not in known:
-            return f"the system has no {self.kind}"
-        return None
+        if not self.is_known() and shutil.which("modprobe"):
+            subprocess.run(["modprobe", "-q", self.kind])
+        return None if self.is_known() else f"the system has no {self.kind}"
 
 
 EXT4 = "mkfs.ext4", "-q", "-F", "-b", "4096", "-J", "size=4", "-E", "lazy_itable_init=0,lazy_journal_init=0,nodiscard"
@@ -67,6 +70,8 @@ CONTROLS = {"all syncs": "all", "the last sync of the store folder": "last"}
 # How many commands are recorded, how many a list has beside them, and how many of these run on a disk that a cut left; how deep such
 # disks go; and how often a host is set up first.
 COMMANDS, MORE, MOST_AGAIN, DEEPEST, SET_UP = 16, 8, 4, 2, 0.7
+# So many commands run together, by turns at random: one by itself, more as a batch.
+TOGETHER = 1, 1, 5
 
 
 @dataclass
@@ -207,14 +212,15 @@ class Round:
         """Runs commands: each by itself, or several as a batch."""
         waiting = list(numbers)
         while waiting:
-            size = self.rng.choice((1, 1, 5))
-            batch = [number for number in waiting[:size] if not self.story.commands[number].startswith(PUBLISHED)]
-            if size == 1 or len(batch) < 2 or batch[0] != waiting[0]:
-                self.run_one(waiting.pop(0), recorder, told)
-                continue
-            batch = batch[: next((at for at, number in enumerate(batch) if number != waiting[at]), len(batch))]
-            self.run_batch(batch, recorder, told)
-            waiting = waiting[len(batch) :]
+            lines = list(itertools.takewhile(self.may_be_a_line, waiting[: self.rng.choice(TOGETHER)]))
+            if len(lines) > 1:
+                self.run_batch(lines, recorder, told)
+            else:
+                self.run_one(waiting[0], recorder, told)
+            waiting = waiting[max(1, len(lines)) :]
+
+    def may_be_a_line(self, number):
+        return not self.story.commands[number].startswith(PUBLISHED)
 
     def run_one(self, number, recorder, told):
         told.begun.append(recorder.count())
@@ -264,7 +270,7 @@ class Round:
         folder.mkdir()
         record, told = self.record(beginning, folder)
         made = Images(beginning.base, record, folder)
-        again = self.rng.sample(range(count), 2) if beginning.cuts < DEEPEST else ()
+        again = self.rng.sample(range(count), min(2, count)) if beginning.cuts < DEEPEST else ()
         for number, place in enumerate(self.places(told, beginning, count)):
             way, (least, most) = drawn_way(self.rng), told.states(place, beginning)
             image = made.cut(place, way, self.rng)
@@ -300,7 +306,7 @@ class Round:
 
     def all_images(self, count):
         """Looks at so many images, two of five on disks that a cut left; what was told of those that are wrong."""
-        wrong, waiting = self.images(self.beginning(), count * 3 // 5)
+        wrong, waiting = self.images(self.beginning(), count - 2 * (count // 5))
         while waiting and self.looked() < count:
             more, coming = self.images(waiting.pop(), count // 5)
             wrong, waiting = wrong + more, waiting + coming

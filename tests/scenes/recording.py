@@ -119,7 +119,7 @@ def left(writes, way, rng):
 
 
 class Images:
-    """The images that cuts leave of a record. Their places come in rising order, and each is made in the same file."""
+    """The images that cuts leave of a record. Their places come in rising order, and each takes the place of the one before."""
 
     def __init__(self, base, record, folder):
         self.record, self.firm, self.image, self.done = record, folder / "firm", folder / "image", 0
@@ -132,6 +132,8 @@ class Images:
             raise Failed("the places of cuts don't rise")
         put(self.firm, self.record.between(self.done, covered))
         self.done = covered
+        # a loop device may still have the image before
+        self.image.unlink(missing_ok=True)
         copied(self.firm, self.image)
         put(self.image, left(self.record.between(covered, place), way, rng))
         return self.image
