@@ -67,6 +67,8 @@ FILE_SYSTEMS = {
 USUAL = "ext4", "xfs", "btrfs"
 # What is left out of the programs' syncs in a control.
 CONTROLS = {"all syncs": "all", "the last sync of the store folder": "last"}
+# Under which images are counted, too, whose record began with another one.
+AGAIN = "after another cut"
 # How many commands are recorded, how many a list has beside them, and how many of these run on a disk that a cut left; how deep such
 # disks go; and how often a host is set up first.
 COMMANDS, MORE, MOST_AGAIN, DEEPEST, SET_UP = 16, 8, 4, 2, 0.7
@@ -275,14 +277,14 @@ class Round:
             way, (least, most) = drawn_way(self.rng), told.states(place, beginning)
             image = made.cut(place, way, self.rng)
             self.counts[way] += 1
-            self.counts["after another cut"] += beginning.cuts > 0
+            self.counts[AGAIN] += beginning.cuts > 0
             kept = self.folder / f"image-{self.looked()}"
             if number in again or self.keep:
                 copied(image, kept)
             if why := self.wrong(image, least, most):
                 wrong.append(f"{kept.name}, cut {beginning.cuts + 1} after {place} of {told.end} events, {way}: {why}")
                 if self.keep:
-                    copied(kept, self.keep / f"{self.name} {kept.name}")
+                    copied(kept, self.keep / f"{self.name}-{kept.name}")
             elif number in again:
                 coming.append(Beginning(kept, least, most, beginning.cuts + 1))
                 continue
