@@ -53,6 +53,7 @@ def why_not():
 
 
 def leave_space(kind):
+    """Gives the process another space: one of mounts for itself, or one of processes for its next child."""
     try:
         called("unshare", kind)
     except OSError as error:
