@@ -1,5 +1,6 @@
 """What tests/power-cuts rests on: which images a cut makes of a record, which states it may leave, and that nothing stays of a run, however
 it ends."""
+import contextlib
 import os
 import random
 import signal
@@ -85,8 +86,10 @@ def a_state_is_acknowledged_or_begun(_program):
 
 
 def backing():
-    """The files of loop devices."""
-    return [path.read_text() for path in Path("/sys/block").glob("loop*/loop/backing_file") if path.exists()]
+    """The files of loop devices. One that goes meanwhile has none."""
+    for path in Path("/sys/block").glob("loop*/loop/backing_file"):
+        with contextlib.suppress(OSError):
+            yield path.read_text()
 
 
 def until(what, is_so):
