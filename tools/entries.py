@@ -15,6 +15,12 @@ MOST_NAMES = 64
 MOST_PATH_BYTES = 4_096
 MOST_NAME_BYTES = 255
 MOST_TARGET_BYTES = 4_096
+# The most bytes in all files of a host, of which a tree is one part.
+MOST_TREE_BYTES = 4_294_967_296
+# The most entries of all trees of a run, each of which takes some hundred bytes of memory.
+MOST_LISTED = 1_048_576
+# The mode of a directory that nothing is said of.
+USUAL_MODE = 0o755
 NO_NAMES = frozenset((b"", b".", b".."))
 CONTROL = re.compile(rb"[\x00-\x1f\x7f]")
 PIECE = 1 << 20
@@ -70,6 +76,12 @@ def check_path(names):
         raise Refused(f"a path of more than {MOST_NAMES} names")
     if len(path) > MOST_PATH_BYTES:
         raise Refused(f"a path of more than {MOST_PATH_BYTES:,} bytes")
+
+
+def check_target(target):
+    check_text(target, "its target")
+    if not 1 <= len(target) <= MOST_TARGET_BYTES:
+        raise Refused(f"a target of no byte or of more than {MOST_TARGET_BYTES:,}")
 
 
 def no_copy(piece):

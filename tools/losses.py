@@ -2,7 +2,7 @@
 import os
 import stat
 
-from entries import shown
+from entries import USUAL_MODE, shown
 from telling import Found
 from walking import OPAQUE
 
@@ -16,12 +16,12 @@ class Losses:
     """What is lost of a folder, as its entries are looked at."""
 
     def __init__(self, folder):
-        self.folder, self.found, self.files, self.top_mode = folder, {kind: Found() for kind in KINDS}, set(), 0o755
+        self.folder, self.found, self.files, self.top_mode = folder, {kind: Found() for kind in KINDS}, set(), USUAL_MODE
         # A user's own entries have his owner again where he writes them, and root's have root's.
         self.own_user, self.own_groups = os.geteuid(), {os.getegid(), *os.getgroups()}
 
     def add(self, kind, names):
-        self.found[kind].add(os.path.join(self.folder, *names))
+        self.found[kind].add(os.path.join(self.folder, *filter(None, names)))
 
     def look(self, names, status, handle):
         if not self.is_kept(status.st_uid, status.st_gid):
@@ -33,6 +33,21 @@ class Losses:
             self.add(ATTRIBUTES, names)
         if stat.S_ISREG(status.st_mode):
             self.look_at_file(names, status, handle)
+
+    def take(self, path, entry):
+        """The same of an entry in memory, by its path."""
+        if not self.is_kept(*entry.owner):
+            self.add(OWNER, (path,))
+        if entry.capability is not None:
+            self.add(CAPABILITIES, (path,))
+        for kind in entry.lost:
+            self.add(kind, (path,))
+
+    def take_tree(self, tree):
+        self.top_mode = USUAL_MODE if tree.top.mode is None else tree.top.mode
+        self.take(b"", tree.top)
+        for path in tree.paths():
+            self.take(path, tree.entries[path])
 
     def look_at_file(self, names, status, handle):
         identity = status.st_dev, status.st_ino
@@ -54,7 +69,7 @@ class Losses:
 
     def lines(self):
         told = [f"lost: {kind}: {found}" for kind, found in self.found.items() if found.count]
-        if self.top_mode != 0o755:
+        if self.top_mode != USUAL_MODE:
             told.append(f"lost: the mode {self.top_mode:o} of {shown(self.folder)} itself")
         return told
 

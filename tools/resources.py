@@ -2,15 +2,11 @@
 from typing import NamedTuple, Optional
 
 from depots import MANIFEST
-from entries import Refused, check_path, shown
+from entries import MOST_LISTED, MOST_TREE_BYTES, Refused, check_path, shown
 from texts import Faulty, entries_in
 
 OWN = b".fetch", b"SHA256SUMS"
 TREE = b".tree"
-# The most bytes in all files of a host, of which a tree is one part.
-MOST_TREE_BYTES = 4_294_967_296
-# The most entries of all trees of a run, each of which takes some hundred bytes of memory.
-MOST_LISTED = 1_048_576
 
 
 class File(NamedTuple):

@@ -14,6 +14,11 @@ def beside_usr(places):
     return [place.names[0] for place in places if len(place.names) == 1 and place.names[0] in BESIDE and is_directory(place)]
 
 
+def warning(beside):
+    """What is told of such folders where they stay."""
+    return f"{', '.join(map(shown, beside))}: no hierarchy of an extension image shows what stands there; --usr-merge puts it below usr"
+
+
 def is_directory(place):
     return place.kind == stat.S_IFDIR
 

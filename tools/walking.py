@@ -12,7 +12,7 @@ import os
 import stat
 from typing import NamedTuple
 
-from entries import MOST_ENTRIES, MOST_FILE_BYTES, MOST_TARGET_BYTES, Folders, Refused, check_path, check_text, no_copy, open_file, shown, stamp_at
+from entries import MOST_ENTRIES, MOST_FILE_BYTES, Folders, Refused, check_path, check_target, no_copy, open_file, shown, stamp_at
 
 OPAQUE = ("trusted.overlay.opaque", "user.overlay.opaque")
 KEPT_KINDS = stat.S_IFDIR, stat.S_IFREG, stat.S_IFLNK
@@ -64,9 +64,7 @@ def is_opaque(handle):
 
 def target_of(name, folder):
     target = os.readlink(name, dir_fd=folder)
-    check_text(target, "its target")
-    if not 1 <= len(target) <= MOST_TARGET_BYTES:
-        raise Refused(f"a target of no byte or of more than {MOST_TARGET_BYTES:,}")
+    check_target(target)
     return target
 
 
@@ -106,10 +104,11 @@ class Walk:
     """A folder by its handle. What `takes` is false of is left out, with all below it. `look` is called with each entry of the rest
     while its handle is open: that of a link or a whiteout is no more than its path by a handle."""
 
-    def __init__(self, folder, tells, takes=is_taken, look=no_look):
+    def __init__(self, folder, tells, takes=is_taken, look=no_look, handle=None):
+        """Its handle may be given, and then its path is only told."""
         self.folder, self.tells, self.takes, self.look, self.has_special = folder, tells, takes, look, False
         self.known = {}
-        self.handle = os.open(folder, os.O_RDONLY | os.O_DIRECTORY)
+        self.handle = os.open(folder, os.O_RDONLY | os.O_DIRECTORY) if handle is None else os.dup(handle)
 
     def __enter__(self):
         return self

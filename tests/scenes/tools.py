@@ -94,7 +94,7 @@ def a_tree_text_is_asked_for_by_one_folder(place):
     expect(tool(place, "tree-text"), (b"", b"%btree-text: %b FOLDER\n" % (usage, lacking), 2))
     usage = b"usage: unpack [--keep-setid] [--quiet] STORE ABS FOLDER\n"
     expect(tool(place, "unpack", "r"), (b"", b"%bunpack: %b ABS, FOLDER\n" % (usage, lacking), 2))
-    usage = b"usage: pack [OPTION ..] FOLDER DEPOT RES\n"
+    usage = b"usage: pack [OPTION ..] SOURCE DEPOT RES\n"
     expect(tool(place, "pack", "r"), (b"", b"%bpack: %b DEPOT, RES\n" % (usage, lacking), 2))
 
 

@@ -1,0 +1,97 @@
+"""A tree in memory, as its entries come from an archive one by one, in any order.
+
+An entry has all that came of it, also what no tree text keeps: its owner, its file capability, and which kinds of losses it has. A
+directory that something stands in and that didn't come itself is one too; its mode is told later.
+"""
+from entries import MOST_ENTRIES, USUAL_MODE, Refused, shown
+from telling import Found
+
+DIRECTORY, OPAQUE, FILE, LINK, WHITEOUT = b"d", b"o", b"f", b"l", b"w"
+DIRECTORIES = DIRECTORY, OPAQUE
+ROOT = 0, 0
+
+
+class Entry:
+    """An entry. Its content is the digest of a file, in bytes, or the target of a link. The mode of a directory that didn't come is
+    None."""
+
+    __slots__ = "kind", "mode", "size", "content", "owner", "capability", "lost"
+
+    def __init__(self, kind, mode=None, owner=ROOT, capability=None, lost=()):
+        self.kind, self.mode, self.size, self.content = kind, mode, 0, b""
+        self.owner, self.capability, self.lost = owner, capability, lost
+
+    def line(self, path):
+        """Its line in a tree text."""
+        if self.kind == FILE:
+            return b"f %o %d %b %b\n" % (self.mode, self.size, self.content.hex().encode(), path)
+        if self.kind == LINK:
+            return b"l %d %b %b\n" % (len(self.content), self.content, path)
+        if self.kind == WHITEOUT:
+            return b"w %b\n" % path
+        return b"%b %o %b\n" % (self.kind, USUAL_MODE if self.mode is None else self.mode, path)
+
+
+def parent_of(path):
+    return path.rpartition(b"/")[0]
+
+
+def in_order(paths):
+    """Paths in the order of lists of names."""
+    return sorted(paths, key=lambda path: path.replace(b"/", b"\0"))
+
+
+class Tree:
+    """The entries of a tree by their paths, and its top: a directory whose path is empty. `twice` has the paths that came more than once;
+    the last counts."""
+
+    def __init__(self):
+        self.entries, self.top, self.twice = {}, Entry(DIRECTORY), Found()
+        # the directories in which something stands
+        self.above = set()
+
+    def put(self, path, entry):
+        """Puts an entry at a path; what a check of names refuses doesn't come here."""
+        there = self.entries.get(path)
+        if there is not None and there.mode is None and there.kind in DIRECTORIES and entry.kind in DIRECTORIES:
+            self.entries[path] = entry
+            return
+        if there is not None:
+            if path in self.above and entry.kind not in DIRECTORIES:
+                raise Refused("something stands below it, and it is no directory")
+            self.twice.add(path)
+        else:
+            self.put_above(path)
+        self.entries[path] = entry
+        if len(self.entries) > MOST_ENTRIES:
+            raise Refused(f"more than {MOST_ENTRIES:,} entries")
+
+    def put_above(self, path):
+        """Sees to it that a directory stands above a path."""
+        while above := parent_of(path):
+            if above in self.above:
+                return
+            there = self.entries.get(above)
+            if there is not None and there.kind not in DIRECTORIES:
+                kind = "a link" if there.kind == LINK else "no directory"
+                raise Refused(f"{shown(above)} above it is {kind}")
+            self.above.add(above)
+            if there is not None:
+                return
+            self.entries[above] = Entry(DIRECTORY)
+            path = above
+
+    def paths(self):
+        return in_order(self.entries)
+
+    def version(self):
+        """The version of its text."""
+        return b"2" if any(entry.kind in (OPAQUE, WHITEOUT) for entry in self.entries.values()) else b"1"
+
+    def lines(self):
+        """The lines of its text, one after another, for which no other copy of it is made."""
+        yield b"hostext-tree " + self.version() + b"\n"
+        for path in self.paths():
+            yield self.entries[path].line(path)
+        yield b"end\n"
+
