@@ -30,18 +30,22 @@ class Reader:
     """Reads one archive into a tree. What `choice` leaves out goes into a tree of its own, since a hard link may lead there. `files` writes
     what has bytes, and has what was written."""
 
-    def __init__(self, stream, tree, choice, files, budget):
-        self.members, self.tree, self.left, self.choice = Members(stream), tree, Tree(), choice
+    def __init__(self, stream, tree, choice, files, budget, is_whole=False):
+        self.members, self.tree, self.left, self.choice = Members(stream, is_whole), tree, Tree(), choice
         self.files, self.budget, self.owners = files, budget, {}
         self.what = stream.what
 
     def read(self):
-        for found in self.members:
-            name = bytes_of(found.name)
-            try:
+        """Reads all. What is refused is told with the name of the archive, and with that of the member where it is one's."""
+        name = None
+        try:
+            for found in self.members:
+                name = bytes_of(found.name)
                 self.take(found, path_of(name))
-            except Refused as reason:
-                raise Refused(f"{self.what}: {shown(name) or '`` '}: {reason}") from None
+                name = None
+        except Refused as reason:
+            said, *advice = reason.args
+            raise Refused(": ".join((self.what, *([shown(name)] if name is not None else []), str(said).removeprefix(f"{self.what}: "))), *advice) from None
 
     def take(self, found, path):
         is_left_out = self.leaves_out(path)

@@ -72,15 +72,15 @@ class Packer:
         self.read(reads, stream, tree, files)
         self.finish(room, tree, files)
 
-    def read(self, reads, stream, tree, files):
-        reads(stream, tree, self.choice, files, self.budget).read()
+    def read(self, reads, stream, tree, files, is_whole=False):
+        reads(stream, tree, self.choice, files, self.budget, is_whole).read()
         if tree.twice.count:
             self.tells.tell(f"{stream.what}: names that came more than once, of which the last counts: {tree.twice}")
 
     def layer(self, shelf, layer, tree, files):
         """Reads a layer of an image."""
         opened = Opened(shelf, layer, self.source.what, self.source.stack)
-        self.read(LayerReader, opened.stream, tree, files)
+        self.read(LayerReader, opened.stream, tree, files, bool(opened.compared))
         opened.end()
 
     def listed(self, shelf):
