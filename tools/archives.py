@@ -26,14 +26,46 @@ class Budget:
             raise Refused(f"with it the files have more than {self.most:,} bytes, which --most-bytes allows")
 
 
-class Reader:
-    """Reads one archive into a tree. What `choice` leaves out goes into a tree of its own, since a hard link may lead there. `files` writes
+class Taker:
+    """Takes entries into a tree. What `choice` leaves out goes into a tree of its own, since a hard link may lead there. `files` writes
     what has bytes, and has what was written."""
 
-    def __init__(self, stream, tree, choice, files, budget, is_whole=False):
-        self.members, self.tree, self.left, self.choice = Members(stream, is_whole), tree, Tree(), choice
+    def __init__(self, what, tree, choice, files, budget):
+        self.what, self.tree, self.left, self.choice = what, tree, Tree(), choice
         self.files, self.budget, self.owners = files, budget, {}
-        self.what = stream.what
+
+    def leaves_out(self, path):
+        return self.choice.leaves_out(path)
+
+    def own(self, entry):
+        """An entry whose owner stands in memory once."""
+        entry.owner = self.owners.setdefault(entry.owner, entry.owner)
+        return entry
+
+    def take_top(self, entry):
+        if entry.kind not in DIRECTORIES:
+            raise Refused("it is the top, and no directory")
+        self.tree.top = self.own(entry)
+
+    def place(self, path, entry, tree):
+        """Puts an entry into a tree. A file that it takes the place of goes, but for one that is written over."""
+        there = tree.entries.get(path)
+        tree.put(path, self.own(entry))
+        if there is not None and there.kind == FILE != entry.kind:
+            self.files.remove(path)
+
+    def write(self, path, entry, size, pieces):
+        """Writes the bytes of an entry that is a file."""
+        self.budget.take(size)
+        entry.size, entry.content = self.files.write(path, pieces)
+
+
+class Reader(Taker):
+    """Reads one archive into a tree."""
+
+    def __init__(self, stream, tree, choice, files, budget, is_whole=False):
+        super().__init__(stream.what, tree, choice, files, budget)
+        self.members = Members(stream, is_whole)
 
     def read(self):
         """Reads all. What is refused is told with the name of the archive, and with that of the member where it is one's."""
@@ -52,46 +84,24 @@ class Reader:
         if is_special(found) and (is_left_out or self.choice.leaves_out_special(path)):
             return
         if not path:
-            self.take_top(found)
+            self.take_top(entry_of(found))
         elif is_left_out:
             self.put(found, path, self.left)
         else:
             self.put(found, path, self.tree)
-
-    def leaves_out(self, path):
-        return self.choice.leaves_out(path)
-
-    def take_top(self, found):
-        entry = entry_of(found)
-        if entry.kind not in DIRECTORIES:
-            raise Refused("it is the top, and no directory")
-        self.tree.top = self.own(entry)
 
     def put(self, found, path, tree):
         check_path(path.split(b"/"))
         if found.islnk():
             self.link(found, path, tree)
             return
-        entry = self.own(entry_of(found))
+        entry = entry_of(found)
         if entry.kind == LINK:
             entry.content = bytes_of(found.linkname)
             check_target(entry.content)
         self.place(path, entry, tree)
         if entry.kind == FILE:
-            self.budget.take(found.size)
-            entry.size, entry.content = self.files.write(path, self.members.content(found))
-
-    def place(self, path, entry, tree):
-        """Puts an entry into a tree. A file that it takes the place of goes, but for one that is written over."""
-        there = tree.entries.get(path)
-        tree.put(path, entry)
-        if there is not None and there.kind == FILE != entry.kind:
-            self.files.remove(path)
-
-    def own(self, entry):
-        """An entry whose owner stands in memory once."""
-        entry.owner = self.owners.setdefault(entry.owner, entry.owner)
-        return entry
+            self.write(path, entry, found.size, self.members.content(found))
 
     def link(self, found, path, tree):
         """Puts what stands at another path at this one, too."""

@@ -273,3 +273,9 @@ def plain(stream, stack):
     tool = ByTool(stream, ["zstd", "-dcq"])
     stack.callback(tool.close)
     return Stream(tool, stream.what)
+
+
+def zeros(count):
+    while count > 0:
+        yield bytes(min(count, PIECE))
+        count -= PIECE

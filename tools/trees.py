@@ -4,22 +4,35 @@ An entry has all that came of it, also what no tree text keeps: its owner, its f
 directory that something stands in and that didn't come itself is one too; its mode is told later.
 """
 from entries import MOST_ENTRIES, USUAL_MODE, Refused, shown
+from losses import ATTRIBUTES, CAPABILITY
 from telling import Found
+from walking import OPAQUE as MARKS
 
 DIRECTORY, OPAQUE, FILE, LINK, WHITEOUT = b"d", b"o", b"f", b"l", b"w"
 DIRECTORIES = DIRECTORY, OPAQUE
+MODES = (*DIRECTORIES, FILE)
 ROOT = 0, 0
+# Why an entry is refused that is neither of these, and what helps.
+SPECIAL = "neither a directory nor a file nor a link nor a whiteout", "--leave-out-special leaves out devices, sockets and pipes"
 
 
 class Entry:
-    """An entry. Its content is the digest of a file, in bytes, or the target of a link. The mode of a directory that didn't come is
-    None."""
+    """An entry. Its content is the digest of a file, in bytes, or the target of a link. Directories and files alone have a mode, and none
+    has a directory that didn't come."""
 
     __slots__ = "kind", "mode", "size", "content", "owner", "capability", "lost"
 
     def __init__(self, kind, mode=None, owner=ROOT, capability=None, lost=()):
-        self.kind, self.mode, self.size, self.content = kind, mode, 0, b""
+        self.kind, self.mode, self.size, self.content = kind, mode if kind in MODES else None, 0, b""
         self.owner, self.capability, self.lost = owner, capability, lost
+
+    def take(self, attributes):
+        """Takes what counts of its extended attributes; the others are lost."""
+        if self.kind == DIRECTORY and any(attributes.get(mark) == b"y" for mark in MARKS):
+            self.kind = OPAQUE
+        self.capability = attributes.get(CAPABILITY)
+        if attributes.keys() - {CAPABILITY} - set(MARKS if self.kind in DIRECTORIES else ()):
+            self.lost += (ATTRIBUTES,)
 
     def line(self, path):
         """Its line in a tree text."""
