@@ -5,12 +5,13 @@ import stat
 
 from archives import Budget, LayerReader, Reader
 from containers import LAYOUT, Opened, layers_of
+from disks import read_disk
 from entries import MOST_LISTED, USUAL_MODE, Refused, shown
 from layers import Laid, settle
 from losses import Losses
 from packages import data_of
 from packing import FILES, TEXT, Files, Made, write_text
-from sources import IMAGES
+from sources import DISKS, IMAGES
 from trees import DIRECTORIES, DIRECTORY, FILE, OPAQUE, Entry, Tree
 from usr_merge import below_usr, beside_usr, warning
 from walking import Place
@@ -56,12 +57,19 @@ class Packer:
         shelf = self.source.shelf(room) if self.source.kind in IMAGES else None
         if self.given.layers and not shelf:
             raise Refused(f"{self.source.what}: no image of a container, of which --layers packs the layers")
-        if not shelf:
+        if self.source.kind in DISKS:
+            self.disk(room)
+        elif not shelf:
             self.archive(room)
         elif self.given.layers:
             self.layers(room, shelf)
         else:
             self.image(room, shelf)
+
+    def disk(self, room):
+        tree, files = Tree(), Files(room, self.place, self.tells)
+        read_disk(self.source.kind, self.source.kept(room), room, self.source.what, self.tells, tree, self.choice, files, self.budget)
+        self.finish(room, tree, files)
 
     def archive(self, room):
         source = self.source
