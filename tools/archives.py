@@ -4,7 +4,9 @@ An archive is refused at the first member that no tree has or that reaches beyon
 below a link, a hard link to what didn't come before. In an archive that is the layer of a container's image a name with `.wh.` before it
 is a whiteout, and `.wh..wh..opq` makes its directory opaque.
 """
-from entries import MOST_ENTRIES, MOST_FILE_BYTES, USUAL_MODE, Refused, check_path, check_target, shown
+from tarfile import LNKTYPE
+
+from entries import MOST_ENTRIES, MOST_FILE_BYTES, USUAL_MODE, Refused, check_name, check_path, check_target, shown
 from losses import LINKS
 from tar_members import Members, bytes_of, entry_of, is_special, path_of
 from trees import DIRECTORIES, FILE, LINK, OPAQUE, WHITEOUT, Entry, Tree
@@ -91,8 +93,8 @@ class Reader(Taker):
             self.put(found, path, self.tree)
 
     def put(self, found, path, tree):
-        check_path(path.split(b"/"))
-        if found.islnk():
+        check_name(path)
+        if found.type == LNKTYPE:
             self.link(found, path, tree)
             return
         entry = entry_of(found)

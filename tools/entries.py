@@ -23,6 +23,8 @@ MOST_LISTED = 1_048_576
 USUAL_MODE = 0o755
 NO_NAMES = frozenset((b"", b".", b".."))
 CONTROL = re.compile(rb"[\x00-\x1f\x7f]")
+# Paths of few and short names of ASCII.
+PLAIN = re.compile(rb"[ -.0-~]{1,200}(?:/[ -.0-~]{1,200}){0,15}")
 PIECE = 1 << 20
 FOLDER_ONLY = os.O_RDONLY | os.O_DIRECTORY | os.O_NOFOLLOW
 # What was no file when it was opened is seen by its handle; a pipe that has come meanwhile holds nobody up.
@@ -65,6 +67,12 @@ def check_text(text, what):
         text.decode("utf-8")
     except UnicodeDecodeError:
         raise Refused(f"{what} is no UTF-8") from None
+
+
+def check_name(path):
+    """check_path of a path that has neither empty names nor `.` and `..`. Most paths are seen at once to be fine."""
+    if not PLAIN.fullmatch(path):
+        check_path(path.split(b"/"))
 
 
 def check_path(names):

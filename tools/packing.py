@@ -46,17 +46,13 @@ class Copies(Made):
         super().__init__(room)
         self.place = place
 
-    def opened(self, names, path):
-        """The handle of a new file, of which the path is told where it can't be made."""
-        try:
-            return os.open(names[-1], NEW, 0o666, dir_fd=self.at(names[:-1]))
-        except OSError as error:
-            error.filename = os.path.join(self.place, path)
-            raise
-
     def copy(self, path, read):
         """Has a file read, whose bytes go to its path."""
-        handle = self.opened((FILES, *path), os.path.join(*path))
+        try:
+            handle = os.open(path[-1], NEW, 0o666, dir_fd=self.at((FILES, *path[:-1])))
+        except OSError as error:
+            error.filename = os.path.join(self.place, *path)
+            raise
         try:
             return read(lambda piece: write_all(handle, piece))
         finally:
@@ -69,25 +65,33 @@ class Files:
 
     def __init__(self, room, place, tells, folder=()):
         self.room, self.place, self.tells, self.folder = room, place, tells, folder
-        self.copies, self.hides = Copies(room, place), None
+        self.copies, self.hides, self.way = Copies(room, place), None, ()
 
     def names(self, path):
         above = HIDDEN if self.hides and self.hides(path) else FILES
         return (above, *self.folder, *path.split(b"/"))
 
+    def at(self, path):
+        """The handle of the folder of a file. Many files of one come one after another."""
+        above = path.rpartition(b"/")[0], bool(self.hides) and self.hides(path)
+        if self.way != above:
+            self.copies.at(self.names(path)[:-1])
+            self.way = above
+        return self.copies.handles[-1]
+
     def opened(self, path):
-        names = self.names(path)
+        name, folder = path.rpartition(b"/")[2], self.at(path)
         try:
-            return self.copies.opened(names, path)
+            return os.open(name, NEW, 0o666, dir_fd=folder)
         except FileExistsError:
-            os.unlink(names[-1], dir_fd=self.copies.at(names[:-1]))
-            return self.copies.opened(names, path)
+            os.unlink(name, dir_fd=folder)
+            return os.open(name, NEW, 0o666, dir_fd=folder)
 
     def write(self, path, pieces):
         """Writes a file as its bytes come. Its size and its digest."""
-        size, digest = 0, hashlib.sha256()
-        handle = self.opened(path)
+        size, digest, handle = 0, hashlib.sha256(), None
         try:
+            handle = self.opened(path)
             for piece in pieces:
                 digest.update(piece)
                 write_all(handle, piece)
@@ -96,18 +100,17 @@ class Files:
             error.filename = os.path.join(self.place, path)
             raise
         finally:
-            os.close(handle)
+            if handle is not None:
+                os.close(handle)
         self.tells.read(size)
         return size, digest.digest()
 
     def remove(self, path):
-        names = self.names(path)
-        os.unlink(names[-1], dir_fd=self.copies.at(names[:-1]))
+        os.unlink(path.rpartition(b"/")[2], dir_fd=self.at(path))
 
     def copy(self, path, to):
         """Writes at another path what was written at one."""
-        names = self.names(path)
-        handle, status = open_file(names[-1], self.copies.at(names[:-1]))
+        handle, _ = open_file(path.rpartition(b"/")[2], self.at(path))
         try:
             self.write(to, pieces_of(handle))
         finally:
@@ -117,11 +120,11 @@ class Files:
         """Moves a file to another path, whose folders are made."""
         old, new = self.names(path), self.names(to)
         with Made(self.room) as others:
-            os.rename(old[-1], new[-1], src_dir_fd=others.at(old[:-1]), dst_dir_fd=self.copies.at(new[:-1]))
+            os.rename(old[-1], new[-1], src_dir_fd=others.at(old[:-1]), dst_dir_fd=self.at(to))
 
     def forget_hidden(self):
         """Takes away what was written for hard links alone. From here on nothing is hidden."""
-        self.hides = None
+        self.hides, self.way = None, ()
         room = self.copies.at(())
         if HIDDEN in os.listdir(room):
             with Made(room) as folders:

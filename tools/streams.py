@@ -51,7 +51,7 @@ class Within:
     skip = None
 
     def __init__(self, stream, count):
-        self.pieces = stream.pieces(count)
+        self.pieces = iter(stream.pieces(count))
 
     def __call__(self):
         return bytes(next(self.pieces, b""))
@@ -108,6 +108,12 @@ class Stream:
 
     def pieces(self, count):
         """The next bytes, as they come, without a copy of them. They have to be there."""
+        if 0 < count <= len(self.piece) - self.at:
+            self.at += count
+            return (self.piece[self.at - count : self.at],)
+        return self.further(count)
+
+    def further(self, count):
         while count:
             if not self.filled():
                 raise Refused(f"{self.what}: it ends early")
