@@ -122,6 +122,11 @@ class Reader(Taker):
             self.files.copy(to, path)
 
 
+def is_of_aufs(path):
+    """Whether a path of a layer is at or below a folder that aufs has for itself."""
+    return OWN in path and any(name.startswith(OWN) and name != HIDES for name in path.split(b"/"))
+
+
 class LayerReader(Reader):
     """Reads one layer of an image. What it removes is put into its tree once all has come, since a whiteout may stand before or after
     what stands beside it."""
@@ -131,8 +136,7 @@ class LayerReader(Reader):
         self.removed, self.opaque = set(), set()
 
     def leaves_out(self, path):
-        """Beside what is asked for, the folders that aufs has for itself."""
-        return super().leaves_out(path) or any(name.startswith(OWN) and name != HIDES for name in path.split(b"/") if name[:1] == b".")
+        return super().leaves_out(path) or is_of_aufs(path)
 
     def put(self, found, path, tree):
         above, _, name = path.rpartition(b"/")

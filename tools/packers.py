@@ -3,7 +3,7 @@ of a disk or of a file system."""
 import os
 import stat
 
-from archives import Budget, LayerReader, Reader
+from archives import Budget, LayerReader, Reader, is_of_aufs
 from containers import LAYOUT, Opened, layers_of
 from disks import read_disk
 from entries import MOST_LISTED, USUAL_MODE, Refused, shown
@@ -77,6 +77,8 @@ class Packer:
         reads = LayerReader if source.kind == "layer" else Reader
         tree, files = Tree(), Files(room, self.place, self.tells)
         files.hides = self.choice.leaves_out if self.given.without else None
+        if reads is LayerReader:
+            files.hides = self.leaves_out_of_layer
         self.read(reads, stream, tree, files)
         self.finish(room, tree, files)
 
@@ -84,6 +86,9 @@ class Packer:
         reads(stream, tree, self.choice, files, self.budget, is_whole).read()
         if tree.twice.count:
             self.tells.tell(f"{stream.what}: names that came more than once, of which the last counts: {tree.twice}")
+
+    def leaves_out_of_layer(self, path):
+        return self.choice.leaves_out(path) or is_of_aufs(path)
 
     def layer(self, shelf, layer, tree, files):
         """Reads a layer of an image."""
@@ -103,7 +108,7 @@ class Packer:
         """Lays the layers of an image over one another. The topmost is read first, so that no file is written that another one hides."""
         laid, files = Laid(), Files(room, self.place, self.tells)
         for layer in reversed(self.listed(shelf)):
-            tree, files.hides = Tree(), lambda path: self.choice.leaves_out(path) or laid.cover.hides(path)
+            tree, files.hides = Tree(), lambda path: self.leaves_out_of_layer(path) or laid.cover.hides(path)
             self.layer(shelf, layer, tree, files)
             laid.add(tree)
             check_entries(laid.trees)
@@ -118,7 +123,7 @@ class Packer:
         numbers = [b"%0*d" % (max(2, len(str(len(listed)))), at) for at in range(1, len(listed) + 1)]
         for layer, number in zip(listed, numbers):
             tree, files = Tree(), Files(room, self.place, self.tells, (number,))
-            files.hides = self.choice.leaves_out if self.given.without else None
+            files.hides = self.leaves_out_of_layer
             self.layer(shelf, layer, tree, files)
             if tree.top.kind == OPAQUE:
                 raise Refused(f"{self.source.what}: {shown(layer.path)}: it hides all that is below it, which no tree text says")
