@@ -62,6 +62,15 @@ class Taker:
         entry.size, entry.content = self.files.write(path, pieces)
 
 
+def may_stand(path):
+    """Whether a tree may have a path."""
+    try:
+        check_name(path)
+        return True
+    except Refused:
+        return False
+
+
 class Reader(Taker):
     """Reads one archive into a tree."""
 
@@ -87,6 +96,9 @@ class Reader(Taker):
             return
         if not path:
             self.take_top(entry_of(found))
+        elif is_left_out and not may_stand(path):
+            # nothing leads there
+            return
         elif is_left_out:
             self.put(found, path, self.left)
         else:
@@ -100,7 +112,8 @@ class Reader(Taker):
         entry = entry_of(found)
         if entry.kind == LINK:
             entry.content = bytes_of(found.linkname)
-            check_target(entry.content)
+            if tree is self.tree:
+                check_target(entry.content)
         self.place(path, entry, tree)
         if entry.kind == FILE:
             self.write(path, entry, found.size, self.members.content(found))

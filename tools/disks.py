@@ -247,7 +247,7 @@ class ErofsTaker(DiskTaker):
             raise Refused(f"{self.what}: {shown(path)}: it is faulty") from None
         except Refused as reason:
             said, *advice = reason.args
-            raise Refused(f"{self.what}: {shown(path)}: {said}", *advice) from None
+            raise Refused(": ".join(filter(None, (self.what, shown(path), said))), *advice) from None
 
     def take(self, image, own, inode, known):
         path, kind = self.path(own), kind_of_mode(inode.mode)

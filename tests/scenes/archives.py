@@ -6,27 +6,20 @@ import json
 import lzma
 import random
 import shutil
-import struct
-import subprocess
-import uuid
-import zlib
 
-from scenes.running import ABC, EMPTY, SECONDS, Failed, Skipped, expect, named, removing, shortened, tree_text
+from scenes.running import ABC, LAYER, TOP, Failed, expect, named, removing, run, shortened, tree_text
 from scenes.stores import digest, in_a_place
-from scenes.tars import BLOCK, END, Packs, archive_of, deb, device, directory, docker, file, folder_of, hard, header, layout, link, long_name, package, padded, pax, pax_text, record, tar, with_sum
-from scenes.tools import beside, holds_nothing, left, tool
+from scenes.tars import BLOCK, Packs, archive_of, deb, device, directory, docker, file, folder_of, hard, header, layout, link, long_name, package, padded, pax, pax_text, record, tar, with_sum
+from scenes.tools import beside, left, tool
 from scenes.tree_texts import read_tree
 
-FINE = b"", b"", 0
+# How many images of random layers are packed.
+LAYERS = 60
 A = f"f 644 3 {ABC} a"
 MARK = ("--format=layer",)
 DEEP, LONG = "/".join("d" * 65), "/".join(["n" * 200] * 21)
 SPECIAL = "neither a directory nor a file nor a link nor a whiteout"
 SPARSE = {"GNU.sparse.major": 1, "GNU.sparse.minor": 0, "GNU.sparse.realsize": 8}
-
-
-def pax_of(**words):
-    return pax(**words)
 
 
 def sparse(text, content=b"", size=8):
@@ -105,7 +98,7 @@ REFUSED = {
     "a size far below zero": (tar(file("b"), header("a", size=-(1 << 20))), "a size below zero"),
     "a size below zero in octal": (tar(header("a", size=b"-0000000200")), "a size below zero"),
     "a size below zero in pax": (tar(pax(size=-512), file("a")), "a size below zero"),
-    "a size that is none": (tar(header("a", size=b"zzzzzzzzzzz")), "a faulty header"),
+    "a size that is none": (tar(file("b"), header("a", size=b"zzzzzzzzzzz")), "a faulty header"),
     "a size below zero of a device": (tar(file("b"), header("a", b"6", size=-1024)), SPECIAL),
     "a size below zero of pax": (tar(file("b"), header("p", b"x", size=-512), file("a")), "a header that is too long"),
     "a size below zero of a long name": (tar(file("b"), header("p", b"L", size=-512), file("a")), "a header that is too long"),
@@ -119,7 +112,7 @@ REFUSED = {
     "zeros after a pax header": (tar(file("b"), pax(path="a")), "a faulty header"),
     "a cut gzip": (gzip.compress(tar(file("a", random.Random(1).randbytes(9_000))))[:5_000], "it ends early"),
     "a cut xz": (lzma.compress(tar(file("a", random.Random(1).randbytes(9_000))))[:5_000], "it ends early"),
-    "a cut bzip2": (bz2.compress(tar(file("a", random.Random(1).randbytes(9_000))))[:5_000], ""),
+    "a cut bzip2": (bz2.compress(tar(file("a", random.Random(1).randbytes(9_000))))[:5_000], "it ends early"),
     "a gzip without its sum": (gzip.compress(tar(file("a")))[:-8], "it ends early"),
     "a gzip with another sum": (gzip.compress(tar(file("a")))[:-8] + bytes(8), "what is compressed is faulty"),
     "more after a gzip": (gzip.compress(tar(file("a"))) + b"more", "what is compressed is faulty"),
@@ -140,9 +133,9 @@ REFUSED = {
     "a pax header of ten megabytes": (tar(header("p", b"x", size=10_000_000)), "a header that is too long"),
     "a long name of ten megabytes": (tar(header("p", b"L", size=10_000_000)), "a header that is too long"),
     "a pax header of an exabyte": (tar(header("p", b"x", size=1 << 60)), "a header that is too long"),
-    "a thousand pax headers": (tar(*(pax(path="a") for _ in range(1_000)), file("b")), ""),
-    "ten thousand pax headers": (gzip.compress(tar(file("a"), *(pax(path="a") for _ in range(10_000)), file("b"))), ""),
-    "three thousand long names": (tar(file("a"), *(long_name(b"b") for _ in range(3_000))), ""),
+    "a thousand pax headers": (tar(*(pax(path="a") for _ in range(1_000)), file("b")), "a faulty header"),
+    "ten thousand pax headers": (gzip.compress(tar(file("a"), *(pax(path="a") for _ in range(10_000)), file("b"))), "a faulty header"),
+    "three thousand long names": (tar(file("a"), *(long_name(b"b") for _ in range(3_000))), "a faulty header"),
     "a hundred thousand digits": (tar(pax_text(b"1" * 100_000), file("a")), "a number in a header that is too long"),
     "a pax record of no length": (tar(file("a"), pax_text(b"0 path=b\n"), file("c")), "a faulty header"),
     "a hundred and one words of all": (tar(*(pax(b"g", **{f"w{at}": "x"}) for at in range(101)), file("a")), "too many words of all members"),
@@ -151,11 +144,11 @@ REFUSED = {
     "a map of holes that goes back": (tar(sparse(b"2\n4\n2\n0\n2\n", b"abc")), "a faulty map of holes"),
     "a map of holes below zero": (tar(sparse(b"1\n-4\n3\n", b"abc")), "a faulty map of holes"),
     "a map of holes without numbers": (tar(sparse(b"x\n", b"abc")), "a faulty header"),
-    "a map of holes of a billion": (tar(sparse(b"1000000000\n", b"abc"), file("b", bytes(5_000))), ""),
-    "a map of holes of many digits": (tar(sparse(b"1" * 5_000, b"abc")), ""),
+    "a map of holes of a billion": (tar(sparse(b"1000000000\n", b"abc"), file("b", bytes(5_000))), "a faulty header"),
+    "a map of holes of many digits": (tar(sparse(b"1" * 5_000, b"abc")), "a faulty header"),
     "a file of an exabyte of holes": (tar(sparse(b"1\n0\n3\n", b"abc", size=1 << 60)), "more than 1,073,741,824 bytes"),
     "an old map of holes beyond the file": (tar(old_sparse(8, (6, 3)) + padded(b"abc")), "a faulty map of holes"),
-    "an old map of holes of many blocks": (tar(old_sparse(8, (0, 3), extended=b"\1"), *[b"\x00" * 504 + b"\1" * 8] * 3_000), ""),
+    "an old map of holes of many blocks": (tar(old_sparse(8, (0, 3), extended=b"\1"), *[b"\x00" * 504 + b"\1" * 8] * 3_000), "a header that is too long"),
     "more in a map of holes than there is": (tar(old_sparse(4_000, (0, 3), (100, 3_000)) + padded(b"abc"), file("b", bytes(9_000))), "a size that leads back"),
     "a character device": (tar(device("null")), f"null: {SPECIAL}\npack: --leave-out-special leaves out devices, sockets and pipes"),
     "a block device": (tar(device("sda", b"4", 8, 0)), f"sda: {SPECIAL}"),
@@ -165,10 +158,10 @@ REFUSED = {
     "layers of what has none": (tar(file("a")), "no image of a container, of which --layers packs the layers", "--layers"),
     "a loss that isn't wanted": (tar(file("a", uid=7)), "lost: owners: 1", "--strict"),
     "a capability that isn't wanted": (tar(pax(**{"SCHILY.xattr.security.capability": b"\1\0\0\2"}), file("a")), "lost: file capabilities: 1", "--strict"),
-    "another format than was named": (tar(file("a")), "", "--format=deb"),
-    "another format than was named, too": (tar(file("a")), "", "--format=erofs"),
+    "another format than was named": (tar(file("a")), "no package of Debian", "--format=deb"),
+    "another format than was named, too": (tar(file("a")), "no image of erofs", "--format=erofs"),
     "a folder that is none": (tar(file("a")), "no folder", "--format=folder"),
-    "a tar that is no image": (tar(file("a")), "", "--format=oci"),
+    "a tar that is no image": (tar(file("a")), "the image has no such file", "--format=oci"),
     "a whiteout of nothing": (tar(file(".wh.")), "a name that no path has", *MARK),
     "a whiteout of here": (tar(file("a/.wh..")), "a name that no path has", *MARK),
     "a whiteout of above": (tar(file("a/.wh...")), "a name that no path has", *MARK),
@@ -301,5 +294,146 @@ def what_is_unusual_is_packed(place):
             shutil.rmtree(depot)
 
 
-CALLS = [what_is_hostile_is_refused_by_name, what_is_unusual_is_packed]
+def broken(files, path, content):
+    """The files of an image, one of which is another one, or is missing."""
+    found = {**files, path: content}
+    return {name: text for name, text in found.items() if text is not None}
+
+
+def pointing(files, **changed):
+    """The files of a layout whose index is another one."""
+    index = json.loads(files["index.json"])
+    return broken(files, "index.json", json.dumps({**index, "manifests": [{**index["manifests"][0], **changed}]}).encode())
+
+
+def of_manifest(**changed):
+    """The files of a layout whose manifest has something else."""
+    files = layout(tar(file("a")))
+    index = json.loads(files["index.json"])
+    manifest = json.loads(files[f"blobs/sha256/{index['manifests'][0]['digest'][7:]}"])
+    content = json.dumps({**manifest, **changed}).encode()
+    return pointing({**files, f"blobs/sha256/{digest(content)}": content}, digest=f"sha256:{digest(content)}")
+
+
+ONE, TWO = layout(tar(file("a"))), docker(tar(file("a")))
+LISTED = json.loads(ONE["index.json"])["manifests"][0]
+# Images of containers, and what a line has of why each is refused.
+IMAGES = {
+    "an index that is no JSON": (broken(ONE, "index.json", b"{"), "index.json: no JSON"),
+    "an index that is a list": (broken(ONE, "index.json", b"[]"), "`manifests` is missing, or is something else"),
+    "an index of a word": (broken(ONE, "index.json", b'{"manifests": "a"}'), "`manifests` is missing"),
+    "an index of numbers": (broken(ONE, "index.json", b'{"manifests": [1]}'), "`digest` is missing"),
+    "an index that is deep": (broken(ONE, "index.json", b"[" * 200_000), "index.json: no JSON"),
+    "half of a character": (broken(ONE, "index.json", b'{"manifests": [{"digest": "\\ud800"}]}'), "index.json: no JSON"),
+    "a digest that leads elsewhere": (pointing(ONE, digest="sha256:../../../../etc/passwd"), "no digest that is known"),
+    "a digest that isn't known": (pointing(ONE, digest="md5:" + "0" * 32), "no digest that is known"),
+    "a manifest that is missing": (pointing(ONE, digest="sha256:" + "0" * 64), "blobs/sha256/" + "0" * 64),
+    "an index of itself": (broken(ONE, "index.json", b'{"manifests": [' + json.dumps(LISTED).encode() + b", 1]}"), "`digest` is missing"),
+    "two images": (broken(ONE, "index.json", json.dumps({"manifests": [LISTED, {**LISTED, "annotations": {}}]}).encode()), "2 images; --image names one: one sha256:"),
+    "no image": (broken(ONE, "index.json", b'{"manifests": []}'), "it has no image"),
+    "another name": (ONE, "no image two; there are one sha256:", "--image=two"),
+    "layers that are none": (of_manifest(layers={}), "`layers` is missing"),
+    "a layer without a digest": (of_manifest(layers=[{}]), "`digest` is missing"),
+    "a layer that is missing": (of_manifest(layers=[{"digest": "sha256:" + "1" * 64}]), "blobs/sha256/" + "1" * 64),
+    "a thousand and one layers": (of_manifest(layers=[{"digest": "sha256:" + "1" * 64}] * 1_001), "more than 1,000 layers"),
+    "a layer that is no archive": (of_manifest(layers=[{"digest": f"sha256:{digest(ONE['oci-layout'])}"}]), "blobs/sha256/"),
+    "a layer with a name above": (layout(tar(file("../a"))), "../a: a name with `..`"),
+    "a directory that hides the top": (layout(tar(file(".wh..wh..opq"))), "it hides all that is below it", "--layers"),
+    "a file over a directory that didn't come": (layout(tar(link("lib", "usr/lib")), tar(file("lib/a"))), "lib: no directory of this name came with what is below it, and a lower layer has a link there"),
+    "a file that leads elsewhere": (docker(tar(file("a"))) | {"manifest.json": b'[{"Config": "/etc/passwd", "Layers": []}]'}, "/etc/passwd"),
+    "a layer that leads elsewhere": (broken(TWO, "manifest.json", TWO["manifest.json"].replace(b"/layer.tar", b"/../../../../etc/passwd")), "the image has no such file"),
+    "no list of images": (broken(TWO, "manifest.json", b"{}"), "it has no image"),
+    "more layers than are listed": (broken(TWO, "manifest.json", TWO["manifest.json"].replace(b"layer.tar\"]", b'layer.tar", "b"]')), "its layers are others than those of its configuration"),
+    "a layer with another digest": (broken(TWO, next(iter(TWO)), tar(file("b"))), "its digest is"),
+}
+
+
+def images_are_refused_by_name(place):
+    """Each as an archive and, of layouts, as a folder."""
+    depot, archive, folder = (beside(place, name) for name in ("packed", "x.tar", "layout"))
+    with Packs(place.program) as packs:
+        for name, (files, reason, *words) in IMAGES.items():
+            archive.write_bytes(archive_of(files))
+            sources = [archive]
+            if "oci-layout" in files:
+                shutil.rmtree(folder, ignore_errors=True)
+                sources.append(folder_of(folder, files))
+            for source in sources:
+                status, told = packs.run(*words, source, depot, "r")
+                if status != 1 or reason not in told or depot.exists():
+                    raise Failed(f"{name}, {source.name}: the status is {status}, and what is told {shortened(told)}")
+
+
+def a_blob_with_another_digest_is_refused(place):
+    files = layout(tar(file("a", b"abd")))
+    path = next(path for path, content in files.items() if content[:2] == b"\x1f\x8b")
+    folder = folder_of(beside(place, "layout"), {**files, path: gzip.compress(tar(file("a")))})
+    written, told, status = tool(place, "pack", folder, place.depot, "r")
+    if status != 1 or b"its digest is" not in told or left(place.depot):
+        raise Failed(f"the status is {status}, and what is told {told}")
+    (folder / path).unlink()
+    (folder / path).symlink_to("/etc/passwd")
+    written, told, status = tool(place, "pack", folder, place.depot, "r")
+    if status != 1 or path.encode() not in told or left(place.depot):
+        raise Failed(f"the status is {status}, and what is told {told}")
+
+
+NAMES = "a", "b", "c d", "ü"
+
+
+def layer_of(rng, depth=2, above=""):
+    """The members of a layer, with whiteouts and marks in it, and no member for some of its directories."""
+    found = []
+    for name in NAMES:
+        path, kind = above + name, rng.choice(("none", "none", "file", "link", "directory", "directory", "bare", "whiteout", "both", "opaque"))
+        if kind == "file":
+            found.append(file(path, rng.choice((b"", b"abc", b"def")), mode=rng.choice((0o644, 0o755, 0o4755))))
+        if kind == "link":
+            found.append(link(path, rng.choice(("a", "../b c"))))
+        if kind in ("whiteout", "both"):
+            found.append(file(f"{above}.wh.{name}", b""))
+        if kind in ("directory", "both", "opaque"):
+            found.append(directory(path, mode=rng.choice((0o755, 0o700, 0o1777))))
+        if kind in ("directory", "both", "opaque", "bare") and depth:
+            found += layer_of(rng, depth - 1, f"{path}/")
+        if kind == "opaque":
+            found.append(file(f"{path}/.wh..wh..opq", b""))
+    rng.shuffle(found)
+    return found
+
+
+def random_layers_are_laid_as_the_program_lays_them(place):
+    """Each image is packed as one tree and by its layers, whose texts `layer` lays over one another. Every second time the tool takes
+    nothing for short enough for the program, and lays the layers alone."""
+    rng, archive, depot = random.Random(7), beside(place, "x.tar"), beside(place, "packed")
+    tools = beside(place, "tools")
+    shutil.copytree(TOP / "tools", tools)
+    whole = (tools / "reading.py").read_text()
+    (tools / "reading.py").write_text(whole.replace("MOST_SOURCE = 16_777_216", "MOST_SOURCE = 0"))
+    (tools / "layers.py").write_text((tools / "layers.py").read_text().replace("def compare(tree, texts):", "def compare(tree, texts):\n    raise Refused('it asks the program')\n", 1))
+    refused = packed = 0
+    with Packs(place.program) as packs, Packs(place.program, tools) as alone:
+        for at in range(LAYERS):
+            layers = [tar(*layer_of(rng)) for _ in range(rng.randrange(1, 5))]
+            archive.write_bytes(archive_of((layout if at % 2 else docker)(*layers)))
+            status, told = (packs, alone)[at // 2 % 2].run("--quiet", archive, depot, "one")
+            if status:
+                if "no directory of this name came" not in told:
+                    raise Failed(f"what is told is {shortened(told)}")
+                refused += 1
+                continue
+            expect(packs.run("--quiet", "--layers", archive, depot, "all"), (0, ""))
+            texts = b"".join((depot / "all" / f"{number:02}.tree").read_bytes() for number in range(1, len(layers) + 1))
+            expect(run(place.program, LAYER, texts), ((depot / "one.tree").read_bytes(), b"", 0))
+            check_resource(depot, "one", "an image")
+            shutil.rmtree(depot)
+            packed += 1
+    if not refused or packed < LAYERS // 2:
+        raise Failed(f"{packed} images were packed, and {refused} refused")
+
+
+CALLS = [
+    *(what_is_hostile_is_refused_by_name, what_is_unusual_is_packed, images_are_refused_by_name, a_blob_with_another_digest_is_refused),
+    *(random_layers_are_laid_as_the_program_lays_them,),
+]
 scenes = named(*map(in_a_place, CALLS))
