@@ -4,6 +4,8 @@ A signal raises `Stopped` where the tool is, and whoever made something takes it
 signals are ignored. A signal that was ignored when the tool was started stays so, as nohup(1) wants it.
 """
 import signal
+import subprocess
+from contextlib import contextmanager
 
 SIGNALS = signal.SIGHUP, signal.SIGINT, signal.SIGTERM
 
@@ -49,3 +51,22 @@ def hold():
 
 def let_go():
     signal.pthread_sigmask(signal.SIG_UNBLOCK, SIGNALS)
+
+
+@contextmanager
+def started(words, **options):
+    """A program that ends with what it was started for: no signal comes between its start and who ends it, and it holds none itself."""
+    hold()
+    try:
+        child = subprocess.Popen(words, preexec_fn=let_go, **options)
+        try:
+            try:
+                let_go()
+                yield child
+            finally:
+                hold()
+        finally:
+            child.kill()
+            child.wait()
+    finally:
+        let_go()

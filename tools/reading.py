@@ -1,9 +1,14 @@
-"""Reads a store by the program hostext: what a command writes, and the bytes of many files."""
+"""Reads a store by the program hostext: what a command writes, and the bytes of many files.
+
+The store is locked meanwhile, shared with other readers, and the commands take no lock of their own. So no change comes between two of
+them, and several run side by side: those of the files whose paths no line holds beside the batch of the others.
+"""
+import fcntl
 import hashlib
 import os
 import subprocess
 from collections import deque
-from contextlib import contextmanager
+from contextlib import closing, contextmanager, suppress
 
 from entries import PIECE, Refused, shown, write_all
 
@@ -40,20 +45,52 @@ def changed(path):
 
 
 class Store:
-    """A store, and the empty depot that its commands get."""
+    """A store, and the empty depot that its commands get. It is locked until it is left, but for HOSTEXT_LOCK=no."""
 
-    def __init__(self, place):
+    def __init__(self, place, tells):
         self.program, self.place, self.depot = program(), place, "."
+        self.handle = locked(place, tells)
+        self.around = None if self.handle is None else {**os.environ, "HOSTEXT_LOCK": "no"}
+
+    def __enter__(self):
+        return self
+
+    def __exit__(self, *_):
+        if self.handle is not None:
+            os.close(self.handle)
 
     def words(self, *command):
         return [self.program, self.place, self.depot, *command]
 
     def read(self, *command):
         """What a command writes; its refusal, or its line on standard error, where it isn't done."""
-        ended = subprocess.run(self.words(*command), stdin=subprocess.DEVNULL, capture_output=True)
+        ended = subprocess.run(self.words(*command), stdin=subprocess.DEVNULL, capture_output=True, env=self.around)
         if ended.returncode:
             raise reason_of(command, ended.returncode, ended.stdout if ended.returncode == 1 else ended.stderr)
         return ended.stdout
+
+
+def locked(place, tells):
+    """The handle of a store's folder with the lock that readers share; none where no lock is wanted, or none can be taken, of which the
+    program tells. Whoever had the lock before may have put another folder there: then that one is locked."""
+    if os.environ.get("HOSTEXT_LOCK") == "no":
+        return None
+    with suppress(OSError):
+        while True:
+            handle = os.open(place, os.O_RDONLY | os.O_DIRECTORY)
+            share(handle, tells)
+            if os.path.samestat(os.stat(place), os.fstat(handle)):
+                return handle
+            os.close(handle)
+    return None
+
+
+def share(handle, tells):
+    try:
+        fcntl.flock(handle, fcntl.LOCK_SH | fcntl.LOCK_NB)
+    except BlockingIOError:
+        tells.tell("waiting for another command on this store")
+        fcntl.flock(handle, fcntl.LOCK_SH)
 
 
 class Files:
@@ -61,7 +98,7 @@ class Files:
 
     def __init__(self, store, command, source=subprocess.DEVNULL):
         self.command = command
-        streams = {"stdin": source, "stdout": subprocess.PIPE, "stderr": subprocess.PIPE, "bufsize": PIECE}
+        streams = {"stdin": source, "stdout": subprocess.PIPE, "stderr": subprocess.PIPE, "bufsize": PIECE, "env": store.around}
         self.child = subprocess.Popen(store.words(*command), **streams)
 
     def __enter__(self):
@@ -132,7 +169,6 @@ def source_of(paths, room):
 
 
 def by_batches(store, paths, room):
-    """A batch holds the lock on the store to its end, so one runs after another."""
     for group in groups_of(paths):
         if len(group) == 1:
             yield from side_by_side(store, group)
@@ -144,7 +180,7 @@ def by_batches(store, paths, room):
 
 
 def side_by_side(store, paths):
-    """Commands `cat` share the lock, so the next ones start while the first is read."""
+    """The next commands start while the first is read."""
     ahead = deque()
     try:
         for at, path in enumerate(paths):
@@ -158,6 +194,12 @@ def side_by_side(store, paths):
 
 
 def files_of(store, paths, room):
-    """Each path with the command whose next bytes are its file: first those that a line of a batch can hold."""
-    yield from by_batches(store, filter(fits_a_line, paths), room)
-    yield from side_by_side(store, [path for path in paths if not fits_a_line(path)])
+    """Each path, in this order, with the command whose next bytes are its file."""
+    batches = by_batches(store, filter(fits_a_line, paths), room)
+    alone = side_by_side(store, [path for path in paths if not fits_a_line(path)])
+    with closing(batches), closing(alone):
+        for path in paths:
+            yield next(batches if fits_a_line(path) else alone)
+        for commands in batches, alone:
+            # what follows the last file is looked at
+            next(commands, None)

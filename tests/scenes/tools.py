@@ -92,8 +92,9 @@ def a_tree_text_is_asked_for_by_one_folder(place):
     expect((written[: len(usage)], told, status), (usage, b"", 0))
     lacking = b"error: the following arguments are required:"
     expect(tool(place, "tree-text"), (b"", b"%btree-text: %b FOLDER\n" % (usage, lacking), 2))
-    usage = b"usage: unpack [--keep-setid] [--quiet] STORE ABS FOLDER\n"
-    expect(tool(place, "unpack", "r"), (b"", b"%bunpack: %b ABS, FOLDER\n" % (usage, lacking), 2))
+    usage = b"usage: unpack [OPTION ..] STORE ABS FOLDER\n       unpack {--tar | --erofs FILE | --squashfs FILE} [OPTION ..] STORE ABS\n"
+    expect(tool(place, "unpack", "r"), (b"", b"%bunpack: %b ABS\n" % (usage, lacking), 2))
+    expect(tool(place, "unpack", "r", "/"), (b"", b"%bunpack: %b FOLDER\n" % (usage, lacking), 2))
     usage = b"usage: pack [OPTION ..] SOURCE DEPOT RES\n"
     expect(tool(place, "pack", "r"), (b"", b"%bpack: %b DEPOT, RES\n" % (usage, lacking), 2))
 

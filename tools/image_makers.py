@@ -1,0 +1,125 @@
+"""Images of file systems by the programs that make them: mkfs.erofs(1) and mksquashfs(1). Each is asked for what makes the same bytes of
+the same tree: one time, root as owner, an identity that comes from the tree, and no attributes but the marks of opaque directories.
+
+mksquashfs reads a tar from a pipe, and so does mkfs.erofs where it can, from its version 1.7 on. An earlier one reads a folder, so the
+tree is written in the room first.
+"""
+import hashlib
+import os
+import shutil
+import subprocess
+from contextlib import suppress
+
+import ending
+from entries import Refused
+from tars import MOST_SECONDS, top_of, write_tar
+from tree_folders import TreeFolder
+
+IMAGE, SAID = "image", "said"
+
+
+def program(name, package):
+    """The path of a program, which may stand in a folder that only root's PATH has."""
+    path = shutil.which(name, path=f"{os.environ.get('PATH', os.defpath)}:/usr/sbin:/sbin")
+    if not path:
+        raise Refused(f"there is no {name}, which Debian has in the package {package}")
+    return path
+
+
+def takes(path, option):
+    """Whether the help of a program names an option."""
+    ended = subprocess.run([path, "-help"], stdin=subprocess.DEVNULL, stdout=subprocess.PIPE, stderr=subprocess.STDOUT)
+    return any(word.split(b"=")[0] == option for word in ended.stdout.split())
+
+
+class Making:
+    """An image that is made in a room: the handle of its file, and that of what the program says."""
+
+    def __init__(self, tree, room, seconds):
+        self.tree, self.room, self.seconds = tree, room, seconds
+        self.image, self.said = (os.open(name, os.O_RDWR | os.O_CREAT | os.O_EXCL, 0o600, dir_fd=room) for name in (IMAGE, SAID))
+
+    def path(self):
+        return f"/proc/self/fd/{self.image}"
+
+    def identity(self):
+        """A UUID by RFC 9562 that images of the same tree and time have, and no other."""
+        found = hashlib.sha256(b"%b%o %d" % (self.tree.text, self.tree.kept_bits, self.seconds)).hexdigest()
+        return f"{found[:8]}-{found[8:12]}-8{found[13:16]}-8{found[17:20]}-{found[20:32]}"
+
+    def has_marks(self):
+        return any(kind == b"o" for kind, _, _ in self.tree.entries)
+
+    def feed(self, handle):
+        """Writes the tree as a tar, with its top. A program that ends early says why."""
+        with suppress(BrokenPipeError):
+            write_tar(self.tree, self.room, handle, self.seconds, top_of(self.seconds))
+
+    def run(self, *words, feeds, handles=()):
+        # times are those of the words
+        around = {name: value for name, value in os.environ.items() if name != "SOURCE_DATE_EPOCH"}
+        streams = {"stdin": subprocess.PIPE if feeds else subprocess.DEVNULL, "stdout": self.said, "stderr": self.said, "bufsize": 0}
+        with ending.started(words, env=around, pass_fds=(self.image, *handles), **streams) as child:
+            if feeds:
+                self.feed(child.stdin.fileno())
+                child.stdin.close()
+            status = child.wait()
+        if status:
+            raise Refused(f"{os.path.basename(words[0])}: {self.reason(status)}")
+
+    def reason(self, status):
+        """The last line of what the program said."""
+        lines = os.pread(self.said, os.fstat(self.said).st_size, 0).decode(errors="replace").splitlines()
+        return next((line.strip() for line in reversed(lines) if line.strip()), f"it ended with the status {status}")
+
+
+def make_erofs(path, making):
+    words = path, "--quiet", f"-T{making.seconds}", f"-U{making.identity()}", "--all-root", *(() if making.has_marks() else ("-x-1",))
+    if takes(path, b"--tar"):
+        making.run(*words, "--tar=f", making.path(), feeds=True)
+        return
+    handle = write_folder(making)
+    try:
+        making.run(*words, making.path(), f"/proc/self/fd/{handle}", feeds=False, handles=(handle,))
+    finally:
+        os.close(handle)
+
+
+def write_folder(making):
+    """Writes the tree in the room, and gives the handle of its top."""
+    folder = TreeFolder(making.tree, making.room, making.seconds)
+    handle = folder.write()
+    folder.set_modes(handle)
+    os.fchmod(handle, 0o755)
+    return handle
+
+
+def make_squashfs(path, making):
+    if not takes(path, b"-tar"):
+        raise Refused("this mksquashfs reads no tar, as that of version 4.5 does")
+    time, attributes = str(making.seconds), () if making.has_marks() else ("-no-xattrs",)
+    # what a tar says of its top doesn't count there
+    top = "-root-mode", "755", "-root-uid", "0", "-root-gid", "0"
+    making.run(path, "-", making.path(), "-tar", "-noappend", "-quiet", "-no-progress", "-mkfs-time", time, "-all-time", time, *top, *attributes, feeds=True)
+
+
+class Kind:
+    """A kind of images: the program that makes one with its package, how it does, and the greatest time that one holds."""
+
+    def __init__(self, name, package, make, most_seconds):
+        self.name, self.package, self.make_by, self.most_seconds = name, package, make, most_seconds
+
+    def check(self, seconds):
+        """The path of the program, if it can make an image of this time."""
+        if seconds > self.most_seconds:
+            raise Refused(f"{self.name}: a time has at most {self.most_seconds:,} seconds")
+        return program(self.name, self.package)
+
+    def make(self, path, making):
+        self.make_by(path, making)
+
+
+KINDS = {
+    "erofs": Kind("mkfs.erofs", "erofs-utils", make_erofs, MOST_SECONDS),
+    "squashfs": Kind("mksquashfs", "squashfs-tools", make_squashfs, 2**32 - 1),
+}
