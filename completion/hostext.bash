@@ -1,5 +1,5 @@
-# Completes the words of hostext(1) and hostext_publish(1) in bash. It needs nothing but bash 4 and awk; bash-completion reads it by itself where it is
-# installed as share/bash-completion/completions/hostext, to which hostext_publish leads there, and otherwise a line `source` does.
+# Completes the words of hostext(1), hostext_publish(1) and the tools in bash. It needs nothing but bash 4 and awk; bash-completion reads it by itself
+# where it is installed as share/bash-completion/completions/hostext, to which their names lead there, and otherwise a line `source` does.
 #
 # Names of a store and of a depot may have any byte that stands in a path, and bash breaks words at some of them. So the line is
 # read here once more, and each reply is quoted as the word was begun.
@@ -288,5 +288,46 @@ _hostext_publish() {
     esac
 }
 
+# Replies the options of a tool. A value that one has is the next word.
+_hostext_tool_options() {
+    case $1 in
+        unpack) _hostext_reply --tar --erofs --squashfs --mtime --keep-setid --quiet --help ;;
+        image-from-packages) _hostext_reply --release --confext --public --quiet --help ;;
+        pack) _hostext_reply --without --leave-out-special --usr-merge --strict --public --quiet --help ;;
+        fetch) _hostext_reply --keyring --allow-older --public --quiet --jobs --help ;;
+        tree-text) _hostext_reply --quiet --help ;;
+        update) _hostext_reply --help ;;
+    esac
+}
+
+# Completes the words of a tool, which tells by its name where something else than a path stands: at ABS of a store, and at RES of a
+# depot that an image is made in.
+_hostext_tool() {
+    local words shared quote tool word last='' places=()
+    COMPREPLY=()
+    _hostext_split
+    tool=${words[0]##*hostext-}
+    for word in "${words[@]:1:${#words[@]}-2}"; do
+        [[ $last == --@(erofs|squashfs|mtime|release|without|keyring|jobs) || $word == -* ]] || places+=("$word")
+        last=$word
+    done
+    if [[ $last == --@(erofs|squashfs|release|without|keyring) ]]; then
+        _hostext_option -o default
+    elif [[ $last == --@(mtime|jobs) ]]; then
+        return
+    elif [[ ${words[-1]} == -* ]]; then
+        _hostext_tool_options "$tool"
+    elif [[ $tool:${#places[@]} == unpack:1 ]]; then
+        words=("${words[0]%-unpack}" "${places[0]}" . "${words[-1]}")
+        _hostext_paths d
+    elif [[ $tool:${#places[@]} == image-from-packages:1 ]]; then
+        words=("${words[0]}" . "${places[0]}" "${words[-1]}")
+        _hostext_publish_folders
+    else
+        _hostext_option -o default
+    fi
+}
+
 complete -F _hostext hostext
 complete -F _hostext_publish hostext_publish
+complete -F _hostext_tool hostext-{unpack,image-from-packages,pack,fetch,tree-text,update}

@@ -31,6 +31,7 @@ while IFS= read -r COMP_LINE; do
     COMP_POINT=${#COMP_LINE}
     case $COMP_LINE in
         hostext_publish*) _hostext_publish ;;
+        hostext-*) _hostext_tool ;;
         *) _hostext ;;
     esac
     printf '%s\\n' "${COMPREPLY[@]}"
@@ -307,6 +308,24 @@ def a_program_that_does_not_end_is_not_waited_for(place, folder):
         raise Failed("it waited")
 
 
+def options_of(name):
+    """The options that the help of a tool names in its list, and of one without a list in its text."""
+    shown = subprocess.run([TOP / "tools" / name, "--help"], stdout=subprocess.PIPE, check=True, timeout=SECONDS).stdout.decode()
+    return sorted(set(re.findall(r"^  (?:-h, )?(--[a-z-]+)", shown, re.M)) or {"--help"})
+
+
+def options_and_places_of_tools_are_offered(place, folder):
+    offered(
+        folder,
+        *((f"hostext-{name} -", options_of(name)) for name in ("fetch", "image-from-packages", "pack", "tree-text", "unpack", "update")),
+        *((f"hostext-unpack {words} /us", ["/usr"]) for words in ("s", "--tar s", "--erofs x s", "--mtime 5 --quiet s", "--keep-setid --squashfs 'a b' s")),
+        ("hostext-unpack s /usr/s", ["/usr/sub"]),
+        *((f"hostext-unpack {words}", []) for words in ("--erofs ", "--mtime ", "s /usr /us", "gone /us", "/us")),
+        ("hostext-image-from-packages --release x d im", ["images"]),
+        *((f"hostext-image-from-packages {words}", []) for words in ("im", "d images/x im", "--release im")),
+    )
+
+
 def lists_of(path, adds):
     """The lists of words that stand in a file as they are."""
     found = re.findall(rf"\b{adds} (?:-- )?((?:--)?[a-z][a-z0-9 -]*)", (TOP / path).read_text())
@@ -434,7 +453,7 @@ def zsh_waits_for_no_store(place, folder):
 
 CALLS = [
     *(each_word_of_a_command_is_offered, paths_of_the_store_are_offered_by_their_kinds, names_are_quoted_as_the_word_was_begun),
-    *(resources_of_the_depot_and_components_are_offered, versions_that_an_update_may_install_are_offered, images_of_portable_services_are_offered_by_their_states, paths_and_folders_for_publishing_are_offered),
+    *(resources_of_the_depot_and_components_are_offered, versions_that_an_update_may_install_are_offered, images_of_portable_services_are_offered_by_their_states, paths_and_folders_for_publishing_are_offered, options_and_places_of_tools_are_offered),
     *(names_with_control_bytes_are_not_offered, nothing_of_a_name_is_run, the_store_may_stand_in_quotes_a_variable_or_the_home),
     *(a_store_that_is_none_or_is_locked_is_not_waited_for, a_program_that_does_not_end_is_not_waited_for),
     *(bash_completes_on_a_terminal, zsh_completes_on_a_terminal, zsh_waits_for_no_store),

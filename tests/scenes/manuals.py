@@ -14,7 +14,7 @@ from scenes.sessions import commands_of, follow
 
 COMMANDS, FORMATS, PUBLISHING = "man/hostext.1", "man/hostext-formats.5", "man/hostext_publish.1"
 # The tools that have a page, by their names in tools.
-TOOLS = "pack", "tree-text", "unpack"
+TOOLS = "image-from-packages", "pack", "tree-text", "unpack"
 RULES = "docs/FORMATS.md"
 MACRO = re.compile(r"[A-Z][a-z]")
 DELIMITERS = ",", ".", ";", ":"
@@ -360,7 +360,7 @@ def check_tool(sources, name):
     shown = subprocess.run([TOP / "tools" / name, "--help"], capture_output=True, check=True, timeout=SECONDS).stdout.decode()
     options = re.findall(r"^  (?:-h, )?(--[a-z-]+)", shown, re.M)
     alike(f"options of {name}", [item.split()[0] for item in manual.items("OPTIONS")], options)
-    alike(f"variables of {name}", manual.items("ENVIRONMENT"), re.findall(r"\bHOSTEXT(?:_\w+)?\b", shown))
+    alike(f"variables of {name}", manual.items("ENVIRONMENT"), re.findall(r"\b(?:HOSTEXT(?:_\w+)?|SOURCE_DATE_EPOCH|TMPDIR)\b", shown))
     same(f"the statuses of {name}", manual.items("EXIT STATUS"), ["0", "1", "2", "129, 130, 143"])
 
 
@@ -370,7 +370,7 @@ def each_option_of_a_tool_is_in_its_manual_and_no_other(_program):
 
 
 def an_option_that_the_manual_of_a_tool_lacks_is_missed(_program):
-    for name, begin in ("pack", ".It Fl -public"), ("unpack", ".It Fl -keep"), ("tree-text", ".It Fl -quiet"), ("unpack", ".It Ev HOSTEXT\n"):
+    for name, begin in ("pack", ".It Fl -public"), ("unpack", ".It Fl -keep"), ("unpack", ".It Fl -squashfs"), ("unpack", ".It Ev TMPDIR"), ("image-from-packages", ".It Fl -confext"), ("tree-text", ".It Fl -quiet"), ("unpack", ".It Ev HOSTEXT\n"):
         is_missed(lambda sources: check_tool(sources, name), f"man/hostext-{name}.1", begin)
 
 

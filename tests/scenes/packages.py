@@ -202,7 +202,7 @@ def a_package_that_is_none_is_refused_by_name(place):
     half = tar_of([entry("./usr/a", b"x" * 3_000), entry("./usr/b", b"y")])
     rows = [b"", b"x", b"!<arch>\n", whole[:100], whole[:data], whole[: data + 99], whole[:-9], archive(("debian-binary", b"2.0\n"))]
     rows += [whole[:at] + bytes(byte ^ 255 for byte in whole[at : at + 4]) + whole[at + 4 :] for at in (data - 10, data + 2, data + 99, len(whole) - 20)]
-    cut = package(place, "cut", [], data=half[:4_000]), package(place, "torn", [], data=half[:4_096] + b"\x07" * 512 + bytes(10_240)), package(place, "more", [], data=half + b"z" * 3_000_000)
+    cut = package(place, "cut", [], data=half[:4_000]), package(place, "torn", [], data=half[:3_584] + b"\x07" * 512 + bytes(10_240)), package(place, "more", [], data=half + b"z" * 3_000_000)
     huge = tarfile.TarInfo("././@LongLink")
     huge.type, huge.size = tarfile.GNUTYPE_LONGNAME, 100_000_000
     rows += [file.read_bytes() for file in cut] + [package(place, "huge", [], data=huge.tobuf() + bytes(100_000_256)).read_bytes()]
@@ -210,7 +210,7 @@ def a_package_that_is_none_is_refused_by_name(place):
         bad.write_bytes(content)
         written, told, status = tool(place, NAME, "--quiet", place.depot, "r", bad)
         if (written, status) != (b"", 1) or not told.startswith(f"{NAME}: {bad}: ".encode()) or told.count(b"\n") != 1:
-            raise Failed(f"of {len(content)} bytes {content[:20]!r} it tells {status} {shortened(told)}")
+            raise Failed(f"of row {rows.index(content)}, {len(content)} bytes, it tells {status} {shortened(told)}")
         if left(place.depot) != ["good", "good.tree"]:
             raise Failed(f"in the depot stand {left(place.depot)}")
     if text != usual_text("r", release()):

@@ -11,7 +11,7 @@ from scenes.running import SECONDS, TOP, Failed, Skipped, expect, named, publish
 from scenes.stores import digest
 from scenes.tools import limited_to
 
-TOOLS = "fetch", "pack", "tree-text", "unpack", "update"
+TOOLS = "fetch", "image-from-packages", "pack", "tree-text", "unpack", "update"
 RECORD = "share/hostext/installed"
 
 
@@ -58,7 +58,7 @@ def files_wanted():
     pages = [path for path in (TOP / "man").iterdir()]
     documents = [path for path in (TOP / "README.md", TOP / "CHANGELOG.md", TOP / "SECURITY.md", TOP / "LICENSE", TOP / "LICENSE-MIT", TOP / "LICENSE-APACHE", *(TOP / "docs").glob("*.md"), *(TOP / "docs/figures").glob("*.svg")) if path.exists()]
     bash = "share/bash-completion/completions/hostext"
-    completions = [("hostext.bash", bash), ("hostext.bash", f"{bash}_publish"), ("_hostext", "share/zsh/site-functions/_hostext")]
+    completions = [*(("hostext.bash", f"{bash}{name}") for name in ("", "_publish", *(f"-{tool}" for tool in TOOLS))), ("_hostext", "share/zsh/site-functions/_hostext")]
     return {
         *("bin/hostext", "bin/hostext_publish", RECORD),
         *(f"bin/hostext-{name}" for name in tools),
