@@ -169,7 +169,7 @@ def marks_come_back(place, words, text, given=None):
 
 
 def a_tar_of_other_bytes_than_listed_does_not_end_well(place):
-    """Of a damaged file, and of a tree that changes meanwhile: what was written is no whole tar."""
+    """Of other bytes of a small and of a large file, and of a fault after the last one."""
     place.resource("r", tree_text(f"f 644 3 {ABC} a", f"f 644 {len(BIG)} {digest(BIG)} b"), {"a": b"abc", "b": BIG})
     place.expect(("init x86-64 system", DONE), ("import-fs r /", DONE))
     fake, text = beside(place, "fake"), beside(place, "text")
@@ -179,8 +179,14 @@ def a_tar_of_other_bytes_than_listed_does_not_end_well(place):
         written, told, status = tool(place, "unpack", "--tar", place.store, "/", env=around(place, HOSTEXT=str(fake)))
         expect((b"", told, status), (b"", f"unpack: /{name}: the tree changed meanwhile\n".encode(), 1))
         ended = subprocess.run(["tar", "-tf", "-"], input=written, capture_output=True, timeout=SECONDS)
-        if (written and not ended.returncode) or written.endswith(bytes(1_024)):
+        if not written or not ended.returncode:
             raise Failed(f"of {name} there is a tar that ends well: {shortened(ended.stdout)}")
+    script(fake, f'[ $3 = tree ] && exec cat "{text}"\nprintf abc; cat "{beside(place, "big")}"; echo fault >&2; exit 8')
+    beside(place, "big").write_bytes(BIG)
+    written, told, status = tool(place, "unpack", "--tar", place.store, "/", env=around(place, HOSTEXT=str(fake)))
+    expect((b"", told, status), (b"", b"unpack: batch: fault\n", 1))
+    if not subprocess.run(["tar", "-tf", "-"], input=written, capture_output=True, timeout=SECONDS).returncode:
+        raise Failed("there is a tar that ends well after a fault")
 
 
 def one_place_is_asked_for(place):
