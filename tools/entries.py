@@ -78,6 +78,10 @@ def check_name(path):
 def check_path(names):
     path = b"/".join(names)
     check_text(path, "its name")
+    check_names(path, names)
+
+
+def check_names(path, names):
     if path.count(b"/") >= len(names) or not NO_NAMES.isdisjoint(names) or max(map(len, names)) > MOST_NAME_BYTES:
         raise Refused("a name that no path has")
     if len(names) > MOST_NAMES:

@@ -44,7 +44,7 @@ class Making:
 
     def identity(self):
         """A UUID by RFC 9562 that images of the same tree and time have, and no other."""
-        found = hashlib.sha256(b"%b%o %d" % (self.tree.text, self.tree.kept_bits, self.seconds)).hexdigest()
+        found = hashlib.sha256(f"{self.tree.digest} {self.tree.kept_bits:o} {self.seconds}".encode()).hexdigest()
         return f"{found[:8]}-{found[8:12]}-8{found[13:16]}-8{found[17:20]}-{found[20:32]}"
 
     def has_marks(self):

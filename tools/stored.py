@@ -1,4 +1,5 @@
 """A tree of a store that is written out: its entries, what becomes of their modes, and the bytes of its files."""
+import hashlib
 import stat
 from contextlib import closing
 
@@ -31,8 +32,8 @@ class Tree:
     def __init__(self, store, path, keeps_setid, tells):
         self.store, self.tells = store, tells
         self.base = tuple(name for name in path.split(b"/") if name)
-        self.text = store.read("tree", path)
-        self.entries = entries_of(self.text)
+        text = store.read("tree", path)
+        self.digest, self.entries = hashlib.sha256(text).hexdigest(), entries_of(text)
         self.kept_bits = 0o7777 if keeps_setid else 0o7777 & ~SETID
 
     def file_mode(self, fields):

@@ -54,7 +54,8 @@ class Teller:
     def looked(self):
         """Counts an entry that was looked at."""
         self.entries += 1
-        self.progress("looked at {0.entries} entries")
+        if self.tells_progress:
+            self.progress("looked at {0.entries} entries")
 
     def read(self, size):
         """Counts a file that was read."""
@@ -65,15 +66,17 @@ class Teller:
         self.count(size, "wrote {0.files} files, {0.megabytes} MB")
 
     def count(self, size, form):
-        self.files, self.size = self.files + 1, self.size + size
-        self.progress(form)
+        self.files += 1
+        self.size += size
+        if self.tells_progress:
+            self.progress(form)
 
     @property
     def megabytes(self):
         return f"{self.size // 1_000_000}.{self.size // 100_000 % 10}"
 
     def progress(self, form):
-        if not self.tells_progress or time.monotonic() < self.due:
+        if time.monotonic() < self.due:
             return
         line = f"{self.name}: {form.format(self)}"
         self.write("\r" + line.ljust(self.width))

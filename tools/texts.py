@@ -5,11 +5,12 @@ A text is read line by line, and no list of its lines is made: of short lines th
 import io
 import re
 
-from entries import MOST_ENTRIES, MOST_FILE_BYTES, MOST_TARGET_BYTES, Refused, check_path, check_text
+from entries import MOST_ENTRIES, MOST_FILE_BYTES, MOST_TARGET_BYTES, Refused, check_names, check_text
 
 # The most bytes of a manifest, and of a tree text, that stand in a depot.
 MOST_TEXT_BYTES = 67_108_864
 LISTED = re.compile(rb"([0-9A-Fa-f]{64}) [ *](.+)", re.S)
+CONTROL_IN_LINES = re.compile(rb"[\x00-\x09\x0b-\x1f\x7f]")
 HEADER = re.compile(rb"hostext-tree ([12])")
 MODE = b"(0|[1-7][0-7]{0,3})"
 # The line of each kind, by its first byte. The target of a link may hold spaces.
@@ -57,33 +58,36 @@ def read_manifest(text):
     return found
 
 
-def link_of(length, rest):
+def link_of(length, rest, is_text):
     """The target and the path of a link's line, from its length on."""
     target, space, path = rest[:length], rest[length : length + 1], rest[length + 1 :]
     if length > MOST_TARGET_BYTES or space != b" ":
         raise Refused("it is the line of no entry")
-    check_text(target, "its target")
+    if not is_text:
+        check_text(target, "its target")
     return b"l", target, path
 
 
-def parts_of(line):
+def parts_of(line, is_text):
     """The kind, the fields and the path of a line."""
     form = FORMS.get(line[:1])
     found = form and form.fullmatch(line)
     if not found:
         raise Refused("it is the line of no entry")
     if found[1] == b"l":
-        return link_of(int(found[2]), found[3])
+        return link_of(int(found[2]), found[3], is_text)
     if found[1] == b"f" and int(found[3]) > MOST_FILE_BYTES:
         raise Refused(f"a file of more than {MOST_FILE_BYTES:,} bytes")
     return found.groups()
 
 
-def entry_of(line):
+def entry_of(line, is_text):
     """The entry of a line: the kind, its fields, and the path's names."""
-    kind, *fields, path = parts_of(line)
+    kind, *fields, path = parts_of(line, is_text)
     names = tuple(path.split(b"/"))
-    check_path(names)
+    if not is_text:
+        check_text(path, "its name")
+    check_names(path, names)
     return kind, fields, names
 
 
@@ -123,16 +127,22 @@ def entries_in(text):
     header = HEADER.fullmatch(next(lines, b""))
     if not header:
         raise Faulty(1, "it is not the first line of a tree text")
-    order, at = Order(header[1]), 1
+    order, at, is_text = Order(header[1]), 1, is_text_of_lines(text)
     for at, line in enumerate(lines, 2):
         if line == b"end":
             end_at(at, order)
             break
-        yield entry_at(at, line, order)
+        yield entry_at(at, line, order, is_text)
     else:
         raise Faulty(at + 1, "the text stops early")
     if not text.endswith(b"\nend\n") or next(lines, None) is not None:
         raise Faulty(at + 1, "something follows the end")
+
+
+def is_text_of_lines(text):
+    """Whether each line is UTF-8 without a control byte, so that no line has to be looked at for that. What a target is cut out of may
+    begin or end within a character, so a text that isn't ASCII is looked at line by line."""
+    return text.isascii() and not CONTROL_IN_LINES.search(text)
 
 
 def end_at(at, order):
@@ -142,10 +152,10 @@ def end_at(at, order):
         raise Faulty(at, reason) from None
 
 
-def entry_at(at, line, order):
+def entry_at(at, line, order, is_text):
     """The entry of a line, whose number is two more than that of the entries before it."""
     try:
-        kind, fields, names = entry_of(line)
+        kind, fields, names = entry_of(line, is_text)
         names = order.take(kind, names)
     except Refused as reason:
         raise Faulty(at, reason) from None
