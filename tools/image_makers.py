@@ -6,6 +6,7 @@ tree is written in the room first.
 """
 import hashlib
 import os
+import re
 import shutil
 import subprocess
 from contextlib import suppress
@@ -16,6 +17,7 @@ from tars import MOST_SECONDS, top_of, write_tar
 from tree_folders import TreeFolder
 
 IMAGE, SAID = "image", "said"
+VERSION = re.compile(rb"mksquashfs version ([0-9]{1,4})\.([0-9]{1,4})")
 
 
 def program(name, package):
@@ -26,10 +28,9 @@ def program(name, package):
     return path
 
 
-def takes(path, option):
-    """Whether the help of a program names an option."""
-    ended = subprocess.run([path, "-help"], stdin=subprocess.DEVNULL, stdout=subprocess.PIPE, stderr=subprocess.STDOUT)
-    return any(word.split(b"=")[0] == option for word in ended.stdout.split())
+def said_by(path, option):
+    """What a program says of itself, on whichever output."""
+    return subprocess.run([path, option], stdin=subprocess.DEVNULL, stdout=subprocess.PIPE, stderr=subprocess.STDOUT).stdout
 
 
 class Making:
@@ -75,7 +76,7 @@ class Making:
 
 def make_erofs(path, making):
     words = path, "--quiet", f"-T{making.seconds}", f"-U{making.identity()}", "--all-root", *(() if making.has_marks() else ("-x-1",))
-    if takes(path, b"--tar"):
+    if b" --tar=" in said_by(path, "--help"):
         making.run(*words, "--tar=f", making.path(), feeds=True)
         return
     handle = write_folder(making)
@@ -95,7 +96,8 @@ def write_folder(making):
 
 
 def make_squashfs(path, making):
-    if not takes(path, b"-tar"):
+    version = VERSION.search(said_by(path, "-version"))
+    if not version or (int(version[1]), int(version[2])) < (4, 5):
         raise Refused("this mksquashfs reads no tar, as that of version 4.5 does")
     time, attributes = str(making.seconds), () if making.has_marks() else ("-no-xattrs",)
     # what a tar says of its top doesn't count there

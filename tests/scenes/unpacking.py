@@ -258,11 +258,11 @@ def a_maker_of_images_that_is_missing_or_fails_leaves_nothing(place):
         (makers / name).symlink_to(shutil.which(name))
     stood = left(place.store.parent)
     for option, maker, package in ("--erofs", "mkfs.erofs", "erofs-utils"), ("--squashfs", "mksquashfs", "squashfs-tools"):
-        script(makers / maker, 'case "$*" in -help) echo "-tar --tar=X" ;; *) echo first >&2; echo "it has failed" >&2; exit 3 ;; esac')
+        script(makers / maker, 'case "$*" in --help) echo " --tar=X" ;; -version) echo "mksquashfs version 4.5" ;; *) echo first >&2; echo "it has failed" >&2; exit 3 ;; esac')
         expect(tool(place, "unpack", option, image, place.store, "/", env=around(place, PATH=str(makers))), (b"", f"unpack: {maker}: it has failed\n".encode(), 1))
         if left(place.store.parent) != stood:
             raise Failed(f"there stand {left(place.store.parent)}")
-    program = script(makers / "mksquashfs", "echo usage")
+    program = script(makers / "mksquashfs", "echo mksquashfs version 4.4-git")
     told = b"unpack: this mksquashfs reads no tar, as that of version 4.5 does\n"
     expect(tool(place, "unpack", "--squashfs", image, place.store, "/", env=around(place, PATH=str(makers))), (b"", told, 1))
     program.unlink()
@@ -278,7 +278,7 @@ def a_signal_ends_the_maker_and_leaves_nothing(place):
     small(place)
     image, makers, note = beside(place, "image"), beside(place, "makers"), beside(place, "note")
     makers.mkdir()
-    script(makers / "mksquashfs", f'case "$*" in -help) echo "-tar" ;; *) echo $$ >"{note}"; exec sleep 600 ;; esac')
+    script(makers / "mksquashfs", f'case "$*" in -version) echo "mksquashfs version 10.0" ;; *) echo $$ >"{note}"; exec sleep 600 ;; esac')
     for number, status in (signal.SIGINT, 130), (signal.SIGTERM, 143), (signal.SIGHUP, 129):
         note.unlink(missing_ok=True)
         path = f"{makers}:{os.environ['PATH']}"
