@@ -45,7 +45,10 @@ class Making:
 
     def identity(self):
         """A UUID by RFC 9562 that images of the same tree and time have, and no other."""
-        found = hashlib.sha256(f"{self.tree.digest} {self.tree.kept_bits:o} {self.seconds}".encode()).hexdigest()
+        digest = hashlib.sha256(b"%o %d\n" % (self.tree.kept_bits, self.seconds))
+        for kind, fields, names in self.tree.entries:
+            digest.update(b"%b %b %b\n" % (kind, b" ".join(fields), b"/".join(names)))
+        found = digest.hexdigest()
         return f"{found[:8]}-{found[8:12]}-8{found[13:16]}-8{found[17:20]}-{found[20:32]}"
 
     def has_marks(self):

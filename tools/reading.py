@@ -16,7 +16,7 @@ from entries import PIECE, Refused, shown, write_all
 MOST_SOURCE = 16_777_216
 # How many commands that read one file each run at the same time.
 SIDE_BY_SIDE = max(2, min(8, os.cpu_count() or 1))
-LINES = "lines"
+LINES, LINES_AT_ONCE = "lines", 8_192
 
 
 def program():
@@ -161,7 +161,8 @@ def source_of(paths, room):
     handle = os.open(LINES, os.O_RDWR | os.O_CREAT | os.O_EXCL, 0o600, dir_fd=room)
     try:
         os.unlink(LINES, dir_fd=room)
-        write_all(handle, b"".join(map(line_of, paths)))
+        for at in range(0, len(paths), LINES_AT_ONCE):
+            write_all(handle, b"".join(map(line_of, paths[at : at + LINES_AT_ONCE])))
         os.lseek(handle, 0, os.SEEK_SET)
         yield handle
     finally:

@@ -1,5 +1,4 @@
 """A tree of a store that is written out: its entries, what becomes of their modes, and the bytes of its files."""
-import hashlib
 import stat
 from contextlib import closing
 
@@ -32,8 +31,7 @@ class Tree:
     def __init__(self, store, path, keeps_setid, tells):
         self.store, self.tells = store, tells
         self.base = tuple(name for name in path.split(b"/") if name)
-        text = store.read("tree", path)
-        self.digest, self.entries = hashlib.sha256(text).hexdigest(), entries_of(text)
+        self.entries = entries_of(store.read("tree", path))
         self.kept_bits = 0o7777 if keeps_setid else 0o7777 & ~SETID
 
     def file_mode(self, fields):
@@ -51,8 +49,9 @@ class Tree:
     def files(self, room):
         """Each file in path order: the command whose next bytes it is, its path in the store, and its fields and names. The room has the
         lines of the commands."""
-        files = [(path_of((*self.base, *names)), fields, names) for kind, fields, names in self.entries if kind == b"f"]
-        with closing(files_of(self.store, [path for path, _, _ in files], room)) as reading:
+        paths = [path_of((*self.base, *names)) for kind, _, names in self.entries if kind == b"f"]
+        files = (entry for entry in self.entries if entry[0] == b"f")
+        with closing(files_of(self.store, paths, room)) as reading:
             for (path, source), (_, fields, names) in zip(reading, files):
                 yield source, path, fields, names
 

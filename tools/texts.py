@@ -84,6 +84,7 @@ def parts_of(line, is_text):
 def entry_of(line, is_text):
     """The entry of a line: the kind, its fields, and the path's names."""
     kind, *fields, path = parts_of(line, is_text)
+    fields = tuple(fields)
     names = tuple(path.split(b"/"))
     if not is_text:
         check_text(path, "its name")
