@@ -18,9 +18,10 @@ TRANSFER = """[Transfer]
 {transfer}
 [Source]
 Type=regular-file
-Path=/images
+Path=/offered
 MatchPattern=foo_@v
 [Target]
+Type=regular-file
 Path={path}
 InstancesMax=2
 """
@@ -91,7 +92,7 @@ def of_stores_and_views(told):
     told.done("init x86-64 system")
     told.refuses("init x86-64 system", "2 `store-exists`")
     told.refuses("sysext list", "5 `no-host-release`")
-    told.put("bad", {"etc/os-release": b"?\n"}, "/")
+    told.put("bad", {"etc/os-release": b"ID=\"\n"}, "/")
     told.refuses("sysext list", "6 `bad-host-release`")
     told.put("host", {"etc/os-release": RELEASE, "a": b"", "run/extensions/x/usr/lib/extension-release.d/extension-release.x": RELEASE, "usr/b": b"", "run/confexts/y/etc/extension-release.d/extension-release.y": RELEASE}, "/")
     told.refuses("tree /c", "8 `no-entry`")
@@ -137,7 +138,7 @@ def of_limits(told):
 def of_services(told):
     head = {"usr/lib/os-release": RELEASE}
     told.put("images", {
-        "none/usr/a": b"", "faulty/usr/lib/os-release": b"?\n", "strict/usr/lib/os-release": b"PORTABLE_PREFIXES=a\n", f"strict/{UNIT}": b"",
+        "none/usr/a": b"", "faulty/usr/lib/os-release": b"ID=\"\n", "strict/usr/lib/os-release": b"PORTABLE_PREFIXES=a\n", f"strict/{UNIT}": b"",
         "bare_1/usr/lib/os-release": RELEASE, **{f"{name}/{path}": content for name in ("web", "other") for path, content in {**head, UNIT: b""}.items()},
         "split/usr/lib/os-release": RELEASE, "split/lib/systemd/system/split.service": b"",
     }, "/var/lib/portables")
@@ -173,15 +174,15 @@ def of_updates(told):
     told.put("off", transfer(transfer="Features=x"), "/etc/sysupdate.d")
     told.refuses("sysupdate list", "33 `none-on`")
     told.put("on", transfer(), "/etc/sysupdate.d")
-    (place.depot / "images").mkdir()
-    sums = place.depot / "images/SHA256SUMS"
+    (place.depot / "offered").mkdir()
+    sums = place.depot / "offered/SHA256SUMS"
     sums.write_bytes(b"x\n")
     told.refuses("sysupdate list", "22 `bad-manifest`")
     sums.write_bytes(f"{NOTHING}  foo_3\n".encode())
-    with open(place.depot / "images/foo_3", "wb") as large:
+    with open(place.depot / "offered/foo_3", "wb") as large:
         large.truncate((1 << 30) + 1)
     told.refuses("sysupdate update", "7 `limit file`")
-    (place.depot / "images/foo_3").write_bytes(b"")
+    (place.depot / "offered/foo_3").write_bytes(b"")
     told.refuses("sysupdate update 9", "27 `no-such-version`")
     told.done("sysupdate update")
     told.refuses("sysupdate check-new", "26 `none-newer`")
