@@ -15,6 +15,7 @@ import time
 from scenes.devices import become_nobody
 from scenes.locks import ended, locked, waits
 from scenes.reasons import EXPLAIN, SEE, explains
+from scenes.remedies import rows
 from scenes.running import ABC, EMPTY, SECONDS, VERSION, Failed, Skipped, expect, named, publisher, run, shortened, tree_text
 from scenes.stores import DONE, Place, digest, in_a_place, left_overs, what_stands
 from scenes.uses import tree_of
@@ -573,6 +574,39 @@ def a_kill_at_any_moment_leaves_the_old_manifest_or_the_new_one(site, place):
         raise Failed("no kill came before the end of a run")
 
 
+def each_refusal_says_what_helps_there(site, place):
+    said = rows("What helps after a refusal comes as it does")
+
+    def refuses(row, *words):
+        ended = subprocess.run(site.words(*words), env=EXPLAIN, stdin=subprocess.DEVNULL, capture_output=True, timeout=SECONDS)
+        number, word = row.split(" ", 1)
+        if ended.returncode != 1 or not ended.stdout.decode().startswith(f"refused {number} {word.strip('`')}"):
+            raise Failed(f"{words} ends with {ended.returncode}: {shortened(ended.stdout)}")
+        wanted = f"hostext: {said.pop(row)}\n"
+        if ended.stderr.decode() != wanted:
+            raise Failed(f"{words} tells {shortened(ended.stderr)}, and not {shortened(wanted)}")
+
+    refuses("1 `no-store`", "/usr", "r", "x")
+    place.resource("host", tree_text("l 3 usr link", "d 755 usr", f"f 644 3 {ABC} usr/a"), {"usr/a": b"abc"})
+    place.expect(("init x86-64 system", DONE), ("import-fs host /", DONE))
+    refuses("8 `no-entry`", "/gone", "r", "x")
+    refuses("10 `not-file`", "/link", "r", "x")
+    refuses("7 `limit path`", "/usr", "/".join("r" * 64), "x")
+    (site.out / "file").write_bytes(b"")
+    refuses("36 `out-kind`", "/usr", "file", "x")
+    for name in "large", "faulty":
+        (site.out / name).mkdir()
+    with open(site.out / "large" / SUMS, "wb") as sums:
+        sums.truncate((64 << 20) + 1)
+    refuses("7 `limit text`", "/usr", "large", "x")
+    (site.out / "faulty" / SUMS).write_bytes(b"x\n")
+    refuses("35 `out-manifest`", "/usr", "faulty", "x")
+    site.run("/usr", "r", "x")
+    refuses("34 `listed`", "/usr", "r", "x")
+    if said:
+        raise Failed(f"no run is refused by {', '.join(said)}")
+
+
 CALLS = [
     *(a_directory_and_a_file_are_published_listed_and_imported, eleven_thousand_files_come_out_as_they_were),
     *(the_root_an_empty_directory_and_an_empty_file_are_published, a_view_is_published_as_it_is_seen, an_update_takes_what_was_published),
@@ -582,7 +616,7 @@ CALLS = [
     *(refusals_come_in_their_order, a_manifest_that_would_be_too_long_is_refused, what_fits_a_path_is_published),
     *(one_folder_in_the_other_is_usage, words_that_ask_nothing_are_usage, the_help_is_one_line_and_the_version_that_of_the_other_program, each_device_that_fails_is_told),
     *(a_folder_that_cannot_be_written_is_told, a_full_file_system_leaves_the_old_manifest, more_left_overs_than_one_run_removes_take_two),
-    the_reason_is_told_to_a_terminal,
+    *(the_reason_is_told_to_a_terminal, each_refusal_says_what_helps_there),
     a_kill_at_any_moment_leaves_the_old_manifest_or_the_new_one,
 ]
 scenes = named(*map(at_a_site, CALLS))
