@@ -1,0 +1,2 @@
+"""The rows of docs/FROM_SYSTEMD.md on updates, as functions."""
+ROWS = []

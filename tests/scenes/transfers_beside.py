@@ -1,0 +1,5 @@
+"""Random updates."""
+
+
+def compare(systemd, program, seed, rows, folder):
+    return []
