@@ -7,6 +7,11 @@ from scenes.stacks import FITS, MODES, RELEASES, SEARCHED, Image, drawn_image, g
 IS_257 = 254
 
 
+def fresh(stack):
+    """A name that no image has."""
+    return f"k{len(stack.images)}"
+
+
 def add(chance, stack, name, fits=FITS):
     """One more image, which fits."""
     image = drawn_image(chance, stack.kind, name, fits)
@@ -90,12 +95,13 @@ def images_twice(chance, stack):
 
 
 def images_in_files(chance, stack):
-    stack.host[f"{chance.choice(SEARCHED[stack.kind])}/disk.raw"] = file(chance.choice((b"", b"no disk", b"\0" * 1024)))
+    folders = [folder for folder in SEARCHED[stack.kind] if stack.host.get(folder, ("d",))[0] == "d"]
+    stack.host[f"{chance.choice(folders)}/disk.raw"] = file(chance.choice((b"", b"no disk", b"\0" * 1024)))
 
 
 @of_sysext
 def files_at_hierarchies_of_images(chance, stack):
-    image = add(chance, stack, "k")
+    image = add(chance, stack, fresh(stack))
     image.tree = {**without(image.tree, "opt"), "opt": file()}
 
 
@@ -103,28 +109,29 @@ def files_at_hierarchies_of_images(chance, stack):
 def own_os_releases(chance, stack):
     if stack.version < IS_257:
         stack.force = False
-    image = add(chance, stack, "k")
+    image = add(chance, stack, fresh(stack))
     image.tree["usr/lib/os-release"] = file(b"ID=k\n")
 
 
 def names_with_a_dot_first(chance, stack):
-    add(chance, stack, ".k")
+    add(chance, stack, f".{fresh(stack)}")
 
 
 def directories_with_raw(chance, stack):
-    add(chance, stack, "k.raw")
+    add(chance, stack, f"{fresh(stack)}.raw")
 
 
 @of_257
 def endings_of_classes(chance, stack):
-    add(chance, stack, "k").place += f".{stack.kind}"
+    add(chance, stack, fresh(stack)).place += f".{stack.kind}"
 
 
 def picks(chance, stack, versions):
     """An image with versions, each an image of its own."""
-    place = f"{chance.choice(SEARCHED[stack.kind])}/k.v"
+    name = fresh(stack)
+    place = f"{chance.choice(SEARCHED[stack.kind])}/{name}.v"
     for version in versions:
-        add(chance, stack, "k", FITS).place = f"{place}/k_{version}"
+        add(chance, stack, name).place = f"{place}/{name}_{version}"
 
 
 @of_257
@@ -154,31 +161,34 @@ def directories_of_versions(chance, stack):
 
 
 def release_files_of_any_name(chance, stack):
-    image = add(chance, stack, "k")
+    image = add(chance, stack, fresh(stack))
     path = image.release(stack.kind)
     image.tree[path + "-any"] = (*image.tree.pop(path), ("user.extension-release.strict", chance.choice((b"0", b"false", b"no"))))
 
 
 @of_257
 def release_files_without_the_version(chance, stack):
-    image = add(chance, stack, "k_9")
-    image.tree[RELEASES[stack.kind] + "k"] = image.tree.pop(image.release(stack.kind))
+    name = fresh(stack)
+    image = add(chance, stack, f"{name}_9")
+    image.tree[RELEASES[stack.kind] + name] = image.tree.pop(image.release(stack.kind))
 
 
 def signs_in_names(chance, stack):
-    add(chance, stack, f"k{chance.choice(list(',:') + [chr(92), chr(39), chr(34)])}l")
+    add(chance, stack, fresh(stack) + chance.choice((",", ":", "\\", "'", '"')) + "l")
 
 
 @of_sysext
 def release_folders_out_of_reach(chance, stack):
-    image = add(chance, stack, "k")
+    image = add(chance, stack, fresh(stack))
+    if stack.version < IS_257:
+        stack.force = False
     image.tree = {**without(image.tree, "usr/lib"), "usr/lib": chance.choice((file(), WHITEOUT, link("lib")))}
 
 
 def search_directories_that_are_files(chance, stack):
     place = SEARCHED[stack.kind][1]
     stack.images = [image for image in stack.images if not image.place.startswith(place)]
-    stack.host[place] = file()
+    stack.host = {**without(stack.host, place), place: file()}
 
 
 def links_on_the_way_to_images(chance, stack):
@@ -192,7 +202,7 @@ def links_on_the_way_to_images(chance, stack):
 
 
 def scopes_of_no_word(chance, stack):
-    add(chance, stack, "k", b"ID=_any\n%b_SCOPE=%b\n" % (stack.kind.upper().encode(), chance.choice((b"", b'""', b" "))))
+    add(chance, stack, fresh(stack), b"ID=_any\n%b_SCOPE=%b\n" % (stack.kind.upper().encode(), chance.choice((b"", b'""', b" "))))
 
 
 def release_path(stack):
@@ -203,14 +213,14 @@ def like_other_systems(chance, stack):
     path = release_path(stack)
     if path:
         stack.host[path] = file(stack.host[path][2] + chance.choice((b"ID_LIKE=fedora\n", b'ID_LIKE="suse  fedora"\n', b"ID_LIKE=suse\n")))
-    add(chance, stack, "k", b"ID=fedora\nVERSION_ID=12\n")
+    add(chance, stack, fresh(stack), b"ID=fedora\nVERSION_ID=12\n")
 
 
 def hosts_without_an_id(chance, stack):
     path = release_path(stack)
     if path:
         stack.host[path] = file(chance.choice((b"VERSION_ID=12\n", b"ID=\nVERSION_ID=12\n", b"")))
-    add(chance, stack, "k", b"ID=linux\nVERSION_ID=12\n")
+    add(chance, stack, fresh(stack), b"ID=linux\nVERSION_ID=12\n")
 
 
 def hosts_without_a_release(chance, stack):
@@ -221,7 +231,7 @@ def hosts_without_a_release(chance, stack):
 
 def images_without_a_release(chance, stack):
     """By force they are merged there. The directory of release files is there."""
-    image = add(chance, stack, "k")
+    image = add(chance, stack, fresh(stack))
     del image.tree[image.release(stack.kind)]
 
 

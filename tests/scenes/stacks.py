@@ -55,6 +55,7 @@ class Stack:
     force: bool
     host: dict
     images: list
+    odd: list = field(default_factory=list)
     names: dict = field(default_factory=dict)
     paths: dict = field(default_factory=dict)
     contents: dict = field(default_factory=dict)
@@ -146,6 +147,7 @@ def drawn(seed, version, odd):
     stack = Stack(version, kind, chance.random() < 0.15, drawn_host(chance, kind), images)
     for make in chance.sample(odd, min(len(odd), chance.choice((0, 1, 1, 2, 2, 3)))):
         make(chance, stack)
+        stack.odd.append(make.__name__)
     return stack
 
 
@@ -265,7 +267,7 @@ def compare(systemd, program, stack, rows, folder):
     given, used = normalised(stack, rows)
     found = of_hostext(program, given, folder)
     names = [given.names.get(name, name) for name in found[0]]
-    said = f"systemd says {shortened(' '.join(wanted[3][1].split()))}, hostext {found[3][0]!r}"
+    said = f"{stack.kind}{' --force' * stack.force}, with {stack.odd}; systemd says {shortened(' '.join(wanted[3][1].split()))}, hostext {found[3][0]!r}"
     if names != wanted[0]:
         raise Failed(f"merged are {names}, and not {wanted[0]}; {said}")
     for when, one, other in zip(("merged", "unmerged"), found[1:3], wanted[1:3]):

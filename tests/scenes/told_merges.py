@@ -282,7 +282,7 @@ def images_without_a_release(stack):
         path = image.release(stack.kind)
         added = [at for at in with_parents({path: file()}) if at not in image.tree]
         image.tree = with_parents({**image.tree, path: file(b"ID=_any\n")})
-        others = {at for other in stack.images if other is not image for at in other.tree} | set(stack.host)
+        others = {at for other in stack.images if other is not image and is_first(stack, other) for at in other.tree} | set(stack.host)
         stack.paths.update({at: None for at in added if at not in others})
 
 
