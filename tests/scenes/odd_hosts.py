@@ -81,6 +81,8 @@ def masks(chance, stack):
 
 
 def empty_directories(chance, stack):
+    """The same in both: one masks. By force nothing would, and nothing of it would show."""
+    stack.force = False
     image = chance.choice(stack.images)
     image.place = f"{SEARCHED[stack.kind][-1]}/{image.name}"
     stack.images.append(Image(image.name, f"{SEARCHED[stack.kind][0]}/{image.name}", {}))
@@ -186,9 +188,7 @@ def release_folders_out_of_reach(chance, stack):
 
 
 def search_directories_that_are_files(chance, stack):
-    place = SEARCHED[stack.kind][1]
-    stack.images = [image for image in stack.images if not image.place.startswith(place)]
-    stack.host = {**without(stack.host, place), place: file()}
+    stack.host[SEARCHED[stack.kind][1]] = file()
 
 
 def links_on_the_way_to_images(chance, stack):

@@ -14,18 +14,25 @@ def several_protected_versions_on_a_line(chance, case):
 
 
 def more_protected_versions_than_may_stay(chance, case):
+    """Two or three of a target are protected, of which two may stay, and a greater version is offered."""
     transfer = chance.choice(case.transfers)
-    transfer.protect = list(transfer.instances)[: chance.choice((2, 3))]
+    transfer.instances = {version: resource(chance, transfer.kind, version, "target") for version in ("1", "2", "3")}
+    transfer.protect, transfer.most = ["1", "2", "3"][: chance.choice((2, 3))], 2
+    case.host.setdefault(transfer.target, directory())
+    for one in case.transfers:
+        one.offers["77"] = resource(chance, one.kind, "77", "source")
+    case.command = chance.choice(("update", "vacuum"))
 
 
 def downgrades_below_a_version_in_part(chance, case):
     """The first target has a version more than the others, and what is offered is older."""
+    if len(case.transfers) < 2:
+        return
     for transfer in case.transfers:
         transfer.instances = {version: resource(chance, transfer.kind, version, "target") for version in ("4", "9")}
         transfer.offers = {version: resource(chance, transfer.kind, version, "source") for version in chance.choice((("1",), ("2",), ("2.5",), ("10",)))}
         case.host.setdefault(transfer.target, directory())
-    if len(case.transfers) > 1:
-        del case.transfers[-1].instances["9"]
+    del case.transfers[-1].instances["9"]
     case.command = chance.choice(("update", "update", "vacuum"))
 
 

@@ -11,7 +11,7 @@ from dataclasses import dataclass, field
 from pathlib import Path
 
 from scenes.chroots import Machine
-from scenes.real_trees import WHITEOUT, differing, directory, file, is_below, link, opaque, put_below, read, read_text, with_parents, write
+from scenes.real_trees import WHITEOUT, differing, directory, file, is_below, link, opaque, put_below, read, read_text, with_parents, without, write
 from scenes.running import TOP, Failed, run, shortened
 from scenes.stores import Place
 from scenes.updates import compared
@@ -148,6 +148,10 @@ def drawn(seed, version, odd):
     for make in chance.sample(odd, min(len(odd), chance.choice((0, 1, 1, 2, 2, 3)))):
         make(chance, stack)
         stack.odd.append(make.__name__)
+    for folder in SEARCHED[kind]:
+        if stack.host.get(folder, ("d",))[0] == "f":
+            stack.host = {**without(stack.host, folder), folder: stack.host[folder]}
+            stack.images = [image for image in stack.images if not is_below(image.place, folder)]
     return stack
 
 

@@ -103,11 +103,11 @@ def features_that_are_off(case):
 
 
 def offers_below_the_least_version(case):
-    """What is offered below `MinVersion=` is listed there."""
+    """What is offered below `MinVersion=` is listed there, and told to be available."""
     on = active(case)
     for version in set.intersection(*(set(transfer.offers) for transfer in on)) if on else ():
-        if version not in offered(case) and version not in present(case)[0]:
-            case.unlisted.add(version)
+        if version not in offered(case):
+            case.unoffered.add(version)
 
 
 def absent_modes(case):
@@ -156,6 +156,9 @@ def what_stands_at_new_names(case):
 def files_on_the_way(case):
     """Where a file stands on the way to a target the command fails."""
     if any(case.host.get(transfer.target, ("d",))[0] == "f" for transfer in case.transfers):
+        for transfer in case.transfers:
+            for version, entry in transfer.instances.items():
+                case.host.update(placed(f"{transfer.target}/{transfer.named(version)}", entry))
         case.transfers.clear()
 
 

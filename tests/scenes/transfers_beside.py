@@ -63,7 +63,7 @@ class Transfer:
 @dataclass
 class Updating:
     """A host with transfers, and what it is asked; which files are others than their manifests list. What rows take off is kept too:
-    whether it is asked for news, paths that stand for others, versions that aren't listed, tops of directories that keep their modes,
+    whether it is asked for news, paths that stand for others, versions that aren't listed, or not as available, tops of directories that keep their modes,
     and links of which counts where they lead; and what systemd answered."""
 
     transfers: list
@@ -74,6 +74,7 @@ class Updating:
     asks_for_news: bool = True
     paths: dict = field(default_factory=dict)
     unlisted: set = field(default_factory=set)
+    unoffered: set = field(default_factory=set)
     keeps_tops: bool = False
     answer: tuple = ()
     leads: set = field(default_factory=set)
@@ -198,6 +199,14 @@ def listed_by_systemd(written):
     return found
 
 
+def listed(rows, case):
+    """What systemd lists, but for what rows take off."""
+    if rows is None:
+        return None
+    rows = [(version, flags - {"available"} if version in case.unoffered else flags) for version, flags in rows]
+    return [(version, flags) for version, flags in rows if version not in case.unlisted and flags & {"available", "installed", "partial"}]
+
+
 def same_lists(one, other):
     return [version for version, _ in one] == [version for version, _ in other] and all(
         found == flags if "any" not in flags else found - {"protected"} == flags - {"any", "protected"} for (_, found), (_, flags) in zip(one, other)
@@ -299,7 +308,7 @@ def compare(systemd, program, case, rows, folder):
     given, used = normalised(case, rows)
     found = of_hostext(program, given, folder)
     told = f"with {case.odd}; systemd says {shortened(' '.join(said[1].split())[-300:])}, hostext {found[4]!r} to {given.command!r}"
-    wanted_lists = [one and [row for row in one if row[0] not in given.unlisted] for one in lists]
+    wanted_lists = [listed(one, given) for one in lists]
     if found[2] != answer:
         raise Failed(f"it came to {found[2]}, and not {answer}; {told}; {wanted_lists[0]} {found[0][0]}")
     for when, one, other in zip(("before", "after"), found[0], wanted_lists):
