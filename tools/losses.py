@@ -67,10 +67,14 @@ class Losses:
         is_own = self.own_user != 0 and user == self.own_user and group in self.own_groups
         return is_own or (user, group) == (0, 0)
 
+    def wider(self):
+        """What others may do there that they can't in the folder."""
+        return ": others can read and enter it" if 0o055 & ~self.top_mode else ""
+
     def lines(self):
         told = [f"lost: {kind}: {found}" for kind, found in self.found.items() if found.count]
         if self.top_mode != USUAL_MODE:
-            told.append(f"lost: the mode {self.top_mode:o} of {shown(self.folder)} itself")
+            told.append(f"lost: the mode {self.top_mode:o} of {shown(self.folder)} itself, which is 755 where a command puts it{self.wider()}")
         return told
 
 

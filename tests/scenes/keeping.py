@@ -106,7 +106,7 @@ def losing(folder):
         f"lost: other extended attributes: 2 ({folder}/usr/own3, {folder}/usr/ü)",
         f"lost: hard links, which become files of their own: 2 ({folder}/z1, {folder}/z2)",
         f"lost: holes, which are filled: 1 ({folder}/usr/own1)",
-        f"lost: the mode 2750 of {folder} itself",
+        f"lost: the mode 2750 of {folder} itself, which is 755 where a command puts it: others can read and enter it",
     )
 
 

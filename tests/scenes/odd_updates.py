@@ -127,6 +127,7 @@ def versions_with_commas(chance, case):
 
 
 def equal_versions(chance, case):
+    case.transfers = case.transfers[:1]
     for transfer in case.transfers:
         for version in "77.0", "77.00":
             transfer.offers[version] = resource(chance, transfer.kind, version, "source")

@@ -51,8 +51,8 @@ def release_of(host):
 def with_release(stack, image, text):
     """Gives an image another release file, whose bytes stand for those that it has."""
     path = image.release(stack.kind)
-    old = image.tree[path]
-    if text != old[2]:
+    old = image.tree.get(path)
+    if old and text != old[2]:
         image.tree[path] = file(stands_for(stack, old[2], text), old[1])
 
 

@@ -191,13 +191,14 @@ def versions_with_commas(case):
 
 
 def equal_versions(case):
-    """Of several versions that are equal but for their bytes one alone is told and installed."""
-    on = active(case)
-    versions = sorted(set().union(*(transfer.offers for transfer in on)), key=ORDER) if on else []
-    for one, other in zip(versions, versions[1:]):
-        if compared(one, other) == 0:
-            for transfer in on:
-                transfer.offers.pop(other if coming(case) != other else one, None)
+    """Of several versions that are equal but for their bytes one alone is told, and one is installed, not always the same."""
+    for transfer in active(case):
+        versions = sorted(transfer.offers, key=ORDER)
+        for one, other in zip(versions, versions[1:]):
+            if compared(one, other) == 0:
+                case.same[other] = one
+                came = f"{transfer.target}/{transfer.named(other)}"
+                transfer.offers.pop(one if any(path == came or path.startswith(f"{came}/") for path in case.left) else other)
 
 
 def manifests_that_are_refused(case):
@@ -212,6 +213,7 @@ def resources_that_are_others(case):
     """Where a file has another digest than its manifest lists, what makes room for it is gone all the same."""
     version = case.wrong
     if version and case.answer[0] == "failed":
+        case.lists_before = False
         for transfer in active(case):
             if version not in transfer.instances:
                 make_room(transfer, version)

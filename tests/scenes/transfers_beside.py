@@ -63,8 +63,8 @@ class Transfer:
 @dataclass
 class Updating:
     """A host with transfers, and what it is asked; which files are others than their manifests list. What rows take off is kept too:
-    whether it is asked for news, paths that stand for others, versions that aren't listed, or not as available, tops of directories that keep their modes,
-    and links of which counts where they lead; and what systemd answered."""
+    whether it is asked for news and counts what it lists before, paths that stand for others, versions that aren't listed, or not as available, tops of directories that keep their modes,
+    links of which counts where they lead, and versions that are one; and what systemd answered, and left below /var."""
 
     transfers: list
     features: dict
@@ -72,12 +72,15 @@ class Updating:
     command: str
     manifests: dict = field(default_factory=dict)
     asks_for_news: bool = True
+    lists_before: bool = True
     paths: dict = field(default_factory=dict)
     unlisted: set = field(default_factory=set)
     unoffered: set = field(default_factory=set)
     keeps_tops: bool = False
     answer: tuple = ()
+    left: tuple = ()
     leads: set = field(default_factory=set)
+    same: dict = field(default_factory=dict)
     wrong: str = None
     wrongs: dict = field(default_factory=dict)
     odd: list = field(default_factory=list)
@@ -200,9 +203,10 @@ def listed_by_systemd(written):
 
 
 def listed(rows, case):
-    """What systemd lists, but for what rows take off."""
+    """What is listed, but for what rows take off."""
     if rows is None:
         return None
+    rows = [(case.same.get(version, version), flags) for version, flags in rows]
     rows = [(version, flags - {"available"} if version in case.unoffered else flags) for version, flags in rows]
     return [(version, flags) for version, flags in rows if version not in case.unlisted and flags & {"available", "installed", "partial"}]
 
@@ -304,17 +308,20 @@ def leading(path, entry):
 def compare(systemd, program, case, rows, folder):
     """Asks both, and fails where something differs that no row tells. Gives the rows that were used."""
     lists, news, answer, var, said = of_systemd(systemd, case, folder)
-    case.answer = answer
+    case.answer, case.left = answer, tuple(var)
     given, used = normalised(case, rows)
     found = of_hostext(program, given, folder)
     told = f"with {case.odd}; systemd says {shortened(' '.join(said[1].split())[-300:])}, hostext {found[4]!r} to {given.command!r}"
-    wanted_lists = [listed(one, given) for one in lists]
-    if found[2] != answer:
+    wanted_lists, found_lists = ([listed(one, given) for one in both] for both in (lists, found[0]))
+    same = lambda words: words and tuple(given.same.get(word, word) for word in words)
+    if same(found[2]) != same(answer):
         raise Failed(f"it came to {found[2]}, and not {answer}; {told}; {wanted_lists[0]} {found[0][0]}")
-    for when, one, other in zip(("before", "after"), found[0], wanted_lists):
+    for when, one, other in zip(("before", "after"), found_lists, wanted_lists):
+        if when == "before" and not given.lists_before:
+            continue
         if (one is None) != (other is None) or one is not None and not same_lists(one, other):
             raise Failed(f"{when} it lists {one}, and not {other}; {told}")
-    if given.asks_for_news and found[1] != news:
+    if given.asks_for_news and same([found[1]]) != same([news]):
         raise Failed(f"news are {found[1]}, and not {news}; {told}")
     if why := differing(taken_back(given, found[3], var), var):
         raise Failed(f"{why}; {told}")
