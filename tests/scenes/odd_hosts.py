@@ -26,7 +26,7 @@ def of_sysext(make):
         if stack.kind == "sysext":
             make(chance, stack)
 
-    made.__name__ = make.__name__
+    made.__name__, made.__doc__ = make.__name__, make.__doc__
     return made
 
 
@@ -37,7 +37,7 @@ def of_257(make):
         if stack.version >= IS_257:
             make(chance, stack)
 
-    made.__name__ = make.__name__
+    made.__name__, made.__doc__ = make.__name__, make.__doc__
     return made
 
 
@@ -89,6 +89,7 @@ def empty_directories(chance, stack):
 
 
 def images_twice(chance, stack):
+    """The same in both: the first search directory counts."""
     image = chance.choice(stack.images)
     first, last = chance.sample(SEARCHED[stack.kind], 2)
     image.place = f"{first}/{image.name}"
@@ -138,6 +139,7 @@ def picks(chance, stack, versions):
 
 @of_257
 def versions_to_pick(chance, stack):
+    """The same in both."""
     picks(chance, stack, chance.sample(("9", "10", "9.1", "9_x86-64", "11_arm64", "8_s390x", "9-2"), 3))
 
 
