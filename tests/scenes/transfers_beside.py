@@ -7,7 +7,7 @@ import random
 from dataclasses import dataclass, field
 
 from scenes.chroots import Machine
-from scenes.real_trees import at_and_below, differing, directory, file, link, read, read_text, with_parents, write
+from scenes.real_trees import at_and_below, differing, directory, file, link, read, read_text, with_parents, without, write
 from scenes.running import Failed, run, shortened
 from scenes.stacks import contents_of, normalised, packed, parted
 from scenes.stores import Place
@@ -162,6 +162,11 @@ def drawn(seed, odd):
     for make in chance.sample(odd, min(len(odd), chance.choice((0, 1, 1, 2, 3)))):
         make(chance, case)
         case.odd.append(make.__name__)
+    for transfer in case.transfers:
+        entry = case.host.get(transfer.target, directory())
+        if entry[0] != "d":
+            transfer.instances, transfer.tails = {}, {}
+            case.host = {**without(case.host, transfer.target), transfer.target: entry}
     return case
 
 
