@@ -2,7 +2,7 @@
 told_releases.py takes off has the name of that row; the others are the same in both."""
 from scenes import odd_releases
 from scenes.real_trees import WHITEOUT, at_and_below, directory, file, link, opaque, without
-from scenes.stacks import FITS, MODES, RELEASES, SEARCHED, Image, drawn_image, grown
+from scenes.stacks import FITS, MODES, RELEASES, SEARCHED, THERE, Image, drawn_image, grown
 
 IS_257 = 254
 
@@ -195,12 +195,7 @@ def search_directories_that_are_files(chance, stack):
 
 def links_on_the_way_to_images(chance, stack):
     """The same in both: links are followed."""
-    place = SEARCHED[stack.kind][0]
-    for image in stack.images:
-        image.place = image.place.replace(place, "srv/there")
-    if any(path.startswith(f"{place}/") for path in stack.host) or place in stack.host:
-        return
-    stack.host.update({place: link(chance.choice(("/srv/there", "../srv/there"))), "srv/there": directory()})
+    stack.host.update({SEARCHED[stack.kind][0]: link(chance.choice((f"/{THERE}", f"../{THERE}"))), THERE: directory()})
 
 
 def scopes_of_no_word(chance, stack):

@@ -11,7 +11,7 @@ from dataclasses import dataclass, field
 from pathlib import Path
 
 from scenes.chroots import Machine
-from scenes.real_trees import WHITEOUT, differing, directory, file, is_below, link, opaque, put_below, read, read_text, with_parents, without, write
+from scenes.real_trees import WHITEOUT, below, differing, directory, file, is_below, link, opaque, put_below, read, read_text, with_parents, without, write
 from scenes.running import TOP, Failed, run, shortened
 from scenes.stores import Place
 from scenes.updates import compared
@@ -23,6 +23,8 @@ SEARCHED = {
     "sysext": ("etc/extensions", "run/extensions", "var/lib/extensions"),
     "confext": ("run/confexts", "var/lib/confexts", "usr/local/lib/confexts", "usr/lib/confexts"),
 }
+# Where one of them leads that is a link.
+THERE = "srv/there"
 HIERARCHIES = {"sysext": ("opt", "usr"), "confext": ("etc",)}
 RELEASES = {"sysext": "usr/lib/extension-release.d/extension-release.", "confext": "etc/extension-release.d/extension-release."}
 FITS, DEBIAN = b"ID=_any\n", b"ID=debian\nVERSION_ID=12\n"
@@ -149,10 +151,24 @@ def drawn(seed, version, odd):
         make(chance, stack)
         stack.odd.append(make.__name__)
     for folder in SEARCHED[kind]:
-        if stack.host.get(folder, ("d",))[0] == "f":
-            stack.host = {**without(stack.host, folder), folder: stack.host[folder]}
-            stack.images = [image for image in stack.images if not is_below(image.place, folder)]
+        made_way(stack, folder)
     return stack
+
+
+def made_way(stack, folder):
+    """Nothing stands below a search directory that is a file; below one that is a link it stands where that leads."""
+    entry = stack.host.get(folder, directory())
+    if entry[0] == "d":
+        return
+    inside = below(stack.host, folder)
+    stack.host = {**without(stack.host, folder), folder: entry}
+    if entry[0] == "f":
+        stack.images = [image for image in stack.images if not is_below(image.place, folder)]
+        return
+    stack.host.update({f"{THERE}/{path}": one for path, one in inside.items()})
+    for image in stack.images:
+        if is_below(image.place, folder):
+            image.place = image.place.replace(folder, THERE)
 
 
 def merged_names(tree, kind):

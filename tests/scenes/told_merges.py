@@ -4,7 +4,7 @@ import re
 
 from scenes.real_trees import below, directory, file, with_parents, without
 from scenes.releases import read_release, verdict
-from scenes.stacks import RELEASES, SEARCHED
+from scenes.stacks import RELEASES, SEARCHED, THERE
 from scenes.told_releases import stands_for
 from scenes.tree_texts import Faulty
 
@@ -22,15 +22,9 @@ def nothing_is_merged(stack):
     stack.images.clear()
 
 
-def searched(stack, name):
-    """Paths of a name in the search directories."""
-    return [f"{folder}/{name}" for folder in SEARCHED[stack.kind]]
-
-
 def is_first(stack, image):
     """Whether no other image of its name comes before it."""
-    order = [folder for folder in SEARCHED[stack.kind]]
-    rank = lambda one: next((at for at, folder in enumerate(order) if one.place.startswith(f"{folder}/")), -1)
+    rank = lambda one: next((at for at, folder in enumerate(SEARCHED[stack.kind]) if one.place.startswith(f"{folder}/")), -1)
     return all(other is image or other.name != image.name or rank(image) < rank(other) for other in stack.images)
 
 
@@ -108,14 +102,14 @@ def masks(stack):
     """A link to /dev/null and an empty file of an image's name mask nothing."""
     for path, entry in list(stack.host.items()):
         is_mask = entry[:2] == ("l", "/dev/null") or (entry[0] == "f" and not entry[2] and not path.endswith(".raw"))
-        if is_mask and any(path.startswith(f"{folder}/") for folder in SEARCHED[stack.kind]):
+        if is_mask and path.rpartition("/")[0] in (*SEARCHED[stack.kind], THERE):
             del stack.host[path]
 
 
 def images_in_files(stack):
     """An image in a file that can't be read makes the whole merge fail."""
     for path in list(stack.host):
-        if path.endswith(".raw") and path.rpartition("/")[0] in SEARCHED[stack.kind]:
+        if path.endswith(".raw") and path.rpartition("/")[0] in (*SEARCHED[stack.kind], THERE):
             del stack.host[path]
             nothing_is_merged(stack)
 
