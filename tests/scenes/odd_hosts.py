@@ -19,6 +19,11 @@ def add(chance, stack, name, fits=FITS):
     return image
 
 
+def plain(chance, stack):
+    """An image whose entry has its name alone, and no versions."""
+    return chance.choice([image for image in stack.images if "." not in image.place.rpartition("/")[0]] or stack.images)
+
+
 def of_sysext(make):
     """What is done to system extensions alone."""
 
@@ -75,7 +80,7 @@ def links_at_hierarchies_of_images(chance, stack):
 
 def masks(chance, stack):
     """In a search directory before that of the image, or in another one."""
-    image = chance.choice(stack.images)
+    image = plain(chance, stack)
     stack.host[f"{SEARCHED[stack.kind][0]}/{image.name}"] = chance.choice((link("/dev/null"), file()))
     image.place = f"{SEARCHED[stack.kind][-1]}/{image.name}"
 
@@ -83,14 +88,14 @@ def masks(chance, stack):
 def empty_directories(chance, stack):
     """The same in both: one masks. By force nothing would, and nothing of it would show."""
     stack.force = False
-    image = chance.choice(stack.images)
+    image = plain(chance, stack)
     image.place = f"{SEARCHED[stack.kind][-1]}/{image.name}"
     stack.images.append(Image(image.name, f"{SEARCHED[stack.kind][0]}/{image.name}", {}))
 
 
 def images_twice(chance, stack):
     """The same in both: the first search directory counts."""
-    image = chance.choice(stack.images)
+    image = plain(chance, stack)
     first, last = chance.sample(SEARCHED[stack.kind], 2)
     image.place = f"{first}/{image.name}"
     other = add(chance, stack, image.name)

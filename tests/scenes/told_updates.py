@@ -76,11 +76,13 @@ def more_protected_versions_than_may_stay(case):
 
 
 def downgrades_below_a_version_in_part(case):
-    """Where the greatest installed version is there in part, a lower one that is offered comes. Here it has to be named."""
+    """Where the greatest installed version is there in part, a lower one that is offered is news. Here it has to be named."""
     some, whole = present(case)
-    if case.command == "update" and coming(case) and greatest(some) not in whole and coming(case) not in some and whole and is_greater(greatest(whole), coming(case)):
-        case.command = f"update {coming(case)}"
+    news = greatest(offered(case))
+    if whole and news and greatest(some) not in whole and news not in some and is_greater(greatest(whole), news):
         case.asks_for_news = False
+        if case.command == "update":
+            case.command = f"update {news}"
 
 
 def versions_in_part_below_others(case):
@@ -94,11 +96,11 @@ def versions_in_part_below_others(case):
 
 
 def features_that_are_off(case):
-    """What a transfer has installed goes with the next update or vacuum once its feature is off."""
+    """What a transfer has installed goes with the next update or vacuum once its feature is off, but for protected versions."""
     if case.answer[0] in ("installed", "vacuumed"):
         for transfer in case.transfers:
             if not case.is_on(transfer):
-                transfer.instances = {}
+                transfer.instances = {version: entry for version, entry in transfer.instances.items() if version in transfer.protect}
                 case.host = {**case.host, transfer.target: case.host.get(transfer.target, ("d", 0o755))}
 
 
