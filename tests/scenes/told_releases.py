@@ -5,7 +5,7 @@ import re
 
 from scenes.real_trees import file
 from scenes.releases import value_of
-from scenes.unit_files import is_text, lines_of
+from scenes.unit_files import lines_of
 
 IS_254 = 254
 BLANKS, ENDS = b" \t\n\r", b"\n\r"
@@ -154,6 +154,14 @@ def is_read(text, version):
     return True
 
 
+def is_utf8(text):
+    try:
+        text.decode()
+    except UnicodeDecodeError:
+        return False
+    return True
+
+
 def lines(text):
     return [line for _, line in lines_of(text)]
 
@@ -176,7 +184,7 @@ def control_bytes(stack):
 
 def bytes_that_are_no_text(stack):
     """In a comment, or in a line without `=`, bytes that are no UTF-8 count for nothing; elsewhere they make the file one without values."""
-    take_off(stack, lambda text: not all(map(is_text, lines(text))))
+    take_off(stack, lambda text: not is_utf8(text))
 
 
 def lines_that_go_on(stack):
