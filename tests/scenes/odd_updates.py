@@ -69,6 +69,7 @@ def absent_modes(chance, case):
 def modes_of_directories(chance, case):
     for transfer in case.transfers:
         if transfer.is_directory:
+            transfer.mode = chance.choice((None, "700", "0750"))
             for entries in transfer.offers.values():
                 entries[""] = directory(chance.choice((0o700, 0o711, 0o1777)))
 

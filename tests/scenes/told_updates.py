@@ -120,8 +120,9 @@ def absent_modes(case):
 
 
 def modes_of_directories(case):
-    """The directory of a resource keeps its own mode."""
-    if any(transfer.is_directory and entries[""][1] != 0o755 for transfer in active(case) for entries in transfer.offers.values()):
+    """The directory of a resource keeps its own mode, or has that of `Mode=`."""
+    directories = [transfer for transfer in active(case) if transfer.is_directory]
+    if any(transfer.mode or entries[""][1] != 0o755 for transfer in directories for entries in transfer.offers.values()):
         case.keeps_tops = True
 
 
