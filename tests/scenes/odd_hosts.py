@@ -49,7 +49,7 @@ def of_257(make):
 def marks_at_hierarchies(chance, stack):
     image = chance.choice(stack.images)
     for top in stack.hierarchies:
-        if top in image.tree:
+        if image.tree.get(top, ("",))[0] == "d":
             image.tree[top] = opaque(image.tree[top][1])
 
 

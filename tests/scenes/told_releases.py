@@ -111,7 +111,7 @@ def read(text, version):
 
 
 def plainly(text, version):
-    """The same values on a line each. What stands for a byte that no line has is another one; blanks stay blanks."""
+    """The same values on a line each. For a byte that no line has stands another one; between words of a scope that is a blank."""
     try:
         values = read(text, version)
     except Unread:
@@ -119,7 +119,8 @@ def plainly(text, version):
     lines = []
     for key, value in values.items():
         if KEYS.fullmatch(key):
-            value = re.sub(rb"[\x00-\x1f\x7f]", b"?", re.sub(rb"[\t\n\r]", b" ", value))
+            parts = rb"[\t\n\r]" if key.endswith(b"_SCOPE") else rb"(?!)"
+            value = re.sub(rb"[\x00-\x1f\x7f]", b"?", re.sub(parts, b" ", value))
             lines.append(b'%b="%b"\n' % (key, re.sub(rb'(["\\`$])', rb"\\\1", value)))
     return b"".join(lines)
 

@@ -2,7 +2,7 @@
 so that both have to come to the same."""
 import re
 
-from scenes.real_trees import file, with_parents, without
+from scenes.real_trees import directory, with_parents, without
 from scenes.transfers_beside import placed
 from scenes.updates import ORDER, compared
 
@@ -213,10 +213,11 @@ def manifests_that_are_refused(case):
 
 
 def resources_that_are_others(case):
-    """Where a file has another digest than its manifest lists, what makes room for it is gone all the same."""
+    """Where a file has another digest than its manifest lists, what makes room for it is gone all the same, and targets were made."""
     version = case.wrong
     if version and case.answer[0] == "failed":
         case.lists_before = False
+        case.host.update({transfer.target: directory() for transfer in active(case) if transfer.target in case.left and transfer.target not in case.host})
         for transfer in active(case):
             if version not in transfer.instances:
                 make_room(transfer, version)
