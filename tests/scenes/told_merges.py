@@ -7,6 +7,7 @@ from scenes.releases import read_release, verdict
 from scenes.stacks import RELEASES, SEARCHED, THERE
 from scenes.told_releases import stands_for
 from scenes.tree_texts import Faulty
+from scenes.updates import ORDER
 
 DIRECTORIES = "d", "o"
 IS_257 = 254
@@ -22,10 +23,17 @@ def nothing_is_merged(stack):
     stack.images.clear()
 
 
+def is_of_another_machine(image):
+    return re.search(r"\.v/.*_(arm64|s390x)$", image.place)
+
+
 def is_first(stack, image):
-    """Whether no other image of its name comes before it."""
-    rank = lambda one: next((at for at, folder in enumerate(SEARCHED[stack.kind]) if one.place.startswith(f"{folder}/")), -1)
-    return all(other is image or other.name != image.name or rank(image) < rank(other) for other in stack.images)
+    """Whether no other image of its name comes before it. Of versions in one directory the greatest for this machine does."""
+    folders = SEARCHED[stack.kind]
+    rank = lambda one: next((at for at, folder in enumerate(folders) if one.place.startswith(f"{folder}/")), -1)
+    comes_before = lambda one: (rank(one), ORDER(image.place)) < (rank(image), ORDER(one.place))
+    others = [one for one in stack.images if one is not image and one.name == image.name and not is_of_another_machine(one)]
+    return not is_of_another_machine(image) and not any(map(comes_before, others))
 
 
 def fits(stack, image):

@@ -91,13 +91,13 @@ def versions_in_part_below_others(case):
     top, news = greatest(some), greatest(offered(case))
     if top and news and top not in whole and news != top and news in some and news not in whole:
         case.asks_for_news = False
-        if case.command == "update":
+        if case.command == "update" and case.answer[0] == "unchanged":
             case.command = ""
 
 
 def features_that_are_off(case):
     """What a transfer has installed goes with the next update or vacuum once its feature is off, but for protected versions."""
-    if case.answer[0] in ("installed", "vacuumed"):
+    if case.answer[0] in ("installed", "vacuumed") or is_another(case):
         for transfer in case.transfers:
             if not case.is_on(transfer):
                 transfer.instances = {version: entry for version, entry in transfer.instances.items() if version in transfer.protect}
@@ -215,12 +215,17 @@ def manifests_that_are_refused(case):
 def resources_that_are_others(case):
     """Where a file has another digest than its manifest lists, what makes room for it is gone all the same, and targets were made."""
     version = case.wrong
-    if version and case.answer[0] == "failed":
+    if is_another(case):
         case.lists_before = False
         case.host.update({transfer.target: directory() for transfer in active(case) if transfer.target in case.left and transfer.target not in case.host})
         for transfer in active(case):
             if version not in transfer.instances:
                 make_room(transfer, version)
+
+
+def is_another(case):
+    """Whether the update came to a file that is another one than listed, and failed there."""
+    return case.wrong in offered(case) and case.answer[0] == "failed"
 
 
 def make_room(transfer, version):
