@@ -171,7 +171,8 @@ def names_that_go_on(case):
         for version in list(transfer.tails):
             tail = transfer.tails.pop(version)
             old = f"{transfer.target}/{transfer.named(version)}"
-            case.paths.update({path: old + tail + path[len(old) :] for path in placed(old, transfer.instances[version])})
+            if version in transfer.instances:
+                case.paths.update({path: old + tail + path[len(old) :] for path in placed(old, transfer.instances[version])})
 
 
 def marks_in_names(case):
