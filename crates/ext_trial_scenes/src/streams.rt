@@ -81,25 +81,51 @@ pub fn run_over<D: Disk, P: Depot>(
     streams: &Streams,
     devices: &mut MemoryStreams<D, P>,
 ) -> Result<Outcome, Trouble> {
+    give_streams(alloc, streams, devices)?;
+    let status = run(alloc, words, devices);
+    outcome_of(alloc, &status, devices.sink.written(), &devices.observer)
+}
+
+// Gives a run its streams, and an observer that was told of nothing.
+fn give_streams<D: Disk, P: Depot>(
+    alloc: Global,
+    streams: &Streams,
+    devices: &mut MemoryStreams<D, P>,
+) -> Result<(), Trouble> {
     devices.source = streams.source(alloc)?;
     devices.sink = streams.sink(alloc)?;
     devices.observer = MemoryObserver::new(alloc);
-    let status = run(alloc, words, devices);
-    let mut status = status_text(alloc, &status)?;
-    let reply = Text::from_bytes(alloc, devices.sink.written())?;
-    let Some(told) = devices.observer.lines() else {
-        return Err(Trouble::OutOfMemory);
-    };
-    if !is_told(reply.bytes(), told.as_slice()) {
+    Ok(())
+}
+
+// How a run ended that wrote this.
+fn outcome_of(
+    alloc: Global,
+    status: &Status,
+    written: &[u8],
+    observer: &MemoryObserver,
+) -> Result<Outcome, Trouble> {
+    let mut status = status_text(alloc, status)?;
+    if !is_told(written, observer) {
         append_str(&mut status, " untold")?;
     }
+    let reply = Text::from_bytes(alloc, written)?;
     Ok(Outcome { status, reply })
 }
 
+// Whether an observer was told of the refusals whose lines were written, in their order, and of nothing else; so too where it found
+// no memory to keep one.
+fn is_told(written: &[u8], observer: &MemoryObserver) -> bool {
+    match observer.lines() {
+        Some(told) => are_lines(written, told.as_slice()),
+        None => true,
+    }
+}
+
 // Whether the lines of refusals in a reply are these, in their order.
-fn is_told(reply: &[u8], told: &[Text]) -> bool {
+fn are_lines(written: &[u8], told: &[Text]) -> bool {
     let mut count = 0;
-    for line in reply.split_inclusive(|byte| *byte == b'\n') {
+    for line in written.split_inclusive(|byte| *byte == b'\n') {
         if line.starts_with(b"refused ") && line.ends_with(b"\n") {
             match told.get(count) {
                 Some(text) if text.bytes() == line => count += 1,
