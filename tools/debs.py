@@ -1,114 +1,98 @@
-"""Debian packages, read as deb(5) has them: an archive of ar(5) with two tars, one of control files and one of what is installed.
+"""Debian packages, as deb(5) has them: archives of ar(5) whose member control.tar has the control files, and data.tar what is installed.
 
 They are read here and not by dpkg-deb: so each name is looked at before anything of its entry is written, it goes alike on machines
-without dpkg, and no second copy is made. Python reads gzip and xz; zstd is read by the program of its name.
+without dpkg, and no second copy is made.
 """
-import gzip
-import io
-import lzma
 import os
 import re
-import shutil
-import subprocess
-import tarfile
-import zlib
-from contextlib import contextmanager
+from contextlib import ExitStack, contextmanager
 
-import ending
-from entries import PIECE, Refused, open_file, shown, write_all
+from entries import PIECE, Refused, open_file, shown
+from streams import Part, Stream, Within, plain
+from tar_members import Members, bytes_of
 
 MAGIC = b"!<arch>\n"
-MEMBER = re.compile(rb"(.{16})[0-9 ]{12}[0-9 ]{6}[0-9 ]{6}[0-7 ]{8}([0-9]{1,10}) *`\n", re.S)
-MEMBER_BYTES = 60
+HEADER = re.compile(rb"(.{16})[0-9 ]{12}[0-9 ]{6}[0-9 ]{6}[0-7 ]{8}([0-9]{1,10}) *`\n", re.S)
+HEADER_BYTES = 60
 FIELD = re.compile(rb"(Package|Version|Architecture): *([!-~]+)\s*")
-BLOCK = 512
-PACKED = "packed"
-# What a header or a control file has at most, and what may follow the end of a tar.
+# What a control file has at most.
 MOST_BYTES = PIECE
-DAMAGED = tarfile.TarError, EOFError, ValueError, gzip.BadGzipFile, zlib.error, lzma.LZMAError
 SCRIPTS = b"preinst", b"postinst", b"prerm", b"postrm", b"config"
 
 
-def bytes_of(name):
-    return name.encode("utf-8", "surrogateescape")
+def members_of(stream):
+    """The name and the size of each member, whose bytes are read or passed over before the next one is asked for."""
+    if stream.read(len(MAGIC)) != MAGIC:
+        raise Refused(f"{stream.what}: no package of Debian")
+    is_first = True
+    while header := stream.read(HEADER_BYTES):
+        found = HEADER.fullmatch(header)
+        if not found:
+            raise Refused(f"{stream.what}: a faulty header of a package's member")
+        name, size = found[1].rstrip(b" ").rstrip(b"/"), int(found[2])
+        end = stream.tell() + size + size % 2
+        if is_first and (name != b"debian-binary" or stream.peek(2) != b"2."):
+            raise Refused(f"{stream.what}: no package of Debian")
+        is_first = False
+        yield name, size
+        stream.skip(end - stream.tell())
 
 
-def members_in(tar):
-    """The members of a tar, of which tarfile would keep a list."""
-    while member := tar.next():
-        yield member
-        tar.members = []
+def is_tar(name, begin):
+    """Whether a member is one of the two tars, with or without the ending of a compression."""
+    return name == begin or name.startswith(begin + b".")
 
 
-class Slice(io.RawIOBase):
-    """Bytes of a file from one place to another."""
-
-    def __init__(self, handle, begin, size):
-        self.handle, self.at, self.end = handle, begin, begin + size
-
-    def readable(self):
-        return True
-
-    def readinto(self, buffer):
-        piece = os.pread(self.handle, min(len(buffer), self.end - self.at), self.at)
-        buffer[: len(piece)] = piece
-        self.at += len(piece)
-        return len(piece)
+def data_of(stream, stack):
+    """The tar of what is installed, as the bytes of a package come."""
+    for name, size in members_of(stream):
+        if is_tar(name, b"data.tar"):
+            return plain(Stream(Within(stream, size), stream.what), stack)
+    raise Refused(f"{stream.what}: a package without files")
 
 
-class Forward:
-    """The bytes of a tar, of which tarfile reads no more at once than a header may have. It goes forward alone."""
-
-    def __init__(self, source):
-        self.source, self.at, self.last = source, 0, b""
-
-    def read(self, size):
-        if size > MOST_BYTES:
-            raise Refused(f"a header of more than {MOST_BYTES:,} bytes")
-        pieces = []
-        while size and (piece := self.source.read(size)):
-            pieces.append(piece)
-            size -= len(piece)
-        self.last = b"".join(pieces)
-        self.at += len(self.last)
-        return self.last
-
-    def tell(self):
-        return self.at
-
-    def seek(self, to):
-        while self.at < to and self.read(min(to - self.at, MOST_BYTES)):
-            pass
-
-    def check_end(self):
-        """Refuses a tar that stops early, or at a header that is none, which tarfile takes for its end."""
-        if self.last != bytes(BLOCK):
-            raise Refused("a tar of it stops early")
-        self.seek(self.at + MOST_BYTES)
-        if self.read(1):
-            raise Refused(f"more than {MOST_BYTES:,} bytes follow the end of a tar")
+class Damaged(Exception):
+    """What is wrong with a package as a whole, and not with the member that is read."""
 
 
 class Package:
-    """A package: its control fields, its scripts, its triggers, and the tar of what is installed."""
+    """A package in a file: its control fields, its scripts, its triggers, and the members of what is installed."""
 
-    def __init__(self, path, room):
-        self.path, self.room = path, room
-        self.handle, _ = open_file(path)
-        self.parts = {name: (begin, size) for name, begin, size in members_of(self.handle)}
+    def __init__(self, path, stack):
+        self.path, self.stack = path, stack
+        self.handle, status = open_file(path)
+        stack.callback(os.close, self.handle)
+        self.parts = self.parts_of(status.st_size)
         self.fields, self.scripts, self.triggers = {}, {}, []
-        with self.tar("control") as tar:
-            for member in members_in(tar):
-                if member.isreg() and member.size <= MOST_BYTES:
-                    self.take(os.path.basename(bytes_of(member.name)), tar.extractfile(member).read())
+        for member, pieces in self.members(b"control.tar"):
+            if member.isreg() and member.size <= MOST_BYTES:
+                self.take(os.path.basename(bytes_of(member.name)), b"".join(pieces))
         if b"Package" not in self.fields or b"Architecture" not in self.fields:
             raise Refused("it has no control file that names it")
 
-    def __enter__(self):
-        return self
+    def stream(self, begin, end):
+        return Stream(Part(self.handle, begin, end), shown(self.path))
 
-    def __exit__(self, *_):
-        os.close(self.handle)
+    def parts_of(self, end):
+        """Of each member its name, where it begins and where it ends."""
+        stream, parts = self.stream(0, end), []
+        for name, size in members_of(stream):
+            parts.append((name, stream.tell(), stream.tell() + size))
+            if parts[-1][2] > end:
+                raise Refused("it ends early")
+        return parts
+
+    def members(self, begin):
+        """The members of one of the two tars, each with its bytes, which come in pieces."""
+        found = [part for part in self.parts if is_tar(part[0], begin)]
+        if len(found) != 1:
+            raise Refused(f"it has {len(found)} members {begin.decode()}")
+        members = Members(plain(self.stream(*found[0][1:]), self.stack))
+        for member in members:
+            yield member, pieces_of(members, member)
+
+    def files(self):
+        return self.members(b"data.tar")
 
     def take(self, name, text):
         if name == b"control":
@@ -122,73 +106,19 @@ class Package:
     def name(self):
         return self.fields[b"Package"]
 
-    @contextmanager
-    def tar(self, begin):
-        """One of the two tars, whose members come one after another."""
-        found = [name for name in self.parts if name == f"{begin}.tar".encode() or name.startswith(f"{begin}.tar.".encode())]
-        if len(found) != 1:
-            raise Refused(f"it has {len(found)} members {begin}.tar")
-        with self.unpacked(found[0]) as source:
-            forward = Forward(source)
-            with tarfile.TarFile(fileobj=forward, encoding="utf-8", errors="surrogateescape") as tar:
-                yield tar
-            forward.check_end()
 
-    @contextmanager
-    def unpacked(self, name):
-        source, ending_of_name = io.BufferedReader(Slice(self.handle, *self.parts[name]), PIECE), name.rpartition(b".")[2]
-        if ending_of_name == b"zst":
-            with self.by_zstd(source) as found:
-                yield found
-            return
-        readers = {b"tar": lambda: source, b"gz": lambda: gzip.GzipFile(fileobj=source), b"xz": lambda: lzma.LZMAFile(source)}
-        if ending_of_name not in readers:
-            raise Refused(f"{name.decode(errors='replace')}: a compression that isn't read here")
-        yield readers[ending_of_name]()
-
-    @contextmanager
-    def by_zstd(self, source):
-        """The program reads the member from a file of the room that has no name."""
-        program = shutil.which("zstd")
-        if not program:
-            raise Refused("it is compressed by zstd, and there is no program zstd, which Debian has in the package zstd")
-        handle = os.open(PACKED, os.O_RDWR | os.O_CREAT | os.O_EXCL, 0o600, dir_fd=self.room)
-        try:
-            os.unlink(PACKED, dir_fd=self.room)
-            while piece := source.read(PIECE):
-                write_all(handle, piece)
-            os.lseek(handle, 0, os.SEEK_SET)
-            with ending.started([program, "-dcq"], stdin=handle, stdout=subprocess.PIPE, stderr=subprocess.DEVNULL) as child:
-                yield child.stdout
-                child.stdout.close()
-                if child.wait():
-                    raise Refused("zstd can't read it")
-        finally:
-            os.close(handle)
-
-
-def members_of(handle):
-    """The members of an archive: of each its name, where it begins, and how many bytes it has."""
-    end = os.fstat(handle).st_size
-    if os.pread(handle, len(MAGIC), 0) != MAGIC:
-        raise Refused("it is no Debian package")
-    at = len(MAGIC)
-    while at < end:
-        found = MEMBER.fullmatch(os.pread(handle, MEMBER_BYTES, at))
-        begin = at + MEMBER_BYTES
-        if not found or begin + int(found[2]) > end:
-            raise Refused("it stops early, or is no Debian package")
-        yield found[1].rstrip().removesuffix(b"/"), begin, int(found[2])
-        at = begin + int(found[2]) + int(found[2]) % 2
+def pieces_of(members, member):
+    try:
+        yield from members.content(member)
+    except Refused as reason:
+        raise Damaged(*reason.args) from None
 
 
 @contextmanager
-def opened(path, room):
+def opened(path):
     """A package. What is wrong with it is told with its path."""
-    try:
-        with Package(path, room) as package:
-            yield package
-    except Refused as refused:
-        raise Refused(*(f"{shown(path)}: {reason}" for reason in refused.args)) from None
-    except DAMAGED as error:
-        raise Refused(f"{shown(path)}: it can't be read: {error}") from None
+    with ExitStack() as stack:
+        try:
+            yield Package(path, stack)
+        except (Refused, Damaged) as refused:
+            raise Refused(*(f"{shown(path)}: {str(reason).removeprefix(f'{shown(path)}: ')}" for reason in refused.args)) from None

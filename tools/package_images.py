@@ -8,9 +8,9 @@ import hashlib
 import re
 from typing import NamedTuple
 
-from debs import bytes_of, members_in
-from entries import MOST_ENTRIES, MOST_FILE_BYTES, MOST_TARGET_BYTES, PIECE, Folders, Refused, check_path, check_text, shown, stamp_of
-from resource_files import FILES
+from entries import MOST_ENTRIES, MOST_FILE_BYTES, Folders, Refused, check_path, check_target, shown, stamp_of
+from packing import FILES
+from tar_members import bytes_of
 from telling import Found
 from usr_merge import BESIDE
 
@@ -85,19 +85,17 @@ class Image:
         architecture = package.fields[b"Architecture"]
         if architecture != b"all":
             self.architectures.setdefault(architecture, name)
-        with package.tar("data") as tar:
-            for member in members_in(tar):
-                path = bytes_of(member.name)
-                try:
-                    self.take(tar, member, name, left, units)
-                except Refused as reason:
-                    self.reasons.append(f"{shown(package.path)}: {shown(path)}: {reason}")
-                tells.looked()
-                if len(self.found) > MOST_ENTRIES:
-                    raise Refused(f"more than {MOST_ENTRIES:,} entries with those before it")
+        for member, pieces in package.files():
+            try:
+                self.take(member, pieces, name, left, units)
+            except Refused as reason:
+                self.reasons.append(f"{shown(package.path)}: {shown(bytes_of(member.name))}: {reason}")
+            tells.looked()
+            if len(self.found) > MOST_ENTRIES:
+                raise Refused(f"more than {MOST_ENTRIES:,} entries with those before it")
         return [*(f"left out of {name}: {shown(top)}: {found}" for top, found in sorted(left.items())), *lines_of(name, package, units)]
 
-    def take(self, tar, member, package, left, units):
+    def take(self, member, pieces, package, left, units):
         names, kind = names_of(member.name), kind_of(member)
         path = self.path_of(names, kind)
         if path is None:
@@ -108,7 +106,7 @@ class Image:
         if len(path) == 1 and kind != b"d":
             raise Refused("no directory, where a hierarchy has to be one")
         self.check_way(path, package)
-        entry = self.entry(tar, member, kind, path, package, units)
+        entry = self.entry(member, pieces, kind, path, package, units)
         there = self.found.setdefault(path, entry)
         if not there.is_like(entry):
             raise Refused(f"{there.package} has something else there")
@@ -131,7 +129,7 @@ class Image:
             if above.kind != b"d":
                 raise Refused(f"{shown(b'/'.join(path[:count]))} is no directory, of {above.package}")
 
-    def entry(self, tar, member, kind, path, package, units):
+    def entry(self, member, pieces, kind, path, package, units):
         if kind == b"d":
             return Entry(kind, member.mode & 0o7777, (b"",), package)
         if kind == b"l":
@@ -141,10 +139,10 @@ class Image:
             return self.linked(member, path, there, package)
         if member.size > MOST_FILE_BYTES:
             raise Refused(f"more than {MOST_FILE_BYTES:,} bytes")
-        source, pieces = tar.extractfile(member), Kept(UNITS.fullmatch(b"/".join(path)))
-        stamp = self.stamped(path, there, lambda copy: stamp_from(source, lambda piece: (copy(piece), pieces.take(piece))))
-        if pieces.unit and INSTALL.search(pieces.bytes):
-            units.append(pieces.unit[1])
+        kept = Kept(UNITS.fullmatch(b"/".join(path)))
+        stamp = self.stamped(path, there, lambda copy: stamp_from(pieces, lambda piece: (copy(piece), kept.take(piece))))
+        if kept.unit and INSTALL.search(kept.bytes):
+            units.append(kept.unit[1])
         return Entry(kind, member.mode & 0o7777, stamp, package)
 
     def stamped(self, path, there, read):
@@ -197,16 +195,14 @@ class Kept:
 
 def target_of(member):
     target = bytes_of(member.linkname)
-    check_text(target, "its target")
-    if not 1 <= len(target) <= MOST_TARGET_BYTES:
-        raise Refused(f"a target of no byte or of more than {MOST_TARGET_BYTES:,}")
+    check_target(target)
     return target
 
 
-def stamp_from(source, copy):
+def stamp_from(pieces, copy):
     """The size and the digest of what is read, each piece of which is handed to `copy`."""
     digest, size = hashlib.sha256(), 0
-    while piece := source.read(PIECE):
+    for piece in pieces:
         digest.update(piece)
         copy(piece)
         size += len(piece)

@@ -5,11 +5,11 @@ import stat
 
 from archives import Budget, LayerReader, Reader, is_of_aufs
 from containers import LAYOUT, Opened, layers_of
+from debs import data_of
 from disks import read_disk
 from entries import MOST_LISTED, USUAL_MODE, Refused, shown
 from layers import Laid, settle
 from losses import Losses
-from packages import data_of
 from packing import FILES, TEXT, Files, Made, write_text
 from sources import DISKS, IMAGES
 from trees import DIRECTORIES, DIRECTORY, FILE, OPAQUE, Entry, Tree

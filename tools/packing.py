@@ -1,7 +1,7 @@
 """A resource that comes to stand in a depot: its files and its tree text are written in a room beside its place, and then moved there.
 
-What is written has modes by the umask. A room has nothing but the names of this module, so that the next run there knows what a kill
-left.
+What is written has modes by the umask. The rooms of a tool begin with a prefix of its own, and have nothing but the names of this
+module, so that its next run there knows what a kill left.
 """
 import hashlib
 import os
@@ -10,7 +10,7 @@ import ending
 import rooms
 from entries import PIECE, Folders, Refused, check_path, open_file, shown, write_all
 
-PREFIX, FILES, TEXT = ".pack-", "files", "text"
+FILES, TEXT = "files", "text"
 # Files of which a hard link may have the bytes, bytes of a pipe that are read more than once, and what an image was unpacked to.
 HIDDEN, KEPT, UNPACKED = "hidden", "kept", "unpacked"
 NAMES = frozenset((FILES, TEXT, HIDDEN, KEPT, UNPACKED))
@@ -26,6 +26,14 @@ def names_of(resource):
         except Refused as reason:
             raise Refused(f"{shown(resource)}: {reason}") from None
     return names
+
+
+def place_of(depot, resource):
+    """Where a resource is to stand in a depot, where nothing may stand yet."""
+    place = os.path.join(depot, *names_of(resource))
+    if os.path.lexists(place) or os.path.lexists(place + b".tree"):
+        raise Refused(f"{shown(resource)}: it is there already")
+    return place
 
 
 class Made(Folders):
@@ -171,8 +179,8 @@ def put_in_place(room, place, beside):
     ending.ignore()
 
 
-def in_place(place, work):
-    """Calls `work` with a room beside a place, and moves what it wrote there."""
+def in_place(place, prefix, work):
+    """Calls `work` with a room beside a place, whose name begins with a prefix, and moves what it wrote there."""
     with rooms.made(os.path.dirname(place)):
         beside = os.open(os.path.dirname(place), os.O_RDONLY | os.O_DIRECTORY)
 
@@ -180,5 +188,5 @@ def in_place(place, work):
             work(room.handle)
             put_in_place(room.handle, place, beside)
 
-        rooms.clear(beside, PREFIX, NAMES)
-        rooms.in_a_room(beside, PREFIX, write)
+        rooms.clear(beside, prefix, NAMES)
+        rooms.in_a_room(beside, prefix, write)
