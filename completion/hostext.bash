@@ -293,7 +293,7 @@ _hostext_tool_options() {
     case $1 in
         unpack) _hostext_reply --tar --erofs --squashfs --mtime --keep-setid --quiet --help ;;
         image-from-packages) _hostext_reply --release --confext --public --quiet --help ;;
-        pack) _hostext_reply --without --leave-out-special --usr-merge --strict --public --quiet --help ;;
+        pack) _hostext_reply --format --image --layers --most-bytes --without --leave-out-special --usr-merge --strict --public --quiet --help ;;
         fetch) _hostext_reply --keyring --allow-older --public --quiet --jobs --help ;;
         tree-text) _hostext_reply --quiet --help ;;
         update) _hostext_reply --help ;;
@@ -301,27 +301,29 @@ _hostext_tool_options() {
 }
 
 # Completes the words of a tool, which tells by its name where something else than a path stands: at ABS of a store, and at RES of a
-# depot that an image is made in.
+# depot that something is made in.
 _hostext_tool() {
     local words shared quote tool word last='' places=()
     COMPREPLY=()
     _hostext_split
     tool=${words[0]##*hostext-}
     for word in "${words[@]:1:${#words[@]}-2}"; do
-        [[ $last == --@(erofs|squashfs|mtime|release|without|keyring|jobs) || $word == -* ]] || places+=("$word")
+        [[ $last == --@(erofs|squashfs|mtime|release|format|image|most-bytes|without|keyring|jobs) || $word == -* ]] || places+=("$word")
         last=$word
     done
     if [[ $last == --@(erofs|squashfs|release|without|keyring) ]]; then
         _hostext_option -o default
-    elif [[ $last == --@(mtime|jobs) ]]; then
+    elif [[ $last == --format ]]; then
+        _hostext_reply folder tar layer oci docker deb squashfs erofs disk
+    elif [[ $last == --@(mtime|image|most-bytes|jobs) ]]; then
         return
     elif [[ ${words[-1]} == -* ]]; then
         _hostext_tool_options "$tool"
     elif [[ $tool:${#places[@]} == unpack:1 ]]; then
         words=("${words[0]%-unpack}" "${places[0]}" . "${words[-1]}")
         _hostext_paths d
-    elif [[ $tool:${#places[@]} == image-from-packages:1 ]]; then
-        words=("${words[0]}" . "${places[0]}" "${words[-1]}")
+    elif [[ $tool:${#places[@]} == @(image-from-packages:1|pack:2) ]]; then
+        words=("${words[0]}" . "${places[-1]}" "${words[-1]}")
         _hostext_publish_folders
     else
         _hostext_option -o default

@@ -314,6 +314,12 @@ def options_of(name):
     return sorted(set(re.findall(r"^  (?:-h, )?(--[a-z-]+)", shown, re.M)) or {"--help"})
 
 
+def formats_of_pack():
+    """The formats that the help of hostext-pack lists."""
+    shown = subprocess.run([TOP / "tools/pack", "--help"], stdout=subprocess.PIPE, check=True, timeout=SECONDS).stdout.decode()
+    return re.search(r"^  --format \{([a-z,]+)\}", shown, re.M)[1].split(",")
+
+
 def options_and_places_of_tools_are_offered(place, folder):
     offered(
         folder,
@@ -323,6 +329,10 @@ def options_and_places_of_tools_are_offered(place, folder):
         *((f"hostext-unpack {words}", []) for words in ("--erofs ", "--mtime ", "s /usr /us", "gone /us", "/us")),
         ("hostext-image-from-packages --release x d im", ["images"]),
         *((f"hostext-image-from-packages {words}", []) for words in ("im", "d images/x im", "--release im")),
+        *((f"hostext-pack {words} im", ["images"]) for words in ("x d", "--layers - d", "--format tar --image a --most-bytes 5 --without b x d")),
+        *((f"hostext-pack {words}", []) for words in ("im", "x im", "x d images/x im", "--image ", "--most-bytes ", "--without im")),
+        ("hostext-pack --format ", formats_of_pack()),
+        ("hostext-pack --strict --format s", ["squashfs"]),
     )
 
 
