@@ -52,6 +52,17 @@ def in_a_folder(call):
     return scene
 
 
+def modules_of(tools):
+    """The modules that tools stand on, by what they and these import."""
+    found, left = set(), list(tools)
+    while left:
+        names = re.findall(r"^(?:from|import) (\w+)", (TOP / "tools" / left.pop()).read_text(), re.M)
+        more = {f"{name}.py" for name in names if (TOP / "tools" / f"{name}.py").exists()} - found
+        found |= more
+        left += more
+    return found
+
+
 def files_wanted():
     """What has to be installed of what stands in the repository, by its path below PREFIX."""
     tools = [name for name in TOOLS if (TOP / "tools" / name).exists()]
@@ -63,7 +74,7 @@ def files_wanted():
         *("bin/hostext", "bin/hostext_publish", RECORD),
         *(f"bin/hostext-{name}" for name in tools),
         *(f"lib/hostext/{name}" for name in tools),
-        *(f"lib/hostext/{path.name}" for path in (TOP / "tools").glob("*.py")),
+        *(f"lib/hostext/{name}" for name in modules_of(tools)),
         *(f"share/man/man{path.suffix[1:]}/{path.name}" for path in pages),
         *(place for name, place in completions if (TOP / "completion" / name).exists()),
         *(f"lib/systemd/system/{path.name}" for path in (TOP / "systemd").glob("*")),
