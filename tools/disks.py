@@ -3,7 +3,6 @@ systemd-repart(8) makes them. Types of partitions are those of the Discoverable 
 """
 import os
 import re
-import shutil
 import stat
 import struct
 import subprocess
@@ -13,7 +12,7 @@ from typing import NamedTuple
 
 import erofs
 from archives import Taker
-from entries import FOLDER_ONLY, MOST_ENTRIES, MOST_TARGET_BYTES, Folders, Refused, check_path, check_target, open_file, shown, write_all
+from entries import FOLDER_ONLY, MOST_ENTRIES, MOST_TARGET_BYTES, Folders, Refused, check_path, check_target, open_file, program, shown, write_all
 from losses import LINKS, attributes_of
 from packing import KEPT, UNPACKED, Made, pieces_of
 from streams import Part
@@ -119,16 +118,11 @@ def file_system_of(part):
     raise Refused("neither squashfs nor erofs")
 
 
-def need(tool):
-    if not shutil.which(tool):
-        raise Refused(f"there is no {tool}, which unpacks it")
-
-
 def run(words, *handles):
     ended = subprocess.run(words, stdin=subprocess.DEVNULL, capture_output=True, pass_fds=handles)
     if ended.returncode:
         said = (ended.stderr or ended.stdout).strip().split(b"\n")[-1]
-        raise Refused(f"{words[0]} doesn't unpack it: {shown(said)}")
+        raise Refused(f"{os.path.basename(words[0])} doesn't unpack it: {shown(said)}")
     return ended.stdout
 
 
@@ -165,7 +159,7 @@ class SquashfsTaker(DiskTaker):
     """Takes the entries of squashfs, which unsquashfs unpacks to a folder of the room. Only root gets there what it has."""
 
     def read(self):
-        need("unsquashfs")
+        self.program = program("unsquashfs", "squashfs-tools")
         if os.geteuid() != 0:
             raise Refused(f"{self.what}: only root gets owners, modes and whiteouts of squashfs out of unsquashfs")
         self.check()
@@ -187,7 +181,7 @@ class SquashfsTaker(DiskTaker):
             os.close(handle)
 
     def words(self, *words):
-        return ["unsquashfs", "-no-progress", "-o", str(self.part.at), *words, f"/proc/self/fd/{self.part.handle}"]
+        return [self.program, "-no-progress", "-o", str(self.part.at), *words, f"/proc/self/fd/{self.part.handle}"]
 
     def check(self):
         """Refuses what is too large, before anything is unpacked."""
@@ -278,9 +272,9 @@ class ErofsTaker(DiskTaker):
 
     def unpack(self):
         """Handles of the folders that fsck.erofs makes of the image."""
-        need("fsck.erofs")
+        tool = program("fsck.erofs", "erofs-utils")
         handle, above = self.alone(), self.unpacked()
-        run(["fsck.erofs", "--no-preserve", f"--extract=/proc/self/fd/{above}/top", f"/proc/self/fd/{handle}"], handle, above)
+        run([tool, "--no-preserve", f"--extract=/proc/self/fd/{above}/top", f"/proc/self/fd/{handle}"], handle, above)
         return Folders(above)
 
     def alone(self):

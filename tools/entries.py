@@ -4,6 +4,7 @@ can't do.
 import hashlib
 import os
 import re
+import shutil
 import stat
 import sys
 
@@ -58,6 +59,14 @@ def run_tool(name, call):
         sys.exit("\n".join(f"{name}: {reason}" for reason in reasons_of(error)))
     except ending.Stopped as stopped:
         sys.exit(128 + stopped.args[0])
+
+
+def program(name, package):
+    """The path of a program, which may stand in a folder that only root's PATH has."""
+    path = shutil.which(name, path=f"{os.environ.get('PATH', os.defpath)}:/usr/sbin:/sbin")
+    if not path:
+        raise Refused(f"there is no {name}, which Debian has in the package {package}")
+    return path
 
 
 def check_text(text, what):

@@ -7,25 +7,16 @@ tree is written in the room first.
 import hashlib
 import os
 import re
-import shutil
 import subprocess
 from contextlib import suppress
 
 import ending
-from entries import Refused
+from entries import Refused, program
 from tars import MOST_SECONDS, top_of, write_tar
 from tree_folders import TreeFolder
 
 IMAGE, SAID = "image", "said"
 VERSION = re.compile(rb"mksquashfs version ([0-9]{1,4})\.([0-9]{1,4})")
-
-
-def program(name, package):
-    """The path of a program, which may stand in a folder that only root's PATH has."""
-    path = shutil.which(name, path=f"{os.environ.get('PATH', os.defpath)}:/usr/sbin:/sbin")
-    if not path:
-        raise Refused(f"there is no {name}, which Debian has in the package {package}")
-    return path
 
 
 def said_by(path, option):

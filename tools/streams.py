@@ -6,13 +6,12 @@ import bz2
 import hashlib
 import lzma
 import os
-import shutil
 import subprocess
 import threading
 import zlib
 from contextlib import suppress
 
-from entries import PIECE, Refused, write_all
+from entries import PIECE, Refused, program, write_all
 
 # A file that wants more memory to be unpacked is refused; `xz -9` wants 65 MB.
 MOST_XZ_MEMORY = 268_435_456
@@ -225,7 +224,7 @@ class ByTool:
     skip = None
 
     def __init__(self, stream, words):
-        self.stream, self.name, self.fault = stream, words[0], None
+        self.stream, self.name, self.fault = stream, os.path.basename(words[0]), None
         streams = {"stdin": subprocess.PIPE, "stdout": subprocess.PIPE, "stderr": subprocess.PIPE, "bufsize": 0}
         self.child = subprocess.Popen(words, **streams)
         # what still waits for a pipe when the tool has ended holds nobody up
@@ -274,9 +273,10 @@ def plain(stream, stack):
             return Stream(Unpacked(stream, new), stream.what)
     if not begins.startswith(ZSTD):
         return stream
-    if not shutil.which("zstd"):
-        raise Refused(f"{stream.what}: there is no zstd, which unpacks it")
-    tool = ByTool(stream, ["zstd", "-dcq"])
+    try:
+        tool = ByTool(stream, [program("zstd", "zstd"), "-dcq"])
+    except Refused as reason:
+        raise Refused(f"{stream.what}: {reason}") from None
     stack.callback(tool.close)
     return Stream(tool, stream.what)
 

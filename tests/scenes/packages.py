@@ -9,6 +9,7 @@ import subprocess
 import tarfile
 import time
 
+from scenes import tars
 from scenes.keeping import modes_below
 from scenes.running import ABC, SECONDS, Failed, Skipped, expect, named, shortened, tree_text
 from scenes.stores import DONE, digest, in_a_place
@@ -39,21 +40,13 @@ def tar_of(entries):
     return out.getvalue()
 
 
-def archive(*members):
-    """An archive of ar(5)."""
-    parts = [b"!<arch>\n"]
-    for name, content in members:
-        parts.append(b"%-16b%-12d%-6d%-6d%-8o%-10d`\n" % (name.encode(), 0, 0, 0, 0o100644, len(content)) + content + b"\n" * (len(content) % 2))
-    return b"".join(parts)
-
-
 def package(place, name, entries, control=(), ending=".xz", architecture="all", data=None):
     """Makes a package beside the store, and gives its path."""
     fields = f"Package: {name}\nVersion: 1\nArchitecture: {architecture}\nDescription: x\n y\n".encode()
     controls = [entry("./"), entry("./control", fields), *(entry(f"./{file}", text) for file, text in control)]
     packed = PACKERS[ending](tar_of(entries) if data is None else data)
     path = beside(place, f"{name}.deb")
-    path.write_bytes(archive(("debian-binary", b"2.0\n"), (f"control.tar{ending}", PACKERS[ending](tar_of(controls))), (f"data.tar{ending}", packed)))
+    path.write_bytes(tars.package((b"debian-binary", b"2.0\n"), (b"control.tar%b" % ending.encode(), PACKERS[ending](tar_of(controls))), (b"data.tar%b" % ending.encode(), packed)))
     return path
 
 
@@ -200,7 +193,7 @@ def a_package_that_is_none_is_refused_by_name(place):
     text = (place.depot / "good.tree").read_bytes().replace(b"release.good", b"release.r")
     bad = beside(place, "bad.deb")
     half = tar_of([entry("./usr/a", b"x" * 3_000), entry("./usr/b", b"y")])
-    rows = [b"", b"x", b"!<arch>\n", whole[:100], whole[:data], whole[: data + 99], whole[:-9], archive(("debian-binary", b"2.0\n"))]
+    rows = [b"", b"x", b"!<arch>\n", whole[:100], whole[:data], whole[: data + 99], whole[:-9], tars.package((b"debian-binary", b"2.0\n"))]
     rows += [whole[:at] + bytes(byte ^ 255 for byte in whole[at : at + 4]) + whole[at + 4 :] for at in (data - 10, data + 2, data + 99, len(whole) - 20)]
     cut = package(place, "cut", [], data=half[:4_000]), package(place, "torn", [], data=half[:3_584] + b"\x07" * 512 + bytes(10_240)), package(place, "more", [], data=half + b"z" * 3_000_000)
     huge = tarfile.TarInfo("././@LongLink")
