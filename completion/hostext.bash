@@ -308,7 +308,7 @@ _hostext_tool() {
     _hostext_split
     tool=${words[0]##*hostext-}
     for word in "${words[@]:1:${#words[@]}-2}"; do
-        [[ $last == --@(erofs|squashfs|mtime|release|format|image|most-bytes|without|keyring|jobs) || $word == -* ]] || places+=("$word")
+        [[ $last == --@(erofs|squashfs|mtime|release|format|image|most-bytes|without|keyring|jobs) || $word == -?* ]] || places+=("$word")
         last=$word
     done
     if [[ $last == --@(erofs|squashfs|release|without|keyring) ]]; then

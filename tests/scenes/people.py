@@ -1,5 +1,6 @@
 """What tools/install puts below a folder, that it runs from there, and that --remove leaves the folder as it was."""
 import os
+import re
 import shutil
 import stat
 import subprocess
