@@ -1,4 +1,5 @@
 """Extension images that are made out of Debian packages: what they have, what is left out and told, and packages that are refused."""
+import bz2
 import gzip
 import io
 import lzma
@@ -16,7 +17,7 @@ from scenes.stores import DONE, digest, in_a_place
 from scenes.tools import TOOLS, beside, holds_nothing, left, tool
 
 NAME = "image-from-packages"
-PACKERS = {"": bytes, ".gz": gzip.compress, ".xz": lzma.compress}
+PACKERS = {"": bytes, ".gz": gzip.compress, ".xz": lzma.compress, ".bz2": bz2.compress}
 UNIT = b"[Service]\nExecStart=/usr/bin/x\n[Install]\nWantedBy=multi-user.target\n"
 
 
@@ -195,7 +196,8 @@ def a_package_that_is_none_is_refused_by_name(place):
     half = tar_of([entry("./usr/a", b"x" * 3_000), entry("./usr/b", b"y")])
     rows = [b"", b"x", b"!<arch>\n", whole[:100], whole[:data], whole[: data + 99], whole[:-9], tars.package((b"debian-binary", b"2.0\n"))]
     rows += [whole[:at] + bytes(byte ^ 255 for byte in whole[at : at + 4]) + whole[at + 4 :] for at in (data - 10, data + 2, data + 99, len(whole) - 20)]
-    cut = package(place, "cut", [], data=half[:4_000]), package(place, "torn", [], data=half[:3_584] + b"\x07" * 512 + bytes(10_240)), package(place, "more", [], data=half + b"z" * 3_000_000)
+    cut = package(place, "cut", [], data=half[:4_000]), package(place, "torn", [], data=half[:3_584] + b"\x07" * 512 + bytes(10_240)), package(place, "more", [], data=half + b"z" * 3_000_000), package(place, "short", [], data=half[:1_000])
+    rows += [tars.package((b"data.tar", half)), tars.package((b"debian-binary", b"3.0\n"), (b"data.tar", half)), whole + tars.package((b"data.tar", half))[8:]]
     huge = tarfile.TarInfo("././@LongLink")
     huge.type, huge.size = tarfile.GNUTYPE_LONGNAME, 100_000_000
     rows += [file.read_bytes() for file in cut] + [package(place, "huge", [], data=huge.tobuf() + bytes(100_000_256)).read_bytes()]
