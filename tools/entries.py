@@ -141,6 +141,18 @@ def stamp_at(handle, expected, copy):
     return size, digest.hexdigest()
 
 
+def line_of_directory(kind, mode, path):
+    return b"%b %o %b\n" % (kind, mode, path)
+
+
+def line_of_file(mode, size, digest, path):
+    return b"f %o %d %b %b\n" % (mode, size, digest.encode(), path)
+
+
+def line_of_link(target, path):
+    return b"l %d %b %b\n" % (len(target), target, path)
+
+
 def tree_text(lines):
     """The text of these lines, with the version that they need."""
     version = b"2" if any(line[:2] in (b"o ", b"w ") for line in lines) else b"1"

@@ -8,7 +8,7 @@ import hashlib
 import re
 from typing import NamedTuple
 
-from entries import MOST_ENTRIES, MOST_FILE_BYTES, Folders, Refused, check_path, check_target, shown, stamp_of
+from entries import MOST_ENTRIES, MOST_FILE_BYTES, Folders, Refused, check_path, check_target, line_of_directory, line_of_file, line_of_link, shown, stamp_of
 from packing import FILES
 from tar_members import bytes_of
 from telling import Found
@@ -211,10 +211,10 @@ def stamp_from(pieces, copy):
 
 def line_of(path, entry):
     if entry.kind == b"d":
-        return b"d %o %b\n" % (entry.mode, path)
+        return line_of_directory(entry.kind, entry.mode, path)
     if entry.kind == b"l":
-        return b"l %d %b %b\n" % (len(entry.fields[0]), entry.fields[0], path)
-    return b"f %o %d %b %b\n" % (entry.mode, entry.fields[0], entry.fields[1].encode(), path)
+        return line_of_link(entry.fields[0], path)
+    return line_of_file(entry.mode, *entry.fields, path)
 
 
 def lines_of(name, package, units):

@@ -3,7 +3,7 @@
 An entry has all that came of it, also what no tree text keeps: its owner, its file capability, and which kinds of losses it has. A
 directory that something stands in and that didn't come itself is one too; its mode is told later.
 """
-from entries import MOST_ENTRIES, USUAL_MODE, Refused, shown
+from entries import MOST_ENTRIES, USUAL_MODE, Refused, line_of_directory, line_of_file, line_of_link, shown
 from losses import ATTRIBUTES, CAPABILITY
 from telling import Found
 from walking import OPAQUE as MARKS
@@ -37,12 +37,12 @@ class Entry:
     def line(self, path):
         """Its line in a tree text."""
         if self.kind == FILE:
-            return b"f %o %d %b %b\n" % (self.mode, self.size, self.content.hex().encode(), path)
+            return line_of_file(self.mode, self.size, self.content.hex(), path)
         if self.kind == LINK:
-            return b"l %d %b %b\n" % (len(self.content), self.content, path)
+            return line_of_link(self.content, path)
         if self.kind == WHITEOUT:
             return b"w %b\n" % path
-        return b"%b %o %b\n" % (self.kind, USUAL_MODE if self.mode is None else self.mode, path)
+        return line_of_directory(self.kind, USUAL_MODE if self.mode is None else self.mode, path)
 
 
 def parent_of(path):

@@ -12,7 +12,7 @@ import os
 import stat
 from typing import NamedTuple
 
-from entries import MOST_ENTRIES, MOST_FILE_BYTES, Folders, Refused, check_path, check_target, no_copy, open_file, shown, stamp_at
+from entries import MOST_ENTRIES, MOST_FILE_BYTES, USUAL_MODE, Folders, Refused, check_path, check_target, line_of_directory, line_of_file, line_of_link, no_copy, open_file, shown, stamp_at
 
 OPAQUE = ("trusted.overlay.opaque", "user.overlay.opaque")
 KEPT_KINDS = stat.S_IFDIR, stat.S_IFREG, stat.S_IFLNK
@@ -191,13 +191,12 @@ class Walk:
     def line(self, folders, place, copies):
         path, kind = b"/".join(place.path), place.kind
         if not place.names:
-            return b"d 755 %b\n" % path
+            return line_of_directory(b"d", USUAL_MODE, path)
         if kind == stat.S_IFDIR:
             return directory_line(folders.at(place.names), path)
         name, folder = place.names[-1], folders.at(place.names[:-1])
         if kind == stat.S_IFLNK:
-            target = target_of(name, folder)
-            return b"l %d %b %b\n" % (len(target), target, path)
+            return line_of_link(target_of(name, folder), path)
         if kind == stat.S_IFCHR:
             return whiteout_line(os.stat(name, dir_fd=folder, follow_symlinks=False), path)
         handle, status = open_file(name, folder)
@@ -206,12 +205,12 @@ class Walk:
         finally:
             os.close(handle)
         self.tells.read(size)
-        return b"f %o %d %b %b\n" % (stat.S_IMODE(status.st_mode), size, digest.encode(), path)
+        return line_of_file(stat.S_IMODE(status.st_mode), size, digest, path)
 
 
 def directory_line(handle, path):
     kind = b"o" if is_opaque(handle) else b"d"
-    return b"%b %o %b\n" % (kind, stat.S_IMODE(os.fstat(handle).st_mode), path)
+    return line_of_directory(kind, stat.S_IMODE(os.fstat(handle).st_mode), path)
 
 
 def whiteout_line(status, path):
