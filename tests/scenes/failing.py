@@ -9,6 +9,7 @@ import time
 from contextlib import contextmanager, nullcontext
 from pathlib import Path
 
+from scenes.helping import without_help
 from scenes.locks import WAITING
 from scenes.running import Failed, shortened
 from scenes.traces import calls_of, concerning, devices_of, straced
@@ -121,7 +122,7 @@ class Failing:
         """Lets a call fail, and looks at what comes of it."""
         inject = ["-e", f"trace={call.name}", "-e", f"inject={call.name}:error={way}:when={call.number}"]
         written, told, status, lines = traced(self.room, self.use, *inject, around={**os.environ, "HOSTEXT_EXPLAIN": "yes"})
-        told = told.removeprefix(WAITING) if self.use.waits else told
+        told = without_help(told.removeprefix(WAITING) if self.use.waits else told)
         if not (failed := [line for line in lines if "(INJECTED)" in line]):
             raise Failed("the call isn't made")
         if call.place not in failed[0]:

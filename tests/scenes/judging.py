@@ -18,9 +18,11 @@ SECONDS, CLOCK_SECONDS = 2, 20
 LEAST_BYTES, TIMES = 32 << 20, 20
 HOME, GENERATION = re.compile(rb"^f [0-7]+ [0-9]+ [0-9a-f]{64} ([0-9]+) [0-9a-f]{5} ", re.M), re.compile(r"g-[1-9][0-9]*")
 REASON = rb"(hostext: [^\x00-\x1f\x7f]+\n)?"
+# What helps after a refusal of a line of a batch.
+HELP = rb"(?:hostext: line [1-9][0-9]*: [^\x00-\x1f\x7f]+\n)*"
 TOLD = {
     0: rb"",
-    1: rb"",
+    1: REASON,
     2: rb"hostext: usage ([1-9][0-9]*)\n" + REASON,
     3: rb"hostext: read fault\n",
     4: rb"hostext: write fault\n",
@@ -31,6 +33,7 @@ TOLD = {
     9: rb"hostext: unfinished\n" + REASON,
     10: rb"hostext: input too long\n",
 }
+TOLD = {status: HELP + told for status, told in TOLD.items()}
 
 
 class Ended(NamedTuple):

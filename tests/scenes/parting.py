@@ -24,7 +24,7 @@ ALL = TRIAL + b"== tests/program\ntold\n30 passed, 0 failed, 4 skipped\n"
 CALLS = b"== tests/system-calls\ntold\n500 passed, 0 failed, 0 skipped\n"
 HOSTILE = b"== tests/hostile\n--short --jobs 3\n60 passed, 0 failed, 0 skipped: failures of calls 9 (init 9)\n"
 HOSTILE += b"== tests/mutations\n--short --jobs 3\n14 passed, 0 failed, 0 skipped: mutations 6,000 (words 9)\n"
-CUTS = b"== tests/power-cuts\n--short\n4 passed, 0 failed, 0 skipped\n"
+CUTS = b"== tests/power-cuts\n--short\n4 passed, 0 failed, 0 skipped\n== tests/systemd\n--short\n0 passed, 0 failed, 0 skipped\n"
 RUN = "tests/run", "--jobs", "3"
 
 
@@ -49,6 +49,7 @@ def tests_of(folder, _program):
     made.write("tests/hostile", b'#!/bin/sh\necho "$@"\necho "60 passed, 0 failed, 0 skipped: failures of calls 9 (init 9)"\n')
     made.write("tests/mutations", b'#!/bin/sh\necho "$@"\necho "14 passed, 0 failed, 0 skipped: mutations 6,000 (words 9)"\n')
     made.write("tests/power-cuts", b'#!/bin/sh\necho "$@"\necho 4 passed, 0 failed, 0 skipped\n')
+    made.write("tests/systemd", b'#!/bin/sh\necho "$@"\necho 0 passed, 0 failed, 0 skipped\n')
     made.tool("python3", f'exec {shlex.quote(sys.executable)} "$@"')
     made.tool("strace", "")
     return made
@@ -78,10 +79,10 @@ def a_missing_tool_ends_the_tests_unless_it_is_skipped(repository):
         (repository.bin / tool).unlink()
         told = b"tests/run: %s is missing: install the package %s, or skip what needs it with --skip-missing\n" % (tool.encode(), tool.encode()) + told
         expect(repository.run("tests/run"), (b"", told, 2))
-    skipped = b"".join(b"skipped: %s: there is no python3\n" % name for name in (b"tests/program", b"tests/system-calls", b"tests/hostile", b"tests/mutations", b"tests/power-cuts"))
-    expect(repository.run("tests/run", "--skip-missing"), (TRIAL + skipped + b"2 passed, 0 failed, 5 skipped\n", b"", 0))
+    skipped = b"".join(b"skipped: %s: there is no python3\n" % name for name in (b"tests/program", b"tests/system-calls", b"tests/hostile", b"tests/mutations", b"tests/power-cuts", b"tests/systemd"))
+    expect(repository.run("tests/run", "--skip-missing"), (TRIAL + skipped + b"2 passed, 0 failed, 6 skipped\n", b"", 0))
     repository.carry("ext_trial", b"#!/bin/sh\necho why\nexit 1\n")
-    expect(repository.run("tests/run", "--skip-missing"), (b"== tests/trial\nwhy\n" + skipped + b"0 passed, 1 failed, 5 skipped\n", b"", 1))
+    expect(repository.run("tests/run", "--skip-missing"), (b"== tests/trial\nwhy\n" + skipped + b"0 passed, 1 failed, 6 skipped\n", b"", 1))
 
 
 def other_words_are_no_options(repository):

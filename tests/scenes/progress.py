@@ -11,6 +11,7 @@ import threading
 import time
 import tty
 
+from scenes.helping import TABLES, rows
 from scenes.locks import until_taken
 from scenes.running import ABC, SECONDS, Failed, expect, named, shortened, tree_text
 from scenes.stores import DONE, digest, in_a_place
@@ -174,14 +175,14 @@ def the_line_gives_way_to_what_is_told_at_the_end(place):
     os.mkfifo(place.depot / "pipe/a")
     place.expect(("init x86-64 system", DONE))
     reason = f"hostext: look at {place.depot}/pipe/a: neither a file nor a folder stands there"
-    for lines, replies, status, rows in (
-        (b"compare 1 2\nimport-fs bad /\n", LESS + b"refused 23 bad-tree 2 bad.tree\n", 0, []),
+    for lines, replies, status, wanted in (
+        (b"compare 1 2\nimport-fs bad /\n", LESS + b"refused 23 bad-tree 2 bad.tree\n", 0, [f"hostext: line 2: {rows(TABLES[0])['23 `bad-tree`']}"]),
         (b"compare 1 2\nimport-fs pipe /\n", LESS, 6, ["hostext: depot fault", reason]),
     ):
         found = slow_batch(place, lines, Terminal())
         expect(found, (replies, found[1], status))
         tells(found[1])
-        stands(found[1], *rows)
+        stands(found[1], *wanted)
 
 
 def nobody_is_told_without_a_terminal_or_where_it_is_turned_off(place):

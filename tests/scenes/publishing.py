@@ -14,8 +14,8 @@ import time
 
 from scenes.devices import become_nobody
 from scenes.locks import ended, locked, waits
+from scenes.helping import rows
 from scenes.reasons import EXPLAIN, SEE, explains
-from scenes.remedies import rows
 from scenes.running import ABC, EMPTY, SECONDS, VERSION, Failed, Skipped, expect, named, publisher, run, shortened, tree_text
 from scenes.stores import DONE, Place, digest, in_a_place, left_overs, what_stands
 from scenes.uses import tree_of

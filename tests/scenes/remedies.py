@@ -2,14 +2,13 @@
 import os
 import re
 import subprocess
-from pathlib import Path
 
+from scenes.helping import rows
 from scenes.portable import PROFILES, RELEASE, UNITS
 from scenes.running import SECONDS, Failed, named, shortened, tree_text
 from scenes.stores import DONE, OLD_INDEX, digest, in_a_place, long_names
 from scenes.uses import tree_of
 
-FORMATS = Path(__file__).resolve().parents[2] / "docs/FORMATS.md"
 EXPLAIN = {**os.environ, "HOSTEXT_EXPLAIN": "yes"}
 NOTHING, FAR = digest(b""), "/".join("x" * 60)
 UNIT = f"{UNITS}/web.service"
@@ -25,17 +24,6 @@ Type=regular-file
 Path={path}
 InstancesMax=2
 """
-
-
-def rows(after):
-    """The rows of the table that follows these words: what is refused, and the line."""
-    found = {}
-    for line in FORMATS.read_text().partition(after)[2].partition("\n| number | word | line |\n|---|---|---|\n")[2].splitlines():
-        if not line.startswith("| "):
-            break
-        number, word, said = (part.strip() for part in line.strip("| ").split(" | ", 2))
-        found[f"{number} {word}"] = said
-    return found
 
 
 class Told:

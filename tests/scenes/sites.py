@@ -8,6 +8,7 @@ import shutil
 import subprocess
 from dataclasses import dataclass, field
 
+from scenes.helping import without_help
 from scenes.failing import LINES, TOLD, TRIED_AGAIN, may_be_ignored, ways
 from scenes.running import Failed, shortened
 from scenes.stopped import EMPTY, WATCHED, events
@@ -203,6 +204,7 @@ class FailingRun:
     def fail(self, call, way):
         inject = ["-e", f"trace={call.name}", "-e", f"inject={call.name}:error={way}:when={call.number}"]
         written, told, status, lines = self.traced(*inject, around={**os.environ, "HOSTEXT_EXPLAIN": "yes"})
+        told = without_help(told)
         if not (failed := [line for line in lines if "(INJECTED)" in line]):
             raise Failed("the call isn't made")
         if call.place not in failed[0]:

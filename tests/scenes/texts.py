@@ -91,7 +91,7 @@ def each_tree_text_is_read_or_its_first_faulty_line_is_told(_program):
 
 def a_tree_text_gives_its_entries(_program):
     found = texts.read_tree(removing("d 755 a", f"f 644 3 {ABC} a/b c", "l 5  x y  b", "w c"))
-    wanted = [(b"d", [b"755"], (b"a",)), (b"f", [b"644", b"3", ABC.encode()], (b"a", b"b c")), (b"l", [b" x y "], (b"b",)), (b"w", [], (b"c",))]
+    wanted = [(b"d", (b"755",), (b"a",)), (b"f", (b"644", b"3", ABC.encode()), (b"a", b"b c")), (b"l", (b" x y ",), (b"b",)), (b"w", (), (b"c",))]
     if found != wanted:
         raise Failed(f"the entries are {found}")
 
