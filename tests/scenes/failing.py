@@ -127,7 +127,7 @@ class Failing:
             told = without_help(told.removeprefix(WAITING) if self.use.waits else told)
             if not (failed := [line for line in lines if "(INJECTED)" in line]):
                 raise Failed("the call isn't made")
-            if call.place in failed[0] or "write(2<" not in failed[0]:
+            if call.place in failed[0]:
                 break
         if call.place not in failed[0]:
             raise Failed(f"another call is made: {failed[0]}")
