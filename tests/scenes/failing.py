@@ -38,6 +38,8 @@ TOLD = {
     **{"getdents64": "list", "flock": "lock"},
 }
 STATUSES = {"store": 5, "depot": 6, "standard input": 3, "standard output": 4}
+# What a call on a stream has, which has no place.
+STREAMS = {"standard output": "(1<", "standard error": "(2<"}
 LINES = {3: "hostext: read fault", 4: "hostext: write fault", 5: "hostext: disk fault", 6: "hostext: depot fault"}
 
 
@@ -127,7 +129,7 @@ class Failing:
             told = without_help(told.removeprefix(WAITING) if self.use.waits else told)
             if not (failed := [line for line in lines if "(INJECTED)" in line]):
                 raise Failed("the call isn't made")
-            if call.place in failed[0]:
+            if call.place in failed[0] and STREAMS.get(call.on, "") in failed[0]:
                 break
         if call.place not in failed[0]:
             raise Failed(f"another call is made: {failed[0]}")
