@@ -291,11 +291,11 @@ _hostext_publish() {
 # Replies the options of a tool. A value that one has is the next word.
 _hostext_tool_options() {
     case $1 in
-        unpack) _hostext_reply --tar --erofs --squashfs --mtime --keep-setid --quiet --help ;;
-        image-from-packages) _hostext_reply --release --confext --public --quiet --help ;;
-        pack) _hostext_reply --format --image --layers --most-bytes --without --leave-out-special --usr-merge --strict --public --quiet --help ;;
+        unpack) _hostext_reply --tar --erofs --squashfs --mtime --keep-setid --no-setid --quiet --help ;;
+        image-from-packages) _hostext_reply --release --confext --root-owned --public --quiet --help ;;
+        pack) _hostext_reply --format --image --layers --most-bytes --without --leave-out-special --usr-merge --keep-owners --root-owned --strict --public --quiet --help ;;
         fetch) _hostext_reply --keyring --allow-older --public --quiet --jobs --help ;;
-        tree-text) _hostext_reply --quiet --help ;;
+        tree-text) _hostext_reply --keep-owners --root-owned --quiet --help ;;
         update) _hostext_reply --help ;;
     esac
 }

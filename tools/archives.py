@@ -34,25 +34,23 @@ class Taker:
 
     def __init__(self, what, tree, choice, files, budget):
         self.what, self.tree, self.left, self.choice = what, tree, Tree(), choice
-        self.files, self.budget, self.owners = files, budget, {}
+        self.files, self.budget = files, budget
 
     def leaves_out(self, path):
         return self.choice.leaves_out(path)
 
-    def own(self, entry):
-        """An entry whose owner stands in memory once."""
-        entry.owner = self.owners.setdefault(entry.owner, entry.owner)
-        return entry
-
     def take_top(self, entry):
         if entry.kind not in DIRECTORIES:
             raise Refused("it is the top, and no directory")
-        self.tree.top = self.own(entry)
+        entry.owner = self.choice.owner(entry.owner)
+        self.tree.top = entry
 
     def place(self, path, entry, tree):
         """Puts an entry into a tree. A file that it takes the place of goes, but for one that is written over."""
         there = tree.entries.get(path)
-        tree.put(path, self.own(entry))
+        if tree is self.tree and entry.kind != WHITEOUT:
+            entry.owner = self.choice.owner(entry.owner)
+        tree.put(path, entry)
         if there is not None and there.kind == FILE != entry.kind:
             self.files.remove(path)
 

@@ -13,7 +13,8 @@ from typing import NamedTuple
 import erofs
 from archives import Taker
 from entries import FOLDER_ONLY, MOST_ENTRIES, MOST_TARGET_BYTES, Folders, Refused, check_path, check_target, open_file, program, shown, write_all
-from losses import LINKS, attributes_of
+from losses import LINKS
+from owners import names_of_attributes
 from packing import KEPT, UNPACKED, Made, pieces_of
 from streams import Part
 from trees import DIRECTORIES, DIRECTORY, FILE, LINK, SPECIAL, WHITEOUT, Entry
@@ -221,7 +222,7 @@ class SquashfsTaker(DiskTaker):
 def attributes_in(handle):
     """The extended attributes of a file, with their values."""
     follows = isinstance(handle, int)
-    return {name: os.getxattr(handle, name, follow_symlinks=follows) for name in attributes_of(handle)}
+    return {name: os.getxattr(handle, name, follow_symlinks=follows) for name in names_of_attributes(handle)}
 
 
 class ErofsTaker(DiskTaker):

@@ -141,22 +141,16 @@ def stamp_at(handle, expected, copy):
     return size, digest.hexdigest()
 
 
-def line_of_directory(kind, mode, path):
-    return b"%b %o %b\n" % (kind, mode, path)
+def line_of_directory(kind, attributes, path):
+    return b"%b %b %b\n" % (kind, attributes.field(), path)
 
 
-def line_of_file(mode, size, digest, path):
-    return b"f %o %d %b %b\n" % (mode, size, digest.encode(), path)
+def line_of_file(attributes, size, digest, path):
+    return b"f %b %d %b %b\n" % (attributes.field(), size, digest.encode(), path)
 
 
-def line_of_link(target, path):
-    return b"l %d %b %b\n" % (len(target), target, path)
-
-
-def tree_text(lines):
-    """The text of these lines, with the version that they need."""
-    version = b"2" if any(line[:2] in (b"o ", b"w ") for line in lines) else b"1"
-    return b"hostext-tree " + version + b"\n" + b"".join(lines) + b"end\n"
+def line_of_link(owner, target, path):
+    return b"l %d%b %b %b\n" % (len(target), owner.field(), target, path)
 
 
 def write_all(handle, piece):

@@ -2,9 +2,11 @@
 import os
 from contextlib import contextmanager
 
-from entries import Refused, shown, tree_text
+from entries import Refused, shown
 from losses import Losses
+from owners import Attributed
 from packing import TEXT, Copies, write_text
+from texts import tree_text
 from trees import SPECIAL
 from usr_merge import below_usr, beside_usr, warning
 from walking import Walk, is_special
@@ -47,20 +49,21 @@ def places_of(walk, losses, given, tells):
         tells.tell(warning(beside))
     if given.strict and losses.lines():
         raise Refused(*losses.lines())
-    tells.tell(*losses.lines())
+    tells.tell(*losses.attributed.lines(), *losses.lines())
     return places
 
 
 @contextmanager
 def looked_through(given, tells, handle):
-    """A folder by its handle, with the places of it that are packed, once what is lost was told."""
-    losses = Losses(given.SOURCE)
+    """A folder by its handle, with the places of it that are packed, once what is lost was told, and what reads their attributes."""
+    attributed = Attributed(given.SOURCE, given, set())
+    losses = Losses(given.SOURCE, attributed)
     with Walk(given.SOURCE, tells, Choice(given, tells, handle).takes, losses.look, handle) as walk:
-        yield walk, places_of(walk, losses, given, tells)
+        yield walk, places_of(walk, losses, given, tells), attributed
 
 
-def write_folder(walk, places, room, place):
+def write_folder(walk, places, attributed, room, place):
     """Writes the files and the tree text in a room."""
     with Copies(room, place) as copies:
-        text = tree_text(list(walk.lines(places, copies.copy)))
+        text = tree_text(list(walk.lines(places, attributed, copies.copy)))
     write_text(room, TEXT, (text,))

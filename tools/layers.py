@@ -5,6 +5,7 @@ are laid here alone.
 """
 import subprocess
 
+from attributes import ROOT
 from entries import MOST_ENTRIES, USUAL_MODE, Refused, shown
 from reading import MOST_SOURCE, program
 from trees import DIRECTORIES, DIRECTORY, LINK, OPAQUE, WHITEOUT, Entry, Tree, parent_of
@@ -41,8 +42,9 @@ class Cover:
         return found
 
 
-def mode_below(trees, path):
-    """The mode of a directory that didn't come with the topmost of these layers, but stands in it: that which the layers below show."""
+def attributes_below(trees, path):
+    """The mode and the owner of a directory that didn't come with the topmost of these layers, but stands in it: those which the layers
+    below show."""
     *lower, tree = trees
     while not is_cut_off(tree, path):
         if not lower:
@@ -52,12 +54,12 @@ def mode_below(trees, path):
         if there is None:
             continue
         if there.kind in DIRECTORIES:
-            return there.mode
+            return there.mode, there.owner
         if there.kind != WHITEOUT:
             kind = "a link" if there.kind == LINK else "a file"
             raise Refused(f"{shown(path)}: no directory of this name came with what is below it, and a lower layer has {kind} there")
         break
-    return USUAL_MODE
+    return USUAL_MODE, ROOT
 
 
 def is_cut_off(tree, path):
@@ -66,11 +68,11 @@ def is_cut_off(tree, path):
 
 
 def settle(trees):
-    """Gives the directories that didn't come their modes, in the lowest layer first."""
+    """Gives the directories that didn't come their modes and owners, in the lowest layer first."""
     for at, tree in enumerate(trees, 1):
         for path, entry in tree.entries.items():
             if entry.mode is None and entry.kind in DIRECTORIES:
-                entry.mode = mode_below(trees[:at], path)
+                entry.mode, entry.owner = attributes_below(trees[:at], path)
 
 
 class Laid:

@@ -1,16 +1,17 @@
 """An extension image that is put together of Debian packages: what of them it has, what is refused, and what is left out.
 
 It has what the hierarchies of its class show: of a system extension usr and opt, with what stands in bin, sbin, lib and lib64 put below
-usr, and of a configuration extension etc. Directories are joined, with the mode that the first package gives. Any other path that two
+usr, and of a configuration extension etc. Directories are joined, with the mode and the owner that the first package gives. Any other path that two
 packages have is refused, unless both have the same there.
 """
 import hashlib
 import re
 from typing import NamedTuple
 
+from attributes import LINK_MODE, ROOT, Attributes, owner_of
 from entries import MOST_ENTRIES, MOST_FILE_BYTES, Folders, Refused, check_path, check_target, line_of_directory, line_of_file, line_of_link, shown, stamp_of
 from packing import FILES
-from tar_members import bytes_of
+from tar_members import bytes_of, capability_in, numbers_of
 from telling import Found
 from usr_merge import BESIDE
 
@@ -40,7 +41,7 @@ class Entry(NamedTuple):
     """An entry of the image, and the package that has it: of a file its size and digest, of a link its target."""
 
     kind: bytes
-    mode: int
+    attributes: Attributes
     fields: tuple
     package: str
 
@@ -74,9 +75,9 @@ def kind_of(member):
 class Image:
     """What was taken of packages so far, by paths, with what is wrong and what was left out."""
 
-    def __init__(self, tops, copies):
-        self.tops, self.copies, self.found = tops, copies, {}
-        self.reasons, self.owners, self.architectures = [], Found(), {}
+    def __init__(self, tops, copies, all_root=False):
+        self.tops, self.copies, self.all_root, self.found = tops, copies, all_root, {}
+        self.reasons, self.architectures = [], {}
 
     def add(self, package, tells):
         """Takes what a package has, and gives the lines that tell what of it was left out."""
@@ -113,8 +114,6 @@ class Image:
         if kind == b"d" and not there.fields:
             # it stood there as what others stand below
             self.found[path] = entry
-        if (member.uid, member.gid) != (0, 0):
-            self.owners.add(b"/".join(path))
 
     def path_of(self, names, kind):
         """The path that a member has in the image; none where the image has it not."""
@@ -125,15 +124,16 @@ class Image:
     def check_way(self, path, package):
         """Refuses a path above which no directory stands. What a package doesn't name above its paths is made."""
         for count in range(1, len(path)):
-            above = self.found.setdefault(path[:count], Entry(b"d", 0o755, (), package))
+            above = self.found.setdefault(path[:count], Entry(b"d", Attributes(0o755), (), package))
             if above.kind != b"d":
                 raise Refused(f"{shown(b'/'.join(path[:count]))} is no directory, of {above.package}")
 
     def entry(self, member, pieces, kind, path, package, units):
+        attributes = self.attributes(member, kind)
         if kind == b"d":
-            return Entry(kind, member.mode & 0o7777, (b"",), package)
+            return Entry(kind, attributes, (b"",), package)
         if kind == b"l":
-            return Entry(kind, 0, (target_of(member),), package)
+            return Entry(kind, attributes, (target_of(member),), package)
         there = self.found.get(path)
         if member.islnk():
             return self.linked(member, path, there, package)
@@ -143,7 +143,13 @@ class Image:
         stamp = self.stamped(path, there, lambda copy: stamp_from(pieces, lambda piece: (copy(piece), kept.take(piece))))
         if kept.unit and INSTALL.search(kept.bytes):
             units.append(kept.unit[1])
-        return Entry(kind, member.mode & 0o7777, stamp, package)
+        return Entry(kind, attributes, stamp, package)
+
+    def attributes(self, member, kind):
+        owner = ROOT if self.all_root else owner_of(*numbers_of(member))
+        if kind == b"l":
+            return Attributes(LINK_MODE, owner)
+        return Attributes(member.mode & 0o7777, owner, capability_in(member) if kind == b"f" else None)
 
     def stamped(self, path, there, read):
         """The stamp of a file that is read, whose bytes go to its path, unless something stands there."""
@@ -157,7 +163,7 @@ class Image:
             raise Refused(f"a hard link to {shown(bytes_of(member.linkname))}, which is no file of the image")
         with Folders(self.copies.handles[0]) as folders:
             stamp = self.stamped(path, there, lambda copy: stamp_of(target[-1], copy, folders.at((FILES, *target[:-1]))))
-        return Entry(b"f", of.mode, stamp, package)
+        return Entry(b"f", of.attributes, stamp, package)
 
     def put(self, path, content):
         """Puts a file of the image's own at a path where no package has one."""
@@ -165,7 +171,7 @@ class Image:
             raise Refused(f"{shown(b'/'.join(path))}: {self.found[path].package} has it, and the image needs its own")
         self.check_way(path, "the image")
         size, digest = self.copies.copy(path, lambda copy: (copy(content), (len(content), hashlib.sha256(content).hexdigest()))[1])
-        self.found[path] = Entry(b"f", 0o644, (size, digest), "the image")
+        self.found[path] = Entry(b"f", Attributes(0o644), (size, digest), "the image")
 
     def architecture(self):
         """The architecture of all packages that have one; none where none has."""
@@ -211,10 +217,10 @@ def stamp_from(pieces, copy):
 
 def line_of(path, entry):
     if entry.kind == b"d":
-        return line_of_directory(entry.kind, entry.mode, path)
+        return line_of_directory(entry.kind, entry.attributes, path)
     if entry.kind == b"l":
-        return line_of_link(entry.fields[0], path)
-    return line_of_file(entry.mode, *entry.fields, path)
+        return line_of_link(entry.attributes.owner, entry.fields[0], path)
+    return line_of_file(entry.attributes, *entry.fields, path)
 
 
 def lines_of(name, package, units):

@@ -4,6 +4,7 @@ import os
 import stat
 
 from archives import Budget, LayerReader, Reader, is_of_aufs
+from attributes import ROOT, owner_of
 from containers import LAYOUT, Opened, layers_of
 from debs import data_of
 from disks import read_disk
@@ -24,7 +25,7 @@ class Choice:
     def __init__(self, given, tells):
         self.given, self.tells = given, tells
         self.without = {b"/".join(filter(None, path.split(b"/"))): path for path in given.without}
-        self.missing = dict(self.without)
+        self.missing, self.owners = dict(self.without), {}
 
     def leaves_out(self, path):
         if not self.without:
@@ -35,6 +36,13 @@ class Choice:
         for way in found:
             self.missing.pop(way, None)
         return bool(found)
+
+    def owner(self, told):
+        """The owner that an entry gets, which stands in memory once. What comes from no folder tells its owners as root sees them."""
+        found = self.owners.get(told)
+        if found is None:
+            found = self.owners[told] = ROOT if self.given.root_owned else owner_of(*told)
+        return found
 
     def leaves_out_special(self, path):
         if self.given.leave_out_special:

@@ -2,7 +2,7 @@
 import stat
 from contextlib import closing
 
-from entries import Refused, shown
+from entries import Refused
 from reading import changed, files_of
 from telling import Found
 from texts import Faulty, read_tree
@@ -24,27 +24,35 @@ def path_of(names):
     return b"/" + b"/".join(names)
 
 
+def found_of(lost):
+    """How many entries these are, and the first of them in path order."""
+    found = Found()
+    for names in sorted(lost):
+        found.add(path_of(names))
+    return found
+
+
 class Tree:
-    """The tree at a path of a store. Since the store has no owners, a file that was setuid or setgid would run as whoever has it then,
-    so both bits are taken off files, unless they are to be kept."""
+    """The tree at a path of a store, and whether its files keep setuid and setgid: always, never, or, where it is None, where they have
+    their owners. Without its owner a file would run as whoever has it then. What entries don't get is noted by their names."""
 
     def __init__(self, store, path, keeps_setid, tells):
-        self.store, self.tells = store, tells
+        self.store, self.keeps_setid, self.tells = store, keeps_setid, tells
         self.base = tuple(name for name in path.split(b"/") if name)
         self.entries = entries_of(store.read("tree", path))
-        self.kept_bits = 0o7777 if keeps_setid else 0o7777 & ~SETID
+        self.lost_owners, self.lost_capabilities, self.lost_setid = [], [], []
 
-    def file_mode(self, fields):
-        return int(fields[0], 8) & self.kept_bits
+    def file_mode(self, attributes, has_owner=True):
+        """The mode that a file gets with its owner, or without."""
+        keeps = has_owner if self.keeps_setid is None else self.keeps_setid
+        return attributes.mode if keeps else attributes.mode & ~SETID
 
-    def tell_setid(self):
-        """Tells of the files whose modes aren't kept."""
-        lost = Found()
-        for kind, fields, names in self.entries:
-            if kind == b"f" and int(fields[0], 8) & ~self.kept_bits:
-                lost.add(path_of(names))
-        if lost.count:
-            self.tells.tell(f"setuid and setgid are taken off files, since owners are lost: {lost}; --keep-setid keeps them")
+    def tell_losses(self):
+        """Tells what entries didn't get."""
+        told = [f"lost: {kind}: {found_of(lost)}" for kind, lost in (("owners", self.lost_owners), ("file capabilities", self.lost_capabilities)) if lost]
+        if self.lost_setid:
+            told.append(f"setuid and setgid are taken off files, since owners are lost: {found_of(self.lost_setid)}; --keep-setid keeps them")
+        self.tells.tell(*told)
 
     def files(self, room):
         """Each file in path order: the command whose next bytes it is, its path in the store, and its fields and names. The room has the

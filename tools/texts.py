@@ -5,20 +5,21 @@ A text is read line by line, and no list of its lines is made: of short lines th
 import io
 import re
 
+from attributes import CAPABILITY_FIELD, LINK_MODE, OWNER_FIELD, are_told, attributes_of, tells
 from entries import MOST_ENTRIES, MOST_FILE_BYTES, MOST_TARGET_BYTES, Refused, check_names, check_text
 
 # The most bytes of a manifest, and of a tree text, that stand in a depot.
 MOST_TEXT_BYTES = 67_108_864
 LISTED = re.compile(rb"([0-9A-Fa-f]{64}) [ *](.+)", re.S)
 CONTROL_IN_LINES = re.compile(rb"[\x00-\x09\x0b-\x1f\x7f]")
-HEADER = re.compile(rb"hostext-tree ([12])")
-MODE = b"(0|[1-7][0-7]{0,3})"
+HEADER = re.compile(rb"hostext-tree ([123])")
+MODE = b"(?:0|[1-7][0-7]{0,3})"
 # The line of each kind, by its first byte. The target of a link may hold spaces.
-DIRECTORY = re.compile(b"([do]) %b (.+)" % MODE, re.S)
+DIRECTORY = re.compile(b"([do]) (%b(?:%b)?) (.+)" % (MODE, OWNER_FIELD), re.S)
 FORMS = {
     **dict.fromkeys((b"d", b"o"), DIRECTORY),
-    b"f": re.compile(b"(f) %b (0|[1-9][0-9]{0,9}) ([0-9a-f]{64}) (.+)" % MODE, re.S),
-    b"l": re.compile(b"(l) ([1-9][0-9]{0,3}) (.+)", re.S),
+    b"f": re.compile(b"(f) (%b(?:%b(?:%b)?)?) (0|[1-9][0-9]{0,9}) ([0-9a-f]{64}) (.+)" % (MODE, OWNER_FIELD, CAPABILITY_FIELD), re.S),
+    b"l": re.compile(b"(l) ([1-9][0-9]{0,3})(%b)? (.+)" % OWNER_FIELD, re.S),
     b"w": re.compile(b"(w) (.+)", re.S),
 }
 
@@ -58,14 +59,14 @@ def read_manifest(text):
     return found
 
 
-def link_of(length, rest, is_text):
-    """The target and the path of a link's line, from its length on."""
+def link_of(length, owner, rest, is_text):
+    """The attributes, the target and the path of a link's line, from its length on."""
     target, space, path = rest[:length], rest[length : length + 1], rest[length + 1 :]
     if length > MOST_TARGET_BYTES or space != b" ":
         raise Refused("it is the line of no entry")
     if not is_text:
         check_text(target, "its target")
-    return b"l", target, path
+    return b"l", attributes_of(b"%o%b" % (LINK_MODE, owner or b"")), target, path
 
 
 def parts_of(line, is_text):
@@ -75,14 +76,15 @@ def parts_of(line, is_text):
     if not found:
         raise Refused("it is the line of no entry")
     if found[1] == b"l":
-        return link_of(int(found[2]), found[3], is_text)
+        return link_of(int(found[2]), *found.groups()[2:], is_text)
     if found[1] == b"f" and int(found[3]) > MOST_FILE_BYTES:
         raise Refused(f"a file of more than {MOST_FILE_BYTES:,} bytes")
-    return found.groups()
+    kind, *fields, path = found.groups()
+    return (kind, *map(attributes_of, fields[:1]), *fields[1:], path)
 
 
 def entry_of(line, is_text):
-    """The entry of a line: the kind, its fields, and the path's names."""
+    """The entry of a line: the kind, its fields, and the path's names. Of all but a whiteout the first field are its attributes."""
     kind, *fields, path = parts_of(line, is_text)
     fields = tuple(fields)
     names = tuple(path.split(b"/"))
@@ -96,12 +98,16 @@ class Order:
     """What the entries before a line let stand there: a later path, whose parent is a directory before it."""
 
     def __init__(self, version):
-        self.version, self.last, self.way, self.has_marks = version, (), (), False
+        self.version, self.last, self.way, self.has_marks, self.has_owners = version, (), (), False, False
 
-    def take(self, kind, names):
+    def take(self, kind, fields, names):
         self.has_marks |= kind in (b"o", b"w")
         if self.has_marks and self.version == b"1":
             raise Refused("version 1 has neither opaque directories nor whiteouts")
+        if fields and are_told(fields[0]):
+            self.has_owners = True
+            if self.version != b"3":
+                raise Refused(f"version {self.version.decode()} has neither owners nor capabilities")
         if names <= self.last:
             raise Refused("its path doesn't come after the one before")
         above = self.way[: len(names) - 1]
@@ -115,6 +121,8 @@ class Order:
     def end(self):
         if self.version == b"2" and not self.has_marks:
             raise Refused("version 2 has an opaque directory or a whiteout")
+        if self.version == b"3" and not self.has_owners:
+            raise Refused("version 3 has an owner or a capability")
 
 
 def whole_lines_of(text):
@@ -157,7 +165,7 @@ def entry_at(at, line, order, is_text):
     """The entry of a line, whose number is two more than that of the entries before it."""
     try:
         kind, fields, names = entry_of(line, is_text)
-        names = order.take(kind, names)
+        names = order.take(kind, fields, names)
     except Refused as reason:
         raise Faulty(at, reason) from None
     if at - 2 == MOST_ENTRIES:
@@ -168,3 +176,14 @@ def entry_at(at, line, order, is_text):
 def read_tree(text):
     """The entries of a tree text in a list."""
     return list(entries_in(text))
+
+
+def tree_text(lines):
+    """The text of these lines, with the version that they need."""
+    return b"hostext-tree %b\n%bend\n" % (version_of(lines), b"".join(lines))
+
+
+def version_of(lines):
+    if any(map(tells, lines)):
+        return b"3"
+    return b"2" if any(line[:2] in (b"o ", b"w ") for line in lines) else b"1"

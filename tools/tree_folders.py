@@ -1,6 +1,6 @@
 """A tree of a store that is written into a folder: by handles, so that nothing is written beside it, whatever links the tree has.
 
-A directory is open to its owner alone until all below it is written. Then it gets its mode, and all gets one time, if one is given.
+A directory is open to the caller alone until all below it is written. Then it gets its owner and its mode.
 """
 import os
 import stat
@@ -31,13 +31,14 @@ def check_marks(entries, room):
 
 
 class TreeFolder:
-    """A tree in a folder of a room, and the time of its entries; none where they keep the time at which they were made."""
+    """A tree in a folder of a room, and what settles its entries."""
 
-    def __init__(self, tree, room, time=None):
-        self.tree, self.room, self.times = tree, room, None if time is None else (time, time)
+    def __init__(self, tree, room, settling):
+        self.tree, self.room, self.settling = tree, room, settling
 
     def write(self):
-        """Writes all but the modes of directories, and gives the folder's handle: the files last, in whose order the store gives them."""
+        """Writes all but the owners and modes of directories, and gives the folder's handle: the files last, in whose order the store
+        gives them."""
         check_marks(self.tree.entries, self.room)
         os.mkdir(TREE, dir_fd=self.room)
         handle = os.open(TREE, FOLDER_ONLY, dir_fd=self.room)
@@ -46,7 +47,7 @@ class TreeFolder:
                 if kind != b"f":
                     self.write_other(folders, kind, fields, names)
             for source, path, fields, names in self.tree.files(self.room):
-                self.write_file(source, path, fields, names[-1], folders.at(names[:-1]))
+                self.write_file(source, path, fields, names, folders.at(names[:-1]))
         return handle
 
     def write_other(self, folders, kind, fields, names):
@@ -56,47 +57,39 @@ class TreeFolder:
             os.mkdir(name, 0o700, dir_fd=folder)
             if kind == b"o":
                 os.setxattr(folders.at(names), OPAQUE, b"y")
-            return
-        if kind == b"l":
-            os.symlink(fields[0], name, dir_fd=folder)
+        elif kind == b"l":
+            attributes, target = fields
+            os.symlink(target, name, dir_fd=folder)
+            self.settling.settle_link(name, folder, attributes, names)
         else:
             make_whiteout(name, folder)
-        if self.times:
-            os.utime(name, self.times, dir_fd=folder, follow_symlinks=False)
+            self.settling.settle_time(name, dir_fd=folder, follow_symlinks=False)
 
-    def write_file(self, source, path, fields, name, folder):
+    def write_file(self, source, path, fields, names, folder):
         """Writes the next file of a command, if its bytes are those that the tree lists."""
-        handle = os.open(name, NEW, 0o600, dir_fd=folder)
+        handle = os.open(names[-1], NEW, 0o600, dir_fd=folder)
         try:
             self.tree.copy_file(source, path, fields, lambda piece: write_all(handle, piece))
-            self.settle(handle, self.tree.file_mode(fields))
+            self.settling.settle_file(handle, fields[0], names)
         finally:
             os.close(handle)
 
-    def settle(self, handle, mode):
-        os.fchmod(handle, mode)
-        if self.times:
-            os.utime(handle, self.times)
-
-    def set_modes(self, handle, above=0):
-        """Gives directories of more names than that their modes, those above last, and the folder its time."""
+    def settle_directories(self, handle, above=0):
+        """Settles the directories of more names than that, those above last, and gives the folder its time."""
         with Folders(handle) as folders:
             for kind, fields, names in reversed(self.tree.entries):
                 if kind in DIRECTORIES and len(names) > above:
-                    self.settle(folders.at(names), int(fields[0], 8))
-        if self.times:
-            os.utime(handle, self.times)
+                    self.settling.settle_directory(folders.at(names), fields[0], names)
+        self.settling.settle_time(handle)
 
-    def top_modes(self):
-        return {names[0]: int(fields[0], 8) for kind, fields, names in self.tree.entries if kind in DIRECTORIES and len(names) == 1}
-
-    def set_top_modes(self, moved, target):
-        """Gives the directories in a folder their modes, which may bar a move. Where somebody put another one there, that has no mode of
-        the tree."""
-        for name, mode in self.top_modes().items():
-            handle = os.open(name, FOLDER_ONLY, dir_fd=target)
-            try:
-                if os.path.samestat(os.fstat(handle), moved[name]):
-                    self.settle(handle, mode)
-            finally:
-                os.close(handle)
+    def settle_top(self, moved, target):
+        """Settles the directories in a folder, whose modes may bar a move. Where somebody put another one there, that gets nothing of the
+        tree."""
+        for kind, fields, names in self.tree.entries:
+            if kind in DIRECTORIES and len(names) == 1:
+                handle = os.open(names[0], FOLDER_ONLY, dir_fd=target)
+                try:
+                    if os.path.samestat(os.fstat(handle), moved[names[0]]):
+                        self.settling.settle_directory(handle, fields[0], names)
+                finally:
+                    os.close(handle)

@@ -1,17 +1,18 @@
 """A tree in memory, as its entries come from an archive one by one, in any order.
 
-An entry has all that came of it, also what no tree text keeps: its owner, its file capability, and which kinds of losses it has. A
-directory that something stands in and that didn't come itself is one too; its mode is told later.
+An entry has all that came of it, also which kinds of losses it has. A directory that something stands in and that didn't come itself is
+one too; its mode and its owner are told later.
 """
+from attributes import CAPABILITY, ROOT, Attributes, capability_of
 from entries import MOST_ENTRIES, USUAL_MODE, Refused, line_of_directory, line_of_file, line_of_link, shown
-from losses import ATTRIBUTES, CAPABILITY
+from losses import ATTRIBUTES
+from owners import UNSAID
 from telling import Found
 from walking import OPAQUE as MARKS
 
 DIRECTORY, OPAQUE, FILE, LINK, WHITEOUT = b"d", b"o", b"f", b"l", b"w"
 DIRECTORIES = DIRECTORY, OPAQUE
 MODES = (*DIRECTORIES, FILE)
-ROOT = 0, 0
 # Why an entry is refused that is neither of these, and what helps.
 SPECIAL = "neither a directory nor a file nor a link nor a whiteout", "--leave-out-special leaves out devices, sockets and pipes"
 
@@ -30,19 +31,26 @@ class Entry:
         """Takes what counts of its extended attributes; the others are lost."""
         if self.kind == DIRECTORY and any(attributes.get(mark) == b"y" for mark in MARKS):
             self.kind = OPAQUE
-        self.capability = attributes.get(CAPABILITY)
+        value = attributes.get(CAPABILITY)
+        if value is not None:
+            self.capability = capability_of(value) if self.kind == FILE else None
+            self.lost += (UNSAID,) if self.capability is None else ()
         if attributes.keys() - {CAPABILITY} - set(MARKS if self.kind in DIRECTORIES else ()):
             self.lost += (ATTRIBUTES,)
+
+    def is_told(self):
+        """Whether its line tells an owner or a capability."""
+        return self.kind != WHITEOUT and (self.owner != ROOT or self.capability is not None)
 
     def line(self, path):
         """Its line in a tree text."""
         if self.kind == FILE:
-            return line_of_file(self.mode, self.size, self.content.hex(), path)
+            return line_of_file(Attributes(self.mode, self.owner, self.capability), self.size, self.content.hex(), path)
         if self.kind == LINK:
-            return line_of_link(self.content, path)
+            return line_of_link(self.owner, self.content, path)
         if self.kind == WHITEOUT:
             return b"w %b\n" % path
-        return line_of_directory(self.kind, USUAL_MODE if self.mode is None else self.mode, path)
+        return line_of_directory(self.kind, Attributes(USUAL_MODE if self.mode is None else self.mode, self.owner), path)
 
 
 def parent_of(path):
@@ -99,6 +107,8 @@ class Tree:
 
     def version(self):
         """The version of its text."""
+        if any(entry.is_told() for entry in self.entries.values()):
+            return b"3"
         return b"2" if any(entry.kind in (OPAQUE, WHITEOUT) for entry in self.entries.values()) else b"1"
 
     def lines(self):

@@ -12,6 +12,7 @@ import os
 import stat
 from typing import NamedTuple
 
+from attributes import Attributes
 from entries import MOST_ENTRIES, MOST_FILE_BYTES, USUAL_MODE, Folders, Refused, check_path, check_target, line_of_directory, line_of_file, line_of_link, no_copy, open_file, shown, stamp_at
 
 OPAQUE = ("trusted.overlay.opaque", "user.overlay.opaque")
@@ -177,40 +178,42 @@ class Walk:
         finally:
             os.close(handle)
 
-    def lines(self, places, copies=no_copies):
-        """The lines of these places. `copies` has a file read, whose path in the tree it gets."""
+    def lines(self, places, attributed, copies=no_copies):
+        """The lines of these places, whose attributes are read by `attributed`. `copies` has a file read, whose path in the tree it gets."""
         with Known(self.handle, self.known) as folders:
             for place in places:
                 try:
-                    yield self.line(folders, place, copies)
+                    yield self.line(folders, place, attributed, copies)
                 except Refused as reason:
                     raise Refused(f"{shown(self.full(place.names))}: {reason}") from None
                 except OSError as error:
                     raise told_at(self.full(place.names), error) from None
 
-    def line(self, folders, place, copies):
+    def line(self, folders, place, attributed, copies):
         path, kind = b"/".join(place.path), place.kind
         if not place.names:
-            return line_of_directory(b"d", USUAL_MODE, path)
+            return line_of_directory(b"d", Attributes(USUAL_MODE), path)
         if kind == stat.S_IFDIR:
-            return directory_line(folders.at(place.names), path)
+            handle = folders.at(place.names)
+            return directory_line(handle, attributed.read(place.names, os.fstat(handle)), path)
         name, folder = place.names[-1], folders.at(place.names[:-1])
         if kind == stat.S_IFLNK:
-            return line_of_link(target_of(name, folder), path)
+            target, status = target_of(name, folder), os.stat(name, dir_fd=folder, follow_symlinks=False)
+            return line_of_link(attributed.read(place.names, status).owner, target, path)
         if kind == stat.S_IFCHR:
             return whiteout_line(os.stat(name, dir_fd=folder, follow_symlinks=False), path)
         handle, status = open_file(name, folder)
         try:
+            attributes = attributed.read(place.names, status, handle)
             size, digest = copies(place.path, lambda copy: stamp_at(handle, status.st_size, copy))
         finally:
             os.close(handle)
         self.tells.read(size)
-        return line_of_file(stat.S_IMODE(status.st_mode), size, digest, path)
+        return line_of_file(attributes, size, digest, path)
 
 
-def directory_line(handle, path):
-    kind = b"o" if is_opaque(handle) else b"d"
-    return line_of_directory(kind, stat.S_IMODE(os.fstat(handle).st_mode), path)
+def directory_line(handle, attributes, path):
+    return line_of_directory(b"o" if is_opaque(handle) else b"d", attributes, path)
 
 
 def whiteout_line(status, path):

@@ -5,9 +5,10 @@ import gzip
 import json
 import lzma
 import random
+import re
 import shutil
 
-from scenes.running import ABC, LAYER, TOP, Failed, expect, named, removing, run, shortened, tree_text
+from scenes.running import ABC, LAYER, TOP, Failed, Skipped, expect, knows_owners, named, owned, removing, run, shortened, tree_text
 from scenes.stores import digest, in_a_place
 from scenes.tars import BLOCK, Packs, archive_of, deb, device, directory, docker, file, folder_of, hard, header, layout, link, long_name, package, padded, pax, pax_text, record, tar, with_sum
 from scenes.tools import beside, left, tool
@@ -17,6 +18,10 @@ from scenes.tree_texts import read_tree
 LAYERS = 60
 A = f"f 644 3 {ABC} a"
 MARK = ("--format=layer",)
+CAPABILITY = "SCHILY.xattr.security.capability"
+UNSAID, RANGE = "file capabilities that no tree text says", "where a user and a group are numbers up to 4,294,967,294"
+OWNED, CAPABLE = A.replace("644", "644:1000:5"), A.replace("644", "644:0:0:1:1024:0:0")
+UNTOLD = f"pack: lost: {UNSAID}: 1 ({{0}}/a)\n"
 DEEP, LONG = "/".join("d" * 65), "/".join(["n" * 200] * 21)
 SPECIAL = "neither a directory nor a file nor a link nor a whiteout"
 SPARSE = {"GNU.sparse.major": 1, "GNU.sparse.minor": 0, "GNU.sparse.realsize": 8}
@@ -156,8 +161,22 @@ REFUSED = {
     **{f"a member of the kind {kind}": (tar(file("b"), header("a", kind.encode())), f"a: a member of the kind {kind}") for kind in "VMDNZ8"},
     "a path to leave out that isn't there": (tar(file("a")), "--without b: nothing below", "--without=b"),
     "layers of what has none": (tar(file("a")), "no image of a container, of which --layers packs the layers", "--layers"),
-    "a loss that isn't wanted": (tar(file("a", uid=7)), "lost: owners: 1", "--strict"),
-    "a capability that isn't wanted": (tar(pax(**{"SCHILY.xattr.security.capability": b"\1\0\0\2"}), file("a")), "lost: file capabilities: 1", "--strict"),
+    "a loss that isn't wanted": (tar(file("a"), hard("b", "a")), "lost: hard links, which become files of their own: 1", "--strict"),
+    "a capability that isn't wanted": (tar(pax(**{CAPABILITY: b"\1\0\0\2"}), file("a")), f"lost: {UNSAID}: 1", "--strict"),
+    "a top's owner that isn't wanted": (tar(directory("./", uid=7), file("a")), "lost: the owner 7:0", "--strict"),
+    "a user that is too great": (tar(file("b"), file("a", uid=2**32 - 1)), f"a: an owner 4294967295:0, {RANGE}"),
+    "a group that is too great": (tar(file("b"), directory("a", gid=2**40)), f"a: an owner 0:1099511627776, {RANGE}"),
+    "a user that is far too great": (tar(link("a", "b", uid=2**55)), f"a: an owner {2**55}:0, {RANGE}"),
+    "a user below zero": (tar(file("a", uid=-1)), f"a: an owner -1:0, {RANGE}"),
+    "a group far below zero": (tar(file("a", gid=-(2**54))), f"a: an owner 0:{-2**54}, {RANGE}"),
+    "a user below zero in octal": (tar(file("b"), file("a", uid=b"-000001")), f"a: an owner -1:0, {RANGE}"),
+    "a user that is none": (tar(file("b"), file("a", uid=b"root")), "a faulty header"),
+    "a user that is too great in pax": (tar(pax(uid=2**32 - 1), file("a")), f"a: an owner 4294967295:0, {RANGE}"),
+    "a user of many digits in pax": (tar(pax(uid="9" * 60), file("a")), "a: a faulty owner"),
+    "a group below zero in pax": (tar(pax(gid=-1), file("a")), f"a: an owner 0:-1, {RANGE}"),
+    **{f"the user {value!r} in pax": (tar(pax(uid=value), file("a", uid=7)), "a: a faulty owner") for value in ("root", "0x7", "1_0", "7.0", "٧", "7 ", "+7")},
+    "the group of all members in pax": (tar(pax(b"g", gid="x"), file("a")), "a: a faulty owner"),
+    "the owner of a hard link's file": (tar(directory("d"), file("d/f", uid=2**33), hard("a", "d/f")), f"a: an owner {2**33}:0, {RANGE}", "--without=d"),
     "another format than was named": (tar(file("a")), "no package of Debian", "--format=deb"),
     "another format than was named, too": (tar(file("a")), "no image of erofs", "--format=erofs"),
     "a folder that is none": (tar(file("a")), "no folder", "--format=folder"),
@@ -179,7 +198,6 @@ REFUSED = {
     "a package with a name above": (deb(tar(file("../a")), b"data.tar"), "../a: a name with `..`"),
 }
 
-OWNED, CAPABLE = "pack: lost: owners: 1 ({0}/a)\n", "pack: lost: file capabilities: 1 ({0}/a)\n"
 NOTED, HOLED = "pack: lost: other extended attributes: 1 ({0}/a)\n", "pack: lost: holes, which are filled: 1 ({0}/s)\n"
 LINKED = "pack: lost: hard links, which become files of their own: 1 ({0}/b)\n"
 TWICE = "pack: {0}: names that came more than once, of which the last counts: 1 (a)\n"
@@ -217,8 +235,28 @@ PACKED = {
     "a directory that comes after what is in it": (tar(file("d/a"), directory("d", mode=0o700)), ("d 700 d", A.replace(" a", " d/a")), ""),
     "a whiteout of overlayfs": (tar(device("w", major=0, minor=0)), ("w w",), ""),
     "an opaque directory of overlayfs": (tar(pax(**{"SCHILY.xattr.user.overlay.opaque": "y"}), directory("d")), ("o 755 d",), ""),
-    "an owner": (tar(file("a", uid=1000, gid=5)), (A,), OWNED),
-    "a capability": (tar(pax(**{"SCHILY.xattr.security.capability": b"\1\0\0\2\xff"}), file("a")), (A,), CAPABLE),
+    "owners": (tar(directory("d", uid=7), file("d/a", uid=1000, gid=5), link("l", "x", gid=9)), ("d 755:7:0 d", OWNED.replace(" a", " d/a"), "l 1:0:9 x l"), ""),
+    "owners that are to be root's": (tar(directory("d", uid=-1), file("d/a", gid=2**40), link("l", "x", uid=9)), ("d 755 d", A.replace(" a", " d/a"), "l 1 x l"), "", "--root-owned"),
+    "owners that are to be kept": (tar(file("a", uid=1000, gid=5)), (OWNED,), "", "--keep-owners"),
+    "an owner in base 256": (tar(file("a", uid=2**32 - 2, gid=2**21)), (A.replace("644", "644:4294967294:2097152"),), ""),
+    "an owner of eight digits": (tar(file("b"), file("a", uid=b"00001750", gid=b"     5 ")), (OWNED, A.replace(" a", " b")), ""),
+    "an owner in pax": (tar(pax(uid=1000, gid="0005"), file("a", uid=3, gid=4)), (OWNED,), ""),
+    "a root in pax": (tar(pax(uid=0), file("a", uid=3, gid=0)), (A,), ""),
+    "an owner of all members": (tar(pax(b"g", uid=1000), file("a", gid=5), pax(uid=0), file("b")), (OWNED, A.replace(" a", " b")), ""),
+    "names of owners don't count": (tar(pax(uname="root", gname="root"), file("a", uid=1000, gid=5)), (OWNED,), ""),
+    "owners of what isn't told": (tar(directory("./", uid=0), device("w", major=0, minor=0, uid=2**40), file("x/a", uid=2**40), file("y/.wh.a")), ("w w", "d 755 y", A.replace(" a", " y/.wh.a")), "", "--without=x"),
+    "the owner of the top": (tar(directory("./", uid=7, gid=8), file("a")), (A,), "pack: lost: the owner 7:8 of {0} itself, which is 0:0 where a command puts it\n"),
+    "the owner of a directory that didn't come": (tar(file("d/a", uid=1000, gid=5)), ("d 755 d", OWNED.replace(" a", " d/a")), ""),
+    "the owner of a hard link": (tar(file("a", uid=1000, gid=5), hard("b", "a", uid=3)), (OWNED, OWNED.replace(" a", " b")), LINKED),
+    "owners below usr": (tar(directory("bin", uid=3), file("bin/a", uid=1000, gid=5)), ("d 755 usr", "d 755:3:0 usr/bin", OWNED.replace(" a", " usr/bin/a")), "", "--usr-merge"),
+    "a capability": (tar(pax(**{CAPABILITY: b"\1\0\0\2" + bytes([0, 4]) + bytes(14)}), file("a")), (CAPABLE,), ""),
+    "a capability of libarchive": (tar(pax(**{"LIBARCHIVE.xattr.security.capability": "AQAAAgAEAAAAAAAAAAAAAAAAAAA"}), file("a")), (CAPABLE,), ""),
+    "both forms of a capability": (tar(pax(**{"LIBARCHIVE.xattr.security.capability": "AQAAAg", CAPABILITY: b"\1\0\0\2" + bytes([0, 4]) + bytes(14)}), file("a")), (CAPABLE,), ""),
+    "a capability of a user's": (tar(pax(**{CAPABILITY: b"\0\0\0\3" + b"\xff" * 16 + b"\7\0\0\0"}), file("a", uid=1000, gid=5)), (OWNED.replace(" 3", ":0:18446744073709551615:18446744073709551615:7 3"),), ""),
+    "a capability of a hard link": (tar(pax(**{CAPABILITY: b"\1\0\0\2" + bytes([0, 4]) + bytes(14)}), file("a"), hard("b", "a")), (CAPABLE, CAPABLE.replace(" a", " b")), LINKED),
+    "a capability of a directory": (tar(pax(**{CAPABILITY: b"\1\0\0\2" + bytes(16)}), directory("a")), ("d 755 a",), UNTOLD),
+    "a capability of a link": (tar(pax(**{CAPABILITY: b"\1\0\0\2" + bytes(16)}), link("a", "b")), ("l 1 b a",), UNTOLD),
+    "setuid with its owner": (tar(file("a", mode=0o6755, uid=1000, gid=5)), (OWNED.replace("644", "6755"),), ""),
     "an attribute": (tar(pax(**{"LIBARCHIVE.xattr.user.a%20b": "YQ"}), file("a")), (A,), NOTED),
     "an access list": (tar(pax(**{"SCHILY.acl.access": "user::rw-"}), file("a")), (A,), NOTED),
     "holes": (tar(sparse(b"1\n2\n3\n", b"abc")), (SPARSE_LINE,), HOLED),
@@ -279,6 +317,13 @@ def what_is_hostile_is_refused_by_name(place):
                 raise Failed(f"{name}: there stand {shortened(sorted(stands_beside(place)))}")
 
 
+def form_of(lines):
+    """What makes a tree text of such lines."""
+    if any(re.match("[dofl] [0-9]+:", line) for line in lines):
+        return owned
+    return removing if any(line[:2] in ("o ", "w ") for line in lines) else tree_text
+
+
 def what_is_unusual_is_packed(place):
     archive, depot = beside(place, "x.tar"), beside(place, "packed")
     with Packs(place.program) as packs:
@@ -288,7 +333,7 @@ def what_is_unusual_is_packed(place):
             if (status, told) != (0, said.format(archive)):
                 raise Failed(f"{name}: the status is {status}, and what is told {shortened(told)}")
             check_resource(depot, "r", name)
-            wanted = (removing if any(line[:2] in ("o ", "w ") for line in lines) else tree_text)(*lines)
+            wanted = form_of(lines)(*lines)
             if (depot / "r.tree").read_bytes() != wanted:
                 raise Failed(f"{name}: its text is {shortened((depot / 'r.tree').read_bytes())}")
             shutil.rmtree(depot)
@@ -381,21 +426,25 @@ def a_blob_with_another_digest_is_refused(place):
 NAMES = "a", "b", "c d", "ü"
 
 
-def layer_of(rng, depth=2, above=""):
+CAPABILITIES = {}, {}, {CAPABILITY: b"\1\0\0\2" + bytes([0, 4]) + bytes(14)}
+
+
+def layer_of(rng, owners, depth=2, above=""):
     """The members of a layer, with whiteouts and marks in it, and no member for some of its directories."""
     found = []
     for name in NAMES:
         path, kind = above + name, rng.choice(("none", "none", "file", "link", "directory", "directory", "bare", "whiteout", "both", "opaque"))
         if kind == "file":
-            found.append(file(path, rng.choice((b"", b"abc", b"def")), mode=rng.choice((0o644, 0o755, 0o4755))))
+            words = rng.choice(CAPABILITIES) if owners[1:] else {}
+            found.append((pax(**words) if words else b"") + file(path, rng.choice((b"", b"abc", b"def")), mode=rng.choice((0o644, 0o755, 0o4755)), uid=rng.choice(owners)))
         if kind == "link":
-            found.append(link(path, rng.choice(("a", "../b c"))))
+            found.append(link(path, rng.choice(("a", "../b c")), gid=rng.choice(owners)))
         if kind in ("whiteout", "both"):
             found.append(file(f"{above}.wh.{name}", b""))
         if kind in ("directory", "both", "opaque"):
-            found.append(directory(path, mode=rng.choice((0o755, 0o700, 0o1777))))
+            found.append(directory(path, mode=rng.choice((0o755, 0o700, 0o1777)), uid=rng.choice(owners)))
         if kind in ("directory", "both", "opaque", "bare") and depth:
-            found += layer_of(rng, depth - 1, f"{path}/")
+            found += layer_of(rng, owners, depth - 1, f"{path}/")
         if kind == "opaque":
             found.append(file(f"{path}/.wh..wh..opq", b""))
     rng.shuffle(found)
@@ -405,7 +454,7 @@ def layer_of(rng, depth=2, above=""):
 def random_layers_are_laid_as_the_program_lays_them(place):
     """Each image is packed as one tree and by its layers, whose texts `layer` lays over one another. Every second time the tool takes
     nothing for short enough for the program, and lays the layers alone."""
-    rng, archive, depot = random.Random(7), beside(place, "x.tar"), beside(place, "packed")
+    rng, archive, depot, owners = random.Random(7), beside(place, "x.tar"), beside(place, "packed"), (0, 0, 5) if knows_owners(place.program) else (0,)
     tools = beside(place, "tools")
     shutil.copytree(TOP / "tools", tools)
     whole = (tools / "reading.py").read_text()
@@ -414,7 +463,7 @@ def random_layers_are_laid_as_the_program_lays_them(place):
     refused = packed = 0
     with Packs(place.program) as packs, Packs(place.program, tools) as alone:
         for at in range(LAYERS):
-            layers = [tar(*layer_of(rng)) for _ in range(rng.randrange(1, 5))]
+            layers = [tar(*layer_of(rng, owners)) for _ in range(rng.randrange(1, 5))]
             archive.write_bytes(archive_of((layout if at % 2 else docker)(*layers)))
             status, told = (packs, alone)[at // 2 % 2].run("--quiet", archive, depot, "one")
             if status:
@@ -432,8 +481,24 @@ def random_layers_are_laid_as_the_program_lays_them(place):
         raise Failed(f"{packed} images were packed, and {refused} refused")
 
 
+def a_directory_has_the_owner_of_the_topmost_layer_that_has_it(place):
+    """Also where that isn't the layer of what is in it; and root's, where a layer between them took the directory away."""
+    if not knows_owners(place.program):
+        raise Skipped("the program knows no owners")
+    archive, upper = beside(place, "x.tar"), (file("c/a"), file("d/a"), file("e/a"))
+    lower = tar(*(directory(name, mode=0o700, uid=7, gid=8) for name in "cde"), link("l", "x", uid=7))
+    archive.write_bytes(archive_of(layout(lower, tar(directory("d", uid=9), file(".wh.e"), link("l", "y", gid=5)), tar(*upper))))
+    expect(tool(place, "pack", archive, place.depot, "one"), (b"", b"", 0))
+    expect(tool(place, "pack", "--layers", archive, place.depot, "all"), (b"", b"", 0))
+    files = [A.replace(" a", f" {name}/a") for name in "cde"]
+    wanted = owned("d 700:7:8 c", files[0], "d 755:9:0 d", files[1], "d 755 e", files[2], "l 1:0:5 y l")
+    for resource, text in ("one", wanted), ("all/03", owned(*wanted.decode().splitlines()[1:-2])):
+        if (place.depot / f"{resource}.tree").read_bytes() != text:
+            raise Failed(f"the text of {resource} is {shortened((place.depot / f'{resource}.tree').read_bytes())}")
+
+
 CALLS = [
     *(what_is_hostile_is_refused_by_name, what_is_unusual_is_packed, images_are_refused_by_name, a_blob_with_another_digest_is_refused),
-    *(random_layers_are_laid_as_the_program_lays_them,),
+    *(random_layers_are_laid_as_the_program_lays_them, a_directory_has_the_owner_of_the_topmost_layer_that_has_it),
 ]
 scenes = named(*map(in_a_place, CALLS))

@@ -2,12 +2,13 @@
 import hashlib
 import re
 
+from scenes.owners import with_owners
 from scenes.running import TOP
 
 ESCAPES = {b"s": b" ", b"n": b"\n", b"t": b"\t", b"r": b"\r", b"\\": b"\\", b")": b")", b"e": b"", b"\n": b""}
 BLOCK = re.compile(rb"^text (\S+)\n(.*?)^end of \1$", re.M | re.S)
 # A resource of the depot, entry by entry.
-RESOURCE = re.compile(rb"^resource \S+\n((?:(?:[fdo](?::[0-7]+)?|[lw]) .*\n)+)", re.M)
+RESOURCE = re.compile(rb"^resource \S+\n((?:(?:[fdol](?::[0-9:]+)?|w) .*\n)+)", re.M)
 
 
 def unescaped(text):
@@ -23,12 +24,17 @@ def of_cases():
 
 def entry_line(word, path, *rest):
     """The line of an entry in a tree text, from the words of its statement."""
-    kind, _, mode = word.partition(b":")
+    kind, colon, told = word.partition(b":")
     if kind == b"f":
-        return b"f %b %d %b %b" % (mode or b"644", len(rest[0]), hashlib.sha256(rest[0]).hexdigest().encode(), path)
+        return b"f %b %d %b %b" % (told or b"644", len(rest[0]), hashlib.sha256(rest[0]).hexdigest().encode(), path)
     if kind == b"l":
-        return b"l %d %b %b" % (len(rest[0]), rest[0], path)
-    return b"w " + path if kind == b"w" else b"%b %b %b" % (kind, mode or b"755", path)
+        return b"l %d%b %b %b" % (len(rest[0]), colon + told, rest[0], path)
+    return b"w " + path if kind == b"w" else b"%b %b %b" % (kind, told or b"755", path)
+
+
+def version_needed(line):
+    """The least version of a text that may have the line of an entry."""
+    return 3 if re.match(rb"(?:[dof] [0-7]+|l [0-9]+):", line) else 2 if line[:2] in (b"o ", b"w ") else 1
 
 
 def tree_of(statements):
@@ -40,8 +46,7 @@ def tree_of(statements):
         for depth in range(1, len(names)):
             found.setdefault(tuple(names[:depth]), entry_line(b"d", b"/".join(names[:depth])))
         found[tuple(names)] = entry_line(word, path, *rest)
-    version = 2 if any(line[:2] in (b"o ", b"w ") for line in found.values()) else 1
-    return b"\n".join([b"hostext-tree %d" % version, *(found[names] for names in sorted(found)), b"end", b""])
+    return b"\n".join([b"hostext-tree %d" % max(map(version_needed, found.values())), *(found[names] for names in sorted(found)), b"end", b""])
 
 
 def of_resources():
@@ -56,13 +61,16 @@ def chosen(form, most=4_000, texts=of_cases):
 
 
 def tree_texts():
-    """Those of the examples, three times as often as all others."""
+    """Those of the examples, as often as all others six times, and a part of all with owners."""
     examples = [path.read_bytes() for path in sorted((TOP / "examples").rglob("*.tree"))]
-    return examples * 3 + sorted({*chosen(rb"\Ahostext-tree "), *chosen(rb"\Ahostext-tree ", texts=of_resources)})
+    others = sorted({*chosen(rb"\Ahostext-tree "), *chosen(rb"\Ahostext-tree ", texts=of_resources)})
+    owners = [with_owners(text, salt) for text in examples for salt in (b"", b"a", b"b")] + [with_owners(text) for text in others]
+    return examples * 3 + others + owners
 
 
 def index_texts():
-    return chosen(rb"\Ahostext-store ")
+    texts = chosen(rb"\Ahostext-store ")
+    return texts + [with_owners(text) for text in texts]
 
 
 def sequences():

@@ -162,7 +162,7 @@ def place_of(words, first_words=FORMS):
 
 IN_A_LINE = [name for name in FORMS if name not in NOT_IN_A_LINE]
 
-TREE = rb"hostext-tree [12]\n(?:[dofl] [^\n]*\n|w [^\n]*\n)*?end\n"
+TREE = rb"hostext-tree [123]\n(?:[dofl] [^\n]*\n|w [^\n]*\n)*?end\n"
 MERGED = rb"(?:unmerged|merged [0-9]+(?:\n[^\n/]+)*?)\n"
 REFUSED = {
     b"no-store": 1, b"store-exists": 2, b"merged": 3, b"read-only": 4, b"no-host-release": 5, b"bad-host-release": 6, b"limit": 7, b"no-entry": 8, b"not-directory": 9,

@@ -131,7 +131,7 @@ def ends_without_a_trace(run, number, folder):
     """Ends a run once a file system of it is mounted."""
     until("nothing is mounted", lambda: stands(folder) or run.poll() is not None)
     if run.poll() is not None:
-        raise Skipped(run.communicate()[0].decode().splitlines()[0])
+        raise Skipped(run.stdout.readline().decode().rstrip().removeprefix("skipped: "))
     run.send_signal(number)
     run.communicate(timeout=SECONDS)
     if run.returncode != (-number if number == signal.SIGKILL else 128 + number):

@@ -20,7 +20,7 @@ sys.path.insert(0, str(TOP / "tools"))
 
 import ending
 
-NAME = "hostext_0.2.0_amd64.deb"
+NAME = "hostext_0.3.0_amd64.deb"
 PYTHON = b"#!/usr/bin/env python3\n", b"#!/usr/bin/python3\n"
 # What the package has that isn't installed, and the other way round.
 OWN = "usr/share/doc/hostext/copyright", "usr/share/doc/hostext/changelog"
@@ -149,7 +149,7 @@ def a_debian_system_takes_it_and_is_left_as_it_was(place):
     words = ["unshare", "--mount", "sh", "-c", IN_A_ROOT, "sh", root, room, package]
     ended = subprocess.run(words, stdin=subprocess.DEVNULL, capture_output=True, text=True, timeout=SECONDS)
     lines = ended.stdout.splitlines()
-    if ended.returncode or lines[0] != "hostext 0.2.0" or lines[-1] != "less":
+    if ended.returncode or lines[0] != "hostext 0.3.0" or lines[-1] != "less":
         raise Failed(f"it ends with {ended.returncode}: {shortened(ended.stdout)} {shortened(ended.stderr)}")
 
 

@@ -9,7 +9,10 @@ sys.path.insert(0, str(TOP / "tools"))
 
 from citing import Sources, crates_of
 from defining import DOCUMENT, WORDS, document
+from drawing import HOUSE, PARTS, PARTS_TEXT, PICTURES, house, parts
 from entries import Refused
+from house import rooms_of
+from promising import PROMISES, promises
 
 
 def cells_of(line):
@@ -56,15 +59,15 @@ def check_definitions(sources):
         raise Failed(f"{DOCUMENT} isn't what the sources say: tools/definitions writes it anew")
 
 
-def refused(sources, why):
-    """What the definitions cannot be written of, with the first reason."""
+def refused(sources, why, write=document):
+    """What a document or a picture can't be made of, with the first reason."""
     try:
-        document(sources)
+        write(sources)
     except Refused as reason:
         if reason.args[0] != why:
             raise Failed(f"it is refused since {reason.args[0]}, and not since {why}") from None
         return
-    raise Failed(f"the definitions are written, though {why}")
+    raise Failed(f"it is written, though {why}")
 
 
 def check_crates(sources):
@@ -73,15 +76,41 @@ def check_crates(sources):
     nothing_is_missing("crates.txt has no line for", rows - set(crates_of(sources)))
 
 
-def check_floors(sources):
-    """The picture of the floors: each crate is one floor above the highest that it stands on."""
-    picture = re.search(r"```\n(.*?)```", section(sources.text("docs/ARCHITECTURE.md"), "The crates"), re.S)[1]
-    shown = {f"ext_{name}": int(line.split()[0]) for line in picture.splitlines() for name in line.split()[1:]}
+def check_order(sources):
+    """The rooms, from below: each crate stands on none but those above it in their tables."""
+    rows = [quoted(row[0])[0] for row in rows_of(section(sources.text("docs/ARCHITECTURE.md"), "The crates"))]
+    above = {crate: set(rows[:at]) for at, crate in enumerate(rows)}
     lines = [line.split(":") for line in sources.text("crates.txt").splitlines() if line[:1].isalpha()]
-    floors = {}
+    late = {f"{lower} above {crate}" for crate, below in lines for lower in below.split() if lower in above and lower not in above.get(crate, ())}
+    nothing_is_missing("docs/ARCHITECTURE.md hasn't", late)
+
+
+def check_list(sources):
+    """That crates.txt goes by room: a comment for each, and its crates in the order of its table."""
+    listed = [room or crate for room, crate in re.findall(r"^# ([A-Z][a-z]+(?: [a-z]+)*)$|^(ext_\w+):", sources.text("crates.txt"), re.M)]
+    wanted = [one for room, crates in rooms_of(sources).items() for one in (room, *crates)]
+    if listed != wanted:
+        raise Failed(f"crates.txt goes by {listed}, and docs/ARCHITECTURE.md by {wanted}")
+
+
+def check_floors(sources):
+    """The picture of the crates: each is one floor above the highest that it stands on."""
+    floors = re.findall(r'<g id="floor-(\d+)">(.*?)</g>', sources.text(HOUSE), re.S)
+    shown = {f"ext_{name}": int(floor) for floor, drawn in floors for name in re.findall(r">([a-z_]+)</text>", drawn)}
+    lines = [line.split(":") for line in sources.text("crates.txt").splitlines() if line[:1].isalpha()]
+    wanted = {}
     for name, below in lines:
-        floors[name] = 1 + max((floors[crate] for crate in below.split() if crate in floors), default=0)
-    nothing_is_missing("the picture of docs/ARCHITECTURE.md has on another floor", {name for name in floors.keys() | shown.keys() if floors.get(name) != shown.get(name)})
+        wanted[name] = 1 + max((wanted[crate] for crate in below.split() if crate in wanted), default=0)
+    nothing_is_missing(f"{HOUSE} has on another floor", {name for name in wanted.keys() | shown.keys() if wanted.get(name) != shown.get(name)})
+
+
+def check_promises(sources):
+    if sources.text(PROMISES) != promises(sources):
+        raise Failed(f"{PROMISES} isn't what the sources say: tools/promises writes it anew")
+
+
+def check_pictures(sources):
+    nothing_is_missing("tools/pictures draws anew", {path for path, draw in PICTURES.items() if sources.text(path) != draw(sources)})
 
 
 def check_refusals(sources):
@@ -139,7 +168,7 @@ def has_status(row, number, words):
 
 
 def check_statuses(sources, shown):
-    for path, heading in ("docs/FORMATS.md", "Statuses"), ("README.md", "The commands"):
+    for path, heading in ("docs/FORMATS.md", "Statuses"), ("docs/COMMANDS.md", "Statuses"):
         rows = rows_of(section(sources.text(path), heading))
         missing = {f"{number} {words}" for number, words in statuses_of(sources) if not any(has_status(row, number, words) for row in rows)}
         nothing_is_missing(f"{path} has no row for", missing)
@@ -160,12 +189,12 @@ def commands_of(sources):
 
 
 def check_commands(sources, shown):
-    """Each stands in the grammar and in the table of FORMATS, in README's table, and in --help."""
+    """Each stands in the grammar and in the table of FORMATS, in the table of COMMANDS, and in --help."""
     commands, verbs = commands_of(sources)
-    formats, readme = sources.text("docs/FORMATS.md"), sources.text("README.md")
+    formats, commands_told = sources.text("docs/FORMATS.md"), sources.text("docs/COMMANDS.md")
     grammar = re.search(r"```\n(.*?)```", section(formats, "Words"), re.S)[1].splitlines()
     told = [word for row in first_table(section(formats, "Commands")) for words in quoted(row[0]) for word in words.split()]
-    listed = [words for row in first_table(section(readme, "The commands")) for words in quoted(row[0])]
+    listed = [words for row in first_table(section(commands_told, "The commands")) for words in quoted(row[0])]
     for command in commands:
         line = next((line.split() for line in grammar if line.split()[0] == command), None)
         if line is None or not set(verbs.get(command, ())) <= set(line):
@@ -173,7 +202,7 @@ def check_commands(sources, shown):
         if command not in told:
             raise Failed(f"no row of docs/FORMATS.md tells what `{command}` does")
         if not any(words.split()[0] == command for words in listed):
-            raise Failed(f"README.md has no row for `{command}`")
+            raise Failed(f"docs/COMMANDS.md has no row for `{command}`")
         if not re.search(rf"^  {command}\b", shown, re.M):
             raise Failed(f"--help lacks `{command}`")
     for command, verb in ((command, verb) for command in ("sysext", "sysupdate", "portable") for verb in verbs[command]):
@@ -186,6 +215,14 @@ def check_questions(sources):
     nothing_is_missing("docs/DECISIONS.md has rows that begin with no question", {row[0] for row in rows if not row[0].endswith("?")})
     if not rows:
         raise Failed("docs/DECISIONS.md has no row")
+
+
+def check_order_of_decisions(sources):
+    """Those of rooms stand first, in the order of the rooms."""
+    rooms = [room for room in rooms_of(sources) if f"\n## {room}\n" in sources.text("docs/DECISIONS.md")]
+    headings = re.findall(r"^## (.*)$", sources.text("docs/DECISIONS.md"), re.M)
+    if not rooms or headings[: len(rooms)] != rooms:
+        raise Failed(f"docs/DECISIONS.md goes by {headings}, and not first by {rooms}")
 
 
 def check_kit(sources, written):
@@ -229,7 +266,37 @@ def the_definitions_are_those_of_the_sources(_program):
 
 def each_crate_is_in_the_map_and_on_its_floor(_program):
     check_crates(Sources())
+    check_order(Sources())
+    check_list(Sources())
     check_floors(Sources())
+
+
+def the_promises_are_the_heads_of_the_crates(_program):
+    """And what stands above them stays as it is."""
+    check_promises(Sources())
+    written, edited = Sources().text(PROMISES), "crates/ext_match/src/lib.rt"
+    source = Sources().text(edited)
+    first = source.splitlines(keepends=True)[0]
+    if promises(Sources(instead={edited: source.replace(first, "//! What [`judge`](ext_match::judge) says.\n")})).count("\nWhat `judge` says.\n") != 1:
+        raise Failed("the head of a crate isn't what its part has")
+    changed = {PROMISES: written.replace("# Promises\n", "# Promised\n")}
+    if promises(Sources(instead=changed)) != changed[PROMISES]:
+        raise Failed("what stands above the crates doesn't stay")
+    refused(Sources(instead={edited: source.replace("//!", "//")}), f"{edited} begins without a comment", promises)
+    refused(Sources(instead={PROMISES: "# Promises\n"}), f"{PROMISES} has no heading 'Crate by crate'", promises)
+
+
+def the_pictures_are_those_of_the_sources(_program):
+    check_pictures(Sources())
+    text, rooms = Sources().text(PARTS_TEXT), Sources().text("docs/ARCHITECTURE.md")
+    if parts(Sources(instead={PARTS_TEXT: text.replace("tools/pack", "by hand")})) != Sources().text(PARTS).replace("tools/pack", "by hand"):
+        raise Failed("the words of an arrow aren't those of its line")
+    refused(Sources(instead={PARTS_TEXT: ""}), f"{PARTS_TEXT} doesn't begin with a size", parts)
+    for line, why in ("circle a", "a line that is no size, box, frame or arrow: circle a"), ("arrow a.top depot.top: x", "an arrow at a.top, which is no side of a box above it"):
+        refused(Sources(instead={PARTS_TEXT: f"{text}{line}\n"}), f"{PARTS_TEXT} has {why}", parts)
+    row = next(line for line in rooms.splitlines(keepends=True) if line.startswith("| `ext_host` |"))
+    for other, why in ("", "no room for ext_host of crates.txt"), (row * 2, "ext_host twice"), (row + "| `ext_no` | |\n", "ext_no, which crates.txt hasn't"):
+        refused(Sources(instead={"docs/ARCHITECTURE.md": rooms.replace(row, other)}), f"docs/ARCHITECTURE.md has {why}", house)
 
 
 def each_refusal_status_and_command_is_told(program):
@@ -247,8 +314,9 @@ def the_version_names_the_kit_of_the_documents(program):
             is_missed(check_kit, path, begin, written)
 
 
-def each_decision_begins_with_a_question(_program):
+def each_decision_begins_with_a_question_and_stands_in_its_room(_program):
     check_questions(Sources())
+    check_order_of_decisions(Sources())
 
 
 def is_missed(check, path, begin, *given):
@@ -270,14 +338,20 @@ def a_row_that_is_taken_away_is_missed(program):
     is_missed(check_definitions, DOCUMENT, "| what a command wants of a store |")
     for crate in "ext_lines", "ext_trial", "ext_cli":
         is_missed(check_crates, "docs/ARCHITECTURE.md", f"| `{crate}` |")
-    is_missed(check_floors, "docs/ARCHITECTURE.md", " 7  index")
+    for crate in "ext_match", "ext_trial":
+        is_missed(check_floors, "crates.txt", f"{crate}:")
+    is_missed(check_list, "crates.txt", "# Trees")
+    is_missed(check_order, "docs/ARCHITECTURE.md", "| `ext_text` |")
+    is_missed(check_promises, PROMISES, "Verdicts: whether an extension fits")
+    for path in PICTURES:
+        is_missed(check_pictures, path, " <text")
     for begin in "| 1 | `no-store`", "| 7 | `limit", "| 25 |":
         is_missed(check_refusals, "docs/FORMATS.md", begin)
     for begin in "| 34 | ", "| 36 | ", "| 6 | `hostext: out fault":
         is_missed(check_publishing, "docs/FORMATS.md", begin)
-    for path, begin in (("docs/FORMATS.md", "| 9 | `hostext"), ("README.md", "| 9 |"), ("README.md", "| 1 |")):
+    for path, begin in (("docs/FORMATS.md", "| 9 | `hostext"), ("docs/COMMANDS.md", "| 9 |"), ("docs/COMMANDS.md", "| 1 |")):
         is_missed(check_statuses, path, begin, shown)
-    for path, begin in (("docs/FORMATS.md", "migrate"), ("docs/FORMATS.md", "| `cat`"), ("README.md", "| `remove"), ("README.md", "| `sysext")):
+    for path, begin in (("docs/FORMATS.md", "migrate"), ("docs/FORMATS.md", "| `cat`"), ("docs/COMMANDS.md", "| `remove"), ("docs/COMMANDS.md", "| `sysext")):
         is_missed(check_commands, path, begin, shown)
     for lost, check in ("\n  tree ", check_commands), ("9 unfinished", check_statuses):
         try:
@@ -288,6 +362,8 @@ def a_row_that_is_taken_away_is_missed(program):
 
 
 scenes = named(
-    *(the_definitions_are_those_of_the_sources, each_crate_is_in_the_map_and_on_its_floor, each_refusal_status_and_command_is_told),
-    *(the_version_names_the_kit_of_the_documents, each_decision_begins_with_a_question, a_row_that_is_taken_away_is_missed),
+    *(the_definitions_are_those_of_the_sources, each_crate_is_in_the_map_and_on_its_floor, the_pictures_are_those_of_the_sources),
+    each_refusal_status_and_command_is_told,
+    the_promises_are_the_heads_of_the_crates,
+    *(the_version_names_the_kit_of_the_documents, each_decision_begins_with_a_question_and_stands_in_its_room, a_row_that_is_taken_away_is_missed),
 )

@@ -10,7 +10,7 @@ from scenes import kinds
 from scenes.index_texts import Index
 from scenes.judging import Bench
 from scenes.kinds import SHARES, read_manifest
-from scenes.mutating import ALL, LENGTHENING
+from scenes.mutating import ALL, LENGTHENING, OF_ENTRIES
 from scenes.releases import read_release
 from scenes.running import SECONDS, TOP, Failed, named
 from scenes.shrinking import reason_of, shrunk
@@ -49,7 +49,10 @@ WRONG = [
     ('exec {program} "$@" | sed s/fits/version/', kinds.Releases, "and not"),
     ('exec {program} "$@" | sed s/available/installed/', kinds.Transfers, "and not"),
     ('exec {program} "$@" | sed "s/beta on/beta off/"', kinds.Features, "and not"),
-    ('exec {program} "$@" | sed "s/^d 755 usr$/d 700 usr/"', kinds.Images, "it wrote"),
+    ('exec {program} "$@" | sed "s/^d 755\\(.*\\) usr$/d 700\\1 usr/"', kinds.Images, "it wrote"),
+    ('exec {program} "$@" | sed "s/^\\([dfl] [0-9]*\\):1000/\\1:1001/"', kinds.Trees, "and not"),
+    ('exec {program} "$@" | sed "s/^hostext-tree 3/hostext-tree 2/"', kinds.Trees, "and not"),
+    (f'{REAL}; [ $(cat "$1/current") = g-1 ] || sed -i "1s/ 2/ 3/" "$1/$(cat "$1/current")/index"; exit $status', kinds.Trees, "it wrote an index with"),
     ('exec {program} "$@" | sed s/^id/di/', kinds.Service_Releases, "and not"),
     ('exec {program} "$@" | sed "s/^f 644/f 755/"', kinds.Unit_Files, "and not"),
     ("echo 'hostext: usage 9' >&2; exit 2", kinds.Words, "and the place is|it ended with 2"),
@@ -163,11 +166,11 @@ def mutations_are_the_same_each_time_and_sound_and_faulty(program):
             raise Failed(f"of {len(sound)} mutations of {made.name} {sound.count(True)} are sound")
 
 
-TEXT = b"d 755 usr/a/b\nf 644 3 " + b"ab" * 32 + b" 7 usr/long name\nKEY=v@lue\nk 12 x\n"
+TEXT = b"hostext-tree 3\nd 755 usr/a/b\nf 644:1:2 3 " + b"ab" * 32 + b" 7 usr/long name\nKEY=v@lue\nk 12 x\n"
 
 
 def each_change_changes_something(_program):
-    for change in (*ALL, *LENGTHENING):
+    for change in (*ALL, *OF_ENTRIES, *LENGTHENING):
         found = {change(random.Random(seed), TEXT, b"d 700 other\nend\n") for seed in range(40)}
         if len(found - {TEXT}) < 2 and change.__name__ not in ("sorted_lines", "joined"):
             raise Failed(f"{change.__name__} makes {found}")

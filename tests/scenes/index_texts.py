@@ -1,11 +1,11 @@
 """A second reading of the rules of docs/FORMATS.md on the index of a generation, which tests/mutations holds the program to."""
 import re
 
-from scenes.tree_texts import DIGEST, FORMS, MODE, SIZE, Faulty, Tree, entry_of, is_name, names_of, text_of
+from scenes.tree_texts import DIGEST, FILE_FIELD, FORMS, SIZE, Faulty, Tree, entry_of, is_name, names_of, text_of, version_for
 from scenes.updates import ORDER
 
 MOST_COUNT, MOST_BYTES, MOST_INDEX_BYTES, MOST_HOME = 1_073_741_824, 4_294_967_296, 134_217_728, 262_143
-HOMED = {**FORMS, b"f": re.compile(rb"%b %b %b ([1-9][0-9]{0,9}) ([0-9a-f]{5}) (.+)" % (MODE, SIZE, DIGEST), re.S)}
+HOMED = {**FORMS, b"f": re.compile(rb"%b %b %b ([1-9][0-9]{0,9}) ([0-9a-f]{5}) (.+)" % (FILE_FIELD, SIZE, DIGEST), re.S)}
 ARCHITECTURES = b"x86", b"x86-64", b"arm", b"arm64", b"riscv64", b"s390x", b"ppc64-le", b"loongarch64"
 HOST_LINE = rb"host (?:%b) (?:system|initrd)" % b"|".join(ARCHITECTURES)
 NUMBER = rb"(0|[1-9][0-9]{0,9})"
@@ -35,7 +35,7 @@ class Index:
         if len(text) > MOST_INDEX_BYTES:
             raise Faulty(1)
         *self.lines, self.rest = text.split(b"\n")
-        self.at, self.generation, self.homes, self.past = 0, generation, {}, []
+        self.at, self.generation, self.homes, self.past, self.tells = 0, generation, {}, [], False
         self.hierarchies = {"sysext": [b"opt", b"usr"], "confext": [b"etc"]}
         self.read()
 
@@ -58,12 +58,12 @@ class Index:
         return int(self.take(rb"%b %b" % (word, NUMBER), lambda number: least <= int(number) <= most)[0])
 
     def read(self):
-        two = self.take(rb"hostext-store ([12])")[0] == b"2"
+        self.number_of_text = int(self.take(rb"hostext-store ([123])")[0])
         self.take(HOST_LINE)
-        if two:
+        if self.number_of_text > 1:
             self.read_hierarchies()
         self.host = self.read_sections()
-        if two:
+        if self.number_of_text > 1:
             self.read_past()
         self.take(rb"end")
         if self.at < len(self.lines) or self.rest:
@@ -130,9 +130,11 @@ class Index:
 
     def read_entry(self, sections, tree, is_inside):
         entry = entry_of(self.lines[self.at], HOMED) if self.at < len(self.lines) else None
-        if not entry or not is_inside(entry[2]) or not self.may_enter(sections, tree, *entry):
+        tells = bool(entry) and version_for(*entry[:2]) == 3
+        if not entry or (tells and self.number_of_text < 3) or not is_inside(entry[2]) or not self.may_enter(sections, tree, *entry):
             self.fault()
         tree.take(*entry)
+        self.tells |= tells
         self.at += 1
 
     def may_enter(self, sections, tree, kind, fields, names):
@@ -164,6 +166,10 @@ class Index:
             files = {names: fields[2] for names, (kind, fields) in base.items() if kind == b"f" and names[: len(path)] == path}
             if files != items:
                 raise Faulty(line)
+
+    def is_written(self):
+        """Whether its text has the number with which it is written: 3 where an entry tells an owner or a capability, and else 2."""
+        return self.number_of_text == (3 if self.tells else 2)
 
     def tree_text(self):
         """What `tree` writes."""

@@ -16,7 +16,7 @@ STARTER = Path(__file__).with_name("starter.py")
 SECONDS, CLOCK_SECONDS = 2, 20
 # The memory that it may take: so many bytes, and so many times its input.
 LEAST_BYTES, TIMES = 32 << 20, 20
-HOME, GENERATION = re.compile(rb"^f [0-7]+ [0-9]+ [0-9a-f]{64} ([0-9]+) [0-9a-f]{5} ", re.M), re.compile(r"g-[1-9][0-9]*")
+HOME, GENERATION = re.compile(rb"^f [0-9:]+ [0-9]+ [0-9a-f]{64} ([0-9]+) [0-9a-f]{5} ", re.M), re.compile(r"g-[1-9][0-9]*")
 REASON = rb"(hostext: [^\x00-\x1f\x7f]+\n)?"
 # What helps after a refusal of a line of a batch.
 HELP = rb"(?:hostext: line [1-9][0-9]*: [^\x00-\x1f\x7f]+\n)*"

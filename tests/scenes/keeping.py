@@ -4,7 +4,7 @@ import shutil
 import stat
 import subprocess
 
-from scenes.devices import NOBODY, become_nobody
+from scenes.devices import become_nobody
 from scenes.running import ABC, SECONDS, Failed, Skipped, expect, named, shortened, tree_text
 from scenes.stores import DONE, in_a_place
 from scenes.tools import beside, fill, holds_nothing, left, text_of, tool, tool_of_nobody
@@ -66,30 +66,62 @@ def what_only_root_may_read_nobody_reads_on_its_way(place):
         raise Failed("etc/shadow came out as something else")
 
 
-def setuid_and_setgid_go_with_the_owners_of_files(place):
-    modes = {"a": 0o4755, "b": 0o2755, "c": 0o6711, "d": 0o1644, "e": 0o4000}
-    lines = (f"f {mode:o} 3 {ABC} {name}" for name, mode in modes.items())
-    place.resource("r", tree_text(*lines, "d 2755 f", "d 1777 g"), dict.fromkeys(modes, b"abc"))
+SETID_MODES = {"a": 0o4755, "b": 0o2755, "c": 0o6711, "d": 0o1644, "e": 0o4000}
+# What takes them off, and what keeps them, where there is no owner.
+SETID_OPTIONS = ((), 0o1777), (("--quiet",), 0o1777), (("--keep-setid",), 0o7777), (("--no-setid",), 0o1777)
+SETID_LOST = b"unpack: setuid and setgid are taken off files, since owners are lost: 4 (/a, /b, /c, ..); --keep-setid keeps them\n"
+OWNERS_LOST = b"unpack: lost: owners: 7 (/a, /b, /c, ..)\n"
+
+
+def with_setid(place):
+    lines = (f"f {mode:o} 3 {ABC} {name}" for name, mode in SETID_MODES.items())
+    place.resource("r", tree_text(*lines, "d 2755 f", "d 1777 g"), dict.fromkeys(SETID_MODES, b"abc"))
     place.expect(("init x86-64 system", DONE), ("import-fs r /x", DONE))
-    told = b"unpack: setuid and setgid are taken off files, since owners are lost: 4 (/a, /b, /c, ..); --keep-setid keeps them\n"
-    for at, (options, said, kept) in enumerate((((), told, 0o1777), (("--quiet",), b"", 0o1777), (("--keep-setid",), b"", 0o7777))):
+
+
+def has_setid(out, options, kept):
+    """That files have their modes but for some bits, and directories all of theirs."""
+    found = {name: mode_of(out / name) for name in (*SETID_MODES, "f", "g")}
+    if found != {**{name: mode & kept for name, mode in SETID_MODES.items()}, "f": 0o2755, "g": 0o1777}:
+        raise Failed(f"with {options} the modes are {found}")
+
+
+def setuid_and_setgid_go_with_the_owners_of_files(place):
+    """Root gives all owners, which in a text that tells none are root's. Another user gives none of these."""
+    need_root()
+    with_setid(place)
+    for at, (options, kept) in enumerate((((), 0o7777), (("--keep-setid",), 0o7777), (("--no-setid",), 0o1777))):
         out = beside(place, f"out{at}")
-        expect(tool(place, "unpack", *options, place.store, "/x", out), (b"", said, 0))
-        found = {name: mode_of(out / name) for name in (*modes, "f", "g")}
-        if found != {**{name: mode & kept for name, mode in modes.items()}, "f": 0o2755, "g": 0o1777}:
-            raise Failed(f"with {options} the modes are {found}")
+        expect(tool(place, "unpack", *options, place.store, "/x", out), FINE)
+        has_setid(out, options, kept)
+    read_by_nobody(place)
+    for at, (options, kept) in enumerate(SETID_OPTIONS):
+        out = beside(place, "outs") / str(at)
+        told = b"" if "--quiet" in options else OWNERS_LOST + (SETID_LOST if not options else b"")
+        expect(tool_of_nobody(place, "unpack", *options, place.store, "/x", out), (b"", told, 0))
+        has_setid(out, options, kept)
+    written, told, status = tool(place, "unpack", "--keep-setid", "--no-setid", place.store, "/x", beside(place, "both"))
+    if status != 2 or not told.endswith(b"argument --no-setid: not allowed with argument --keep-setid\n") or beside(place, "both").exists():
+        raise Failed(f"both are taken: {told}")
+
+
+def read_by_nobody(place):
+    """Lets nobody read the store, and write in the folder `outs`."""
+    for path in (*place.store.rglob("*"), place.store, place.store.parent):
+        path.chmod(0o755)
+    beside(place, "outs").mkdir()
+    beside(place, "outs").chmod(0o777)
 
 
 def losing(folder):
-    """A folder that loses something of each kind, and the lines that tell it."""
+    """A folder that loses something of each kind, and the lines that tell it. A capability of a directory counts for nothing."""
     folder = fill(folder)
     names = [f"usr/own{at}" for at in range(4)]
     try:
         for name in names:
             (folder / name).write_text(name)
-            os.chown(folder / name, 1234, 0)
-        os.chown(folder / "usr/bin/link", 0, 5, follow_symlinks=False)
-        os.setxattr(folder / "usr/bin/tool", "security.capability", CAPABILITY)
+        os.setxattr(folder / "usr/bin", "security.capability", CAPABILITY)
+        os.chown(folder, 1234, 5)
         for path in "usr/ü", "usr/own3":
             os.setxattr(folder / path, "user.note", b"x")
         os.setxattr(folder / "usr", "user.overlay.opaque", b"y")
@@ -101,12 +133,12 @@ def losing(folder):
     (folder / "full").write_bytes(bytes(100_000))
     folder.chmod(0o2750)
     return folder, (
-        f"lost: owners: 7 ({folder}/usr/bin/link, {folder}/usr/own0, {folder}/usr/own1, ..)",
-        f"lost: file capabilities: 1 ({folder}/usr/bin/tool)",
+        f"lost: file capabilities that no tree text says: 1 ({folder}/usr/bin)",
         f"lost: other extended attributes: 2 ({folder}/usr/own3, {folder}/usr/ü)",
         f"lost: hard links, which become files of their own: 2 ({folder}/z1, {folder}/z2)",
         f"lost: holes, which are filled: 1 ({folder}/usr/own1)",
         f"lost: the mode 2750 of {folder} itself, which is 755 where a command puts it: others can read and enter it",
+        f"lost: the owner 1234:5 of {folder} itself, which is 0:0 where a command puts it",
     )
 
 
@@ -122,20 +154,6 @@ def each_loss_is_told_or_refused(place):
     if (place.depot / "q.tree").read_bytes() != text_of(place, folder):
         raise Failed("the text is another than that of the folder")
     expect(tool(place, "pack", "--strict", fill(beside(place, "plain")), place.depot, "p"), FINE)
-
-
-def what_is_a_users_own_is_no_loss_of_his(place):
-    """Told by a tool that runs as the user who has the entries, and as one who hasn't."""
-    need_root()
-    folder = fill(beside(place, "folder"))
-    for path in (folder, *folder.rglob("*")):
-        os.chown(path, NOBODY, NOBODY, follow_symlinks=False)
-    os.chown(folder / "usr/bin/tool", 0, 0)
-    place.store.parent.chmod(0o755)
-    place.depot.chmod(0o777)
-    expect(tool_of_nobody(place, "pack", folder, place.depot, "r"), FINE)
-    told = f"pack: lost: owners: 5 ({folder}, {folder}/usr, {folder}/usr/bin, ..)\n".encode()
-    expect(tool(place, "pack", folder, place.depot, "s"), (b"", told, 0))
 
 
 def split(folder, *paths):
@@ -190,7 +208,7 @@ def folders_beside_usr_are_told_of(place):
 
 CALLS = [
     *(what_a_depot_has_is_its_owners_alone_unless_it_is_public, what_only_root_may_read_nobody_reads_on_its_way),
-    *(setuid_and_setgid_go_with_the_owners_of_files, each_loss_is_told_or_refused, what_is_a_users_own_is_no_loss_of_his),
+    *(setuid_and_setgid_go_with_the_owners_of_files, each_loss_is_told_or_refused),
     *(what_stands_beside_usr_is_put_below_it, what_stands_in_both_is_refused, folders_beside_usr_are_told_of),
 ]
 scenes = named(*map(in_a_place, CALLS))

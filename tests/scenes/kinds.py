@@ -10,13 +10,14 @@ from scenes.index_texts import MOST_BYTES, Index
 from scenes.judging import expect
 from scenes.manifests import reading
 from scenes.mutating import of_seed
+from scenes.owners import with_owners, without_owners
 from scenes.releases import read_release, verdict
 from scenes.replies import Replies
 from scenes.running import ABC, EMPTY, TOP, Failed, tree_text
 from scenes.stores import EMPTY_INDEX, KEPT, MERGED, OLD_INDEX
 from scenes.tree_texts import Faulty, entry_of, is_name, layered, names_of, read_sequence, read_tree, resolved, text_of
 from scenes.updates import compared
-from scenes.uses import RESOURCES, TRANSFER, list_updates, tree_of
+from scenes.uses import RESOURCES, TRANSFER, list_updates, owned_tree, tree_of
 from scenes.words import CHAIN, ORDERS
 
 EXAMPLES = TOP / "examples/depot"
@@ -32,13 +33,18 @@ def files_below(folder):
     return {str(path.relative_to(folder)): path.read_bytes() for path in folder.rglob("*") if path.is_file() and not path.is_symlink()}
 
 
+def example(name):
+    """The tree text of a resource of the examples, with owners at half of its entries, others in each."""
+    return with_owners((EXAMPLES / f"{name}.tree").read_bytes(), name.encode())
+
+
 def copy_examples(bench):
     """Puts the resources of the examples, and some of the uses, into the depot."""
     for name in "host", "images/tool-2", "images/vendor":
-        bench.resource(name, (EXAMPLES / f"{name}.tree").read_bytes(), files_below(EXAMPLES / name))
+        bench.resource(name, example(name), files_below(EXAMPLES / name))
     used = "few", "x", "foos", "two-transfers", "images/tool_2", "app", "profile"
     for name, files in {**{name: RESOURCES[name] for name in used}, "conf": CONFIGURATION}.items():
-        bench.resource(name, tree_of(files), files)
+        bench.resource(name, owned_tree(files), files)
     list_updates(bench.depot / "images")
 
 
@@ -65,6 +71,17 @@ class Kind:
 
     def text(self, seed):
         return of_seed(self.name, seed, self.bases)
+
+    def expect_index(self):
+        """That a change left a sound index, of the text that its entries need."""
+        current = (self.bench.store / "current").read_bytes()
+        text, generation = (self.bench.store / current.decode().strip() / "index").read_bytes(), int(current[2:])
+        try:
+            is_written = Index(text, generation).is_written()
+        except Faulty as fault:
+            raise Failed(f"line {fault.line} of the index that it wrote is faulty") from None
+        if not is_written:
+            raise Failed(f"it wrote an index with {text[:15]}")
 
     @property
     def name(self):
@@ -142,7 +159,7 @@ class Indexes(Stored):
 
     def found_bases(self):
         own = [content for path, content in sorted(self.bench.kept.items()) if path.endswith("/index")]
-        return [*own * 8, *base_texts.index_texts(), EMPTY_INDEX, OLD_INDEX, MERGED, KEPT]
+        return [*own * 6, *map(without_owners, own * 2), *base_texts.index_texts(), EMPTY_INDEX, OLD_INDEX, MERGED, KEPT]
 
     def judge_one(self, text):
         (self.bench.store / self.path).write_bytes(text)
@@ -279,6 +296,7 @@ class Trees(Imported):
             sizes = [int(fields[1]) for kind, fields in tree.entries.values() if kind == b"f"]
             wanted += b"done\n" + text_of(tree.entries) + b"ok %d %d\n" % (len(sizes), sum(sizes))
         expect(self.bench.batch(lines, size), wanted)
+        self.expect_index()
 
 
 class Images(Imported):
@@ -289,7 +307,7 @@ class Images(Imported):
 
     def prepare(self):
         super().prepare()
-        self.host = read_tree((EXAMPLES / "host.tree").read_bytes())
+        self.host = read_tree(example("host"))
         self.bytes_beside = sum(int(fields[1]) for kind, fields in self.host.entries.values() if kind == b"f")
 
     def found_bases(self):
@@ -318,6 +336,7 @@ class Images(Imported):
             lines = b"import-fs %b %b" % (name, self.target), b"sysext list", b"sysext refresh", b"tree", b"check", b"sysext unmerge", b"tree", b"remove %b" % self.target
             written = self.bench.batch(lines, size)
             self.judge_replies(tree, written)
+            self.expect_index()
 
     def judge_replies(self, tree, ended):
         found = re.fullmatch(rb"done\nx (?:image|broken) /var/lib/extensions/x ([^\n]+)\n(.*)", ended.written, re.S)
@@ -474,7 +493,7 @@ class Updating(Kind):
     def host(self, files):
         """The resource of a host with these files."""
         whole = {"etc/os-release": HOST_RELEASE, **INSTANCES, **files}
-        text = tree_of(whole)
+        text = owned_tree(whole)
         self.bench.resource("updated", text, whole)
         return read_tree(text).entries
 
@@ -601,7 +620,7 @@ class Services(Kind):
 
     def prepare(self):
         files = {PROFILE: b"[Service]\nPrivateTmp=yes\n"}
-        self.bench.resource("host", tree_of(files), files)
+        self.bench.resource("host", owned_tree(files), files)
         self.bench.resource("empty", tree_text())
         self.bench.make("init x86-64 system", "import-fs host /", f"import-fs empty /{ATTACHED}")
 
@@ -614,7 +633,7 @@ class Services(Kind):
             files |= {f"{image.decode()}/{path}": content for path, content in found.items()}
             lines += [b"portable inspect %b app" % image, b"portable attach %b app --runtime" % image, f"tree /{ATTACHED}".encode(), b"portable detach %b" % image]
             wanted += self.said(image, found)
-        self.bench.resource("services", tree_of(files), files)
+        self.bench.resource("services", owned_tree(files), files)
         try:
             expect(self.bench.batch(lines, max(map(len, texts))), wanted)
         finally:
@@ -645,7 +664,7 @@ def is_unit(name):
 
 
 def attached_text(image, name, unit):
-    """What stands where units are attached, while this one is."""
+    """What stands where units are attached, while this one is: all of it is root's."""
     entries = {(name,): (b"f", (b"644", b"%d" % len(unit), digits_of(unit)))}
     if name.endswith(b".service"):
         drop_in = b"# hostext portable %b\n[Service]\nRootDirectory=/var/lib/portables/%b\n" % (image, image)
@@ -741,6 +760,7 @@ class Worded(Kind):
             found = self.bench.tried(["check"])
             if found.status or not re.fullmatch(rb"ok [0-9]+ [0-9]+\n", found.written):
                 raise Failed(f"`check` ends with {found.status} afterwards, and writes {found.written}")
+            self.expect_index()
         finally:
             self.bench.restore()
 

@@ -1,11 +1,18 @@
 """Mutations of texts, each drawn from a seed: of their bits and bytes, of their lines, of their numbers and names, of what stands for a
-digest, a mode or a kind, and splices of two texts."""
+digest, a mode, an owner, a capability or a kind, and splices of two texts."""
 import random
 import re
 
 NUMBER, DIGEST, WORD = re.compile(rb"[0-9]+"), re.compile(rb"[0-9A-Fa-f]{64}"), re.compile(rb"[^ \t\n]+")
 MODE, NAME, KIND = re.compile(rb"(?<=^[dof] )[0-7]+", re.M), re.compile(rb"[^/\s=:]+"), re.compile(rb"^\w", re.M)
 PATH, KEY = re.compile(rb"/[^ \t\n]+"), re.compile(rb"^[A-Za-z_]+(?==)", re.M)
+# The field of an entry that may tell an owner and a capability, one of their numbers with its colon, and the version of a text.
+FIELD, TOLD = re.compile(rb"(?:(?<=^[dof] )[0-7]+|(?<=^l )[0-9]+)(?::[0-9]+)*", re.M), re.compile(rb"(?<=[0-9]):[0-9]+")
+VERSION = re.compile(rb"(?:(?<=^hostext-tree )|(?<=^hostext-store ))[0-9]+", re.M)
+# What each number may be, and what none may be.
+USERS, SETS = (b"0", b"1", b"1000", b"4294967294"), (b"0", b"1", b"8192", b"18446744073709551615")
+SOUND = USERS, USERS, (b"0", b"1"), SETS, SETS, USERS, USERS
+NEITHER = b"", b"00", b"01", b"-1", b"4294967295", b"18446744073709551616", b"1" + b"0" * 40
 # Numbers at the edges of what formats allow, and beyond.
 NUMBERS = (
     *(b"0", b"1", b"2", b"00", b"-1", b"-0", b"+1", b"7777", b"10000", b"4096", b"4097", b"255", b"256", b"16777216", b"262143", b"262144"),
@@ -145,6 +152,23 @@ def mode(chance, digits):
     return chance.choice((b"0", b"00", b"7777", b"10000", b"888", b"0" + digits, b"%o" % chance.randrange(0o10000), b""))
 
 
+def marks(chance, field):
+    """A field with other numbers after its first: most often an owner, or with a capability."""
+    count = chance.choice((0, 1, 2, 2, 2, 2, 3, 4, 5, 6, 6, 6, 6, 7))
+    found = [chance.choice(numbers if chance.random() < 0.95 else NEITHER) for numbers in SOUND[:count]]
+    return b":".join([field.partition(b":")[0], *found]) + chance.choice((b":", *(b"",) * 30))
+
+
+def told(chance, one):
+    """A number of an owner or a capability that is lost, doubled, or another."""
+    numbers = *USERS, *SETS, *NEITHER, b"2", b"4294967296"
+    return chance.choice((b"", b":", one + one, b":0" + one[1:], b":0", *(b":" + chance.choice(numbers) for _ in range(4))))
+
+
+def version(chance, digits):
+    return chance.choice((b"1", b"2", b"3", b"3", b"4", b"0" + digits, b""))
+
+
 def kind(chance, _letter):
     return bytes([chance.choice(b"dofhlwgknmiaspe#D0")])
 
@@ -170,16 +194,22 @@ ALL = (
     *(of(NUMBER, number), of(NUMBER, number), of(DIGEST, digest), of(DIGEST, digest), of(MODE, mode), of(KIND, kind), of(NAME, name), of(NAME, name), of(WORD, name)),
     *(of(PATH, deep_path), of(KEY, key)),
 )
+# Those of texts that have entries.
+OF_ENTRIES = of(FIELD, marks), of(FIELD, marks), of(TOLD, told), of(TOLD, told), of(VERSION, version)
 # One of these makes a text long, so that they are drawn less often.
 LENGTHENING = of(NAME, long_name), of(WORD, long_name), of(NUMBER, long_name)
 COUNTS = 0, 1, 1, 1, 1, 2, 2, 3, 5, 8
+
+
+def changes_of(text):
+    return ALL + OF_ENTRIES if FIELD.search(text) else ALL
 
 
 def mutated(chance, bases):
     """One of the texts with some changes, each of which may take something from another of them."""
     text, other = chance.choice(bases), chance.choice(bases)
     for _ in range(chance.choice(COUNTS)):
-        text = chance.choice(LENGTHENING if chance.random() < 0.01 else ALL)(chance, text, other)
+        text = chance.choice(LENGTHENING if chance.random() < 0.01 else changes_of(text))(chance, text, other)
     return text
 
 

@@ -12,7 +12,7 @@ import time
 
 from scenes import tars
 from scenes.keeping import modes_below
-from scenes.running import ABC, SECONDS, Failed, Skipped, expect, named, shortened, tree_text
+from scenes.running import ABC, SECONDS, Failed, Skipped, expect, named, owned, shortened, tree_text
 from scenes.stores import DONE, digest, in_a_place
 from scenes.tools import TOOLS, beside, holds_nothing, left, tool
 
@@ -69,10 +69,10 @@ def rest(name, content):
     return f"d 755 {path}", f"f 644 {len(content)} {digest(content)} {path}/extension-release.{name}"
 
 
-def usual_text(name, content):
+def usual_text(name, content, x="4755:5:0"):
     of_unit = f"f 644 {len(UNIT)} {digest(UNIT)} usr/lib/systemd/system/x.service"
-    lines = *("d 755 opt", f"f 644 3 {ABC} opt/ü", "d 755 usr", "d 755 usr/bin", f"f 4755 3 {ABC} usr/bin/x", f"f 4755 3 {ABC} usr/bin/y", "d 755 usr/lib"), *rest(name, content)
-    return tree_text(*lines, "l 9 libx.so.1 usr/lib/libx.so", f"f 644 3 {ABC} usr/lib/libx.so.1", "d 755 usr/lib/systemd", "d 755 usr/lib/systemd/system", of_unit)
+    lines = *("d 755 opt", f"f 644 3 {ABC} opt/ü", "d 755 usr", "d 755 usr/bin", f"f {x} 3 {ABC} usr/bin/x", f"f {x} 3 {ABC} usr/bin/y", "d 755 usr/lib"), *rest(name, content)
+    return (owned if ":" in x else tree_text)(*lines, "l 9 libx.so.1 usr/lib/libx.so", f"f 644 3 {ABC} usr/lib/libx.so.1", "d 755 usr/lib/systemd", "d 755 usr/lib/systemd/system", of_unit)
 
 
 LEFT_OUT = (
@@ -80,7 +80,6 @@ LEFT_OUT = (
     "nothing runs the scripts of x: postinst, which deal with users and groups, alternatives",
     "nothing runs the triggers of x: ldconfig",
     "nothing enables the units of x: x.service",
-    "lost: owners: 1 (usr/bin/x)",
 )
 
 
@@ -97,9 +96,12 @@ def an_image_has_what_its_hierarchies_show_and_the_rest_is_told(place):
             raise Failed(f"the image is {shortened(text)}")
         if modes_below(place.depot / f"images/{name}") != ({"0o600"}, {"0o700"}) or left(place.depot / "images") != sorted(f"i{one}{end}" for one in range(at + 1) for end in ("", ".tree")):
             raise Failed(f"in the depot stand {left(place.depot / 'images')}")
+    expect(tool(place, NAME, "--quiet", "--root-owned", place.depot, "images/x", file), (b"", b"", 0))
+    if (text := (place.depot / "images/x.tree").read_bytes()) != usual_text("x", release("ARCHITECTURE=x86-64\n"), "4755"):
+        raise Failed(f"of root's own the image is {shortened(text)}")
     host = b"ID=debian\n"
     place.resource("host", tree_text("d 755 usr", "d 755 usr/lib", f"f 644 {len(host)} {digest(host)} usr/lib/os-release"), {"usr/lib/os-release": host})
-    place.expect(("init x86-64 system", DONE), ("import-fs host /", DONE), ("import-fs images/i0 /var/lib/extensions/i0", DONE), ("sysext merge", b"merged 1\ni0\n"), ("cat /usr/bin/y", b"abc"))
+    place.expect(("init x86-64 system", DONE), ("import-fs host /", DONE), ("import-fs images/x /var/lib/extensions/x", DONE), ("sysext merge", b"merged 1\nx\n"), ("cat /usr/bin/y", b"abc"))
 
 
 def a_package_by_zstd_is_read_where_zstd_is_there(place):
@@ -137,14 +139,14 @@ def a_configuration_extension_has_etc_for_the_release_that_is_named(place):
 def what_two_packages_have_alike_stands_once_and_else_is_refused(place):
     top = entry("./usr/"), entry("./usr/a", mode=0o700)
     one = package(place, "one", [*top, entry("./usr/a/b", b"abc"), link("./usr/c", "a")])
-    same = package(place, "same", [entry("./usr/"), entry("./usr/a"), entry("./usr/a/b", b"abc"), link("./usr/c", "a"), entry("./usr/d", b"abc")])
+    same = package(place, "same", [entry("./usr/"), entry("./usr/a", owner=5), entry("./usr/a/b", b"abc"), link("./usr/c", "a"), entry("./usr/d", b"abc")])
     expect(tool(place, NAME, place.depot, "r", one, same), (b"", b"", 0))
     wanted = "d 755 usr", "d 700 usr/a", f"f 644 3 {ABC} usr/a/b", "l 1 a usr/c", f"f 644 3 {ABC} usr/d", "d 755 usr/lib", *rest("r", release())
     if (text := (place.depot / "r.tree").read_bytes()) != tree_text(*wanted):
         raise Failed(f"the image is {shortened(text)}")
-    rows = ("./usr/a/b", b"abd", 0o644), ("./usr/a/b", b"abc", 0o755), ("./usr/c", b"abc", 0o644), ("./usr/a", b"abc", 0o644), ("./usr/c/d", b"abc", 0o644)
-    for at, (path, content, mode) in enumerate(rows):
-        other = package(place, "other", [entry("./usr/"), entry(path, content, mode)])
+    rows = ("./usr/a/b", b"abd"), ("./usr/a/b", b"abc", 0o755), ("./usr/c", b"abc"), ("./usr/a", b"abc"), ("./usr/c/d", b"abc"), ("./usr/a/b", b"abc", 0o644, None, "", 7)
+    for at, (path, *words) in enumerate(rows):
+        other = package(place, "other", [entry("./usr/"), entry(path, *words)])
         reason = "usr/c is no directory, of one" if path.endswith("c/d") else "one has something else there"
         expect(tool(place, NAME, place.depot, f"s{at}", one, other), (b"", lines_told(f"{other}: {path}: {reason}"), 1))
     machine = [package(place, name, [*top], architecture=name) for name in ("amd64", "arm64")]
@@ -169,6 +171,7 @@ def a_package_that_leads_elsewhere_is_refused_by_name(place):
         ([link("./usr/x", "./etc/passwd", tarfile.LNKTYPE)], "./usr/x: a hard link to ./etc/passwd, which is no file of the image"),
         ([entry("./usr/x", kind=tarfile.FIFOTYPE)], "./usr/x: neither a directory nor a file nor a link"),
         ([entry("./usr/x", kind=tarfile.CHRTYPE)], "./usr/x: neither a directory nor a file nor a link"),
+        ([entry("./usr/x", b"x", owner=2**33)], "./usr/x: an owner 8589934592:0, where a user and a group are numbers up to 4,294,967,294"),
         ([entry("./usr/a\nb", b"x")], "./usr/a\\nb: a control byte in its name"),
         ([entry(f"./usr/{'n' * 256}", b"x")], f"./usr/{'n' * 256}: a name that no path has"),
         ([link("./usr/a", "b\tc")], "./usr/a: a control byte in its target"),

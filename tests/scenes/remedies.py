@@ -96,6 +96,7 @@ def of_stores_and_views(told):
 
 def of_depots(told):
     told.refuses("import-fs nothing /x", "24 `not-in-depot`", FOLDER=str(told.place.depot), PATH="nothing.tree")
+    told.refuses("import-fs images/of/nothing /x", "24 `not-in-depot`, where its folder is missing", FOLDER=str(told.place.depot), PLACE="images/of")
     gone = told.place.depot.with_name("g\none")
     told.refuses("import-fs nothing /x", "24 `not-in-depot`, where DEPOT is missing", depot=gone, FOLDER=str(gone).replace("\n", "\\n"))
     told.place.resource("faulty", b"hostext-tree 1\nx\n")

@@ -3,6 +3,7 @@ import re
 
 from scenes.command_words import MERGED, REFUSED, TREE
 from scenes.running import Failed
+from scenes.tree_texts import DIRECTORY_FIELD, FILE_FIELD, OWNER
 
 VERDICT = rb"(?:fits|scope|architecture|no-id|id|level|version)"
 WHY = rb"(?:not-directory|has-os-release|no-release|bad-release [1-9][0-9]*)"
@@ -13,7 +14,7 @@ SERVED = rb"(?:[^\n]+ (?:image /[^\n]* %b|masked /[^\n]*|raw /[^\n]*)\n)*" % STA
 INSPECTED = rb"image /[^\n]*\nid [^\n]*\nversion [^\n]*\n(?:unit [^\n]+\n)+"
 OFFERED = rb"(?:[A-Za-z0-9._+~^-]+(?: (?:available|installed|partial|protected|obsolete))+\n)*"
 CHANGED = rb"(?:[-+*] /[^\n]*\n)*"
-EXPLAINED = rb"(?:image [^\n]+|base) (?:[do] [0-7]+|f [0-7]+ [0-9]+ [0-9a-f]{64}|l [^\n]+|w|covers /[^\n]*)\n"
+EXPLAINED = rb"(?:image [^\n]+|base) (?:[do] %b|f %b [0-9]+ [0-9a-f]{64}|l%b [^\n]+|w|covers /[^\n]*)\n" % (DIRECTORY_FIELD, FILE_FIELD, OWNER)
 # What each command may write that is done, the numbers of its refusals, and whether it then has changed the store. Each command
 # over a store may be refused since there is none.
 FORMS = {

@@ -7,7 +7,7 @@ from pathlib import Path
 from scenes.running import TOP, Failed
 
 CRATES = TOP / "crates"
-WIDEST = 155
+WIDEST = 140
 DEFINITION = re.compile(r"\s*(?:abbrev pub|unfoldable pub|pub record|pub data)\s+([^\s:(){}]+)")
 CLAUSE = re.compile(r"\s*(?:requires|ensures|ghost)\b(?! use)")
 BANNER = re.compile(r"\s*(?:--|//) ?-{3,}")

@@ -14,7 +14,7 @@ MOST_ENTRIES = 262_144
 
 # What `--version` writes.
 LICENCES = b"SPDX-License-Identifier: MIT OR Apache-2.0\n"
-VERSION = b"hostext 0.2.0\nproved with rattle-kit-13f logic dac8208d650f15bf\n" + LICENCES
+VERSION = b"hostext 0.3.0\nproved with rattle-kit-13f logic dac8208d650f15bf\n" + LICENCES
 
 # The digests of no byte, and of `abc`.
 EMPTY = "e3b0c44298fc1c149afbf4c8996fb92427ae41e4649b934ca495991b7852b855"
@@ -61,6 +61,16 @@ def tree_text(*lines, version=1):
 def removing(*lines):
     """The text of a tree that has a whiteout or an opaque directory."""
     return tree_text(*lines, version=2)
+
+
+def owned(*lines):
+    """The text of a tree that has an owner or a capability."""
+    return tree_text(*lines, version=3)
+
+
+def knows_owners(program):
+    """Whether a program reads the texts of such trees."""
+    return run(program, LAYER, owned("d 755:1:1 a"))[2] == 0
 
 
 def directories(count):

@@ -61,7 +61,7 @@ def what_is_published_is_said_to_be_public_at_once(_program):
 
 def readme_says_at_once_what_changes_and_what_entries_have(_program):
     first = Sources().text("README.md").split("\n\n")[1]
-    for words in "changes nothing on the machine that it runs on", "modes, bytes or targets, and no owners, no times and no attributes":
+    for words in "changes nothing on the machine that it runs on", "modes, owners, and bytes or targets, a file also its capability, and no times and no other attributes":
         if words not in first:
             raise Failed(f"the first paragraph of README.md doesn't say {words!r}")
 

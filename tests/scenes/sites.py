@@ -14,7 +14,7 @@ from scenes.running import Failed, shortened
 from scenes.stopped import EMPTY, WATCHED, events
 from scenes.stops import Disk, File
 from scenes.traces import calls_of, concerning, straced
-from scenes.uses import tree_of
+from scenes.uses import owned_tree
 
 SECONDS = 10
 # What the store has.
@@ -87,7 +87,7 @@ class Yard:
 
     def __init__(self, program, place, folder):
         self.program, self.place, self.folder = program, place, folder
-        place.resource("host", tree_of(FILES), FILES)
+        place.resource("host", owned_tree(FILES), FILES)
         for command in "init x86-64 system", "import-fs host /":
             if place.run(*command.split(" "))[2]:
                 raise Failed(f"`{command}` isn't done")

@@ -210,7 +210,7 @@ def read_hierarchies(root, stack):
 def packed(folder, depot, name):
     """Packs a folder as tools/pack does."""
     given = dict(SOURCE=str(folder).encode(), DEPOT=str(depot).encode(), RES=name.encode(), without=[], format=None, image=None, most_bytes=the_pack().MOST_TREE_BYTES)
-    given |= dict.fromkeys(("layers", "leave_out_special", "usr_merge", "strict", "public"), False) | {"quiet": True}
+    given |= dict.fromkeys(("layers", "leave_out_special", "usr_merge", "strict", "public", "keep_owners", "root_owned"), False) | {"quiet": True}
     the_pack().pack(argparse.Namespace(**given), Teller("pack", True))
 
 

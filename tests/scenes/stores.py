@@ -242,7 +242,7 @@ def a_store_that_is_none_is_told(place):
         before = place.stands()
         place.fault(8, "tree", "check", "remove /a", "init x86-64 system")
         place.holds(before)
-    for text in (b"", b"".join(EMPTY_INDEX.splitlines(True)[:2]), EMPTY_INDEX + b"\n", EMPTY_INDEX.replace(b"2", b"3", 1)):
+    for text in (b"", b"".join(EMPTY_INDEX.splitlines(True)[:2]), EMPTY_INDEX + b"\n", EMPTY_INDEX.replace(b"2", b"4", 1)):
         shutil.rmtree(place.store)
         place.index(1, text)
         place.fault(8, "tree")

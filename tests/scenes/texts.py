@@ -5,17 +5,18 @@ import random
 import re
 import sys
 
-from scenes.running import ABC, EMPTY, LAYER, TOP, Failed, directories, expect, named, removing, run, tree_text
+from scenes.running import ABC, EMPTY, LAYER, TOP, Failed, directories, expect, named, owned, removing, run, tree_text
 from scenes.words import REFUSALS
 
 sys.path.insert(0, str(TOP / "tools"))
 
+import attributes
 import entries
 import texts
+from attributes import Attributes, Capability, Owner
 
 CHANGED = 400
 MOST_ENTRIES = 262_144
-
 # What is shown, a tree text, and its first faulty line, or nothing where it is one.
 TREES = [
     ("a text without entries", tree_text(), None),
@@ -46,6 +47,38 @@ TREES = [
     ("an end without its newline", b"hostext-tree 1\nd 755 a\nend", 3),
     ("a second text", tree_text() + tree_text(), 3),
     ("a byte after the end", tree_text() + b"x", 3),
+]
+
+MOST_ID, MOST_BITS = 4_294_967_294, 18_446_744_073_709_551_615
+# The same of owners and capabilities.
+OWNERS = [
+    ("an owner of each kind", owned("d 755:1:2 a", f"f 644:0:3 3 {ABC} a/b", "l 1:4:0 x a/c", "o 700:5:5 b", "w c"), None),
+    ("the greatest owner", owned(f"d 755:{MOST_ID}:{MOST_ID} a"), None),
+    ("a user that is greater", owned(f"d 755:{MOST_ID + 1}:0 a"), 2),
+    ("a group that is greater", owned(f"d 755:0:{MOST_ID + 1} a"), 2),
+    ("a user of eleven digits", owned("d 755:10000000000:0 a"), 2),
+    ("a leading zero in a user", owned("d 755:01:0 a"), 2),
+    ("a user without a group", owned("d 755:1 a"), 2),
+    ("a user below zero", owned("d 755:-1:0 a"), 2),
+    ("root's own directory", owned("d 755:0:0 a"), 2),
+    ("root's own link", owned("l 1:0:0 x a"), 2),
+    ("a capability of root's file", owned(f"f 755:0:0:1:5:6:0 3 {ABC} a"), None),
+    ("an empty capability", owned(f"f 755:0:0:0:0:0:0 3 {ABC} a"), None),
+    ("the greatest capability", owned(f"f 755:1:1:1:{MOST_BITS}:{MOST_BITS}:{MOST_ID} 3 {ABC} a"), None),
+    ("permitted bits that are greater", owned(f"f 755:1:1:1:{MOST_BITS + 1}:0:0 3 {ABC} a"), 2),
+    ("inheritable bits that are greater", owned(f"f 755:1:1:1:0:{MOST_BITS + 1}:0 3 {ABC} a"), 2),
+    ("a root that is greater", owned(f"f 755:1:1:1:0:0:{MOST_ID + 1} 3 {ABC} a"), 2),
+    ("another effective flag", owned(f"f 755:1:1:2:0:0:0 3 {ABC} a"), 2),
+    ("a capability that is cut", owned(f"f 755:1:1:1:0:0 3 {ABC} a"), 2),
+    ("a capability without an owner", owned(f"f 755:1:0:0:0 3 {ABC} a"), 2),
+    ("a capability of a directory", owned("d 755:1:1:1:0:0:0 a"), 2),
+    ("a capability of a link", owned("l 1:1:1:1:0:0:0 x a"), 2),
+    ("an owner of a whiteout", owned("d 755:1:1 a", "w:1:1 b"), 3),
+    ("an owner in version 1", tree_text("d 755 a", "d 755:1:0 b"), 3),
+    ("an owner in version 2", removing("w a", "d 755:1:0 b"), 3),
+    ("marks in version 3", owned("o 755 a", "w b", "d 755:1:0 c"), None),
+    ("version 3 without an owner", owned("o 755 a", "w b"), 4),
+    ("a path like an owner", tree_text("l 1 x 5:5", "w:5 5"), 3),
 ]
 
 # What is shown, a manifest, and what it lists, or its first faulty line.
@@ -83,17 +116,60 @@ def line_of(read, text):
 
 def each_tree_text_is_read_or_its_first_faulty_line_is_told(_program):
     from_layer = [(name, text, int(line.split()[2])) for name, text, line in REFUSALS if line.startswith(b"23 ") and name not in ("lines are counted through the texts", "a faulty text comes before a limit")]
-    for name, text, line in (*TREES, *from_layer):
+    for name, text, line in (*TREES, *OWNERS, *from_layer):
         found = line_of(texts.read_tree, text)
         if found != line:
             raise Failed(f"{name}: the first faulty line is {found}, and not {line}")
 
 
 def a_tree_text_gives_its_entries(_program):
-    found = texts.read_tree(removing("d 755 a", f"f 644 3 {ABC} a/b c", "l 5  x y  b", "w c"))
-    wanted = [(b"d", (b"755",), (b"a",)), (b"f", (b"644", b"3", ABC.encode()), (b"a", b"b c")), (b"l", (b" x y ",), (b"b",)), (b"w", (), (b"c",))]
+    text = owned("d 755 a", f"f 644:7:8:1:{MOST_BITS}:6:9 3 {ABC} a/b c", "l 5:7:0  x y  b", "w c")
+    file = Attributes(0o644, Owner(7, 8), Capability(1, MOST_BITS, 6, 9))
+    wanted = [
+        *((b"d", (Attributes(0o755),), (b"a",)), (b"f", (file, b"3", ABC.encode()), (b"a", b"b c"))),
+        *((b"l", (Attributes(0o777, Owner(7, 0)), b" x y "), (b"b",)), (b"w", (), (b"c",))),
+    ]
+    found = texts.read_tree(text)
     if found != wanted:
         raise Failed(f"the entries are {found}")
+    lines = [
+        entries.line_of_directory(b"d", Attributes(0o755), b"a"),
+        entries.line_of_file(file, 3, ABC, b"a/b c"),
+        entries.line_of_link(Owner(7, 0), b" x y ", b"b"),
+        b"w c\n",
+    ]
+    if texts.tree_text(lines) != text:
+        raise Failed(f"they are written as {texts.tree_text(lines)}")
+
+
+# A capability, and the bytes of its attribute.
+CAPABILITIES = [
+    (Capability(1, 0x2000, 0), "010000020020000000000000" + "0000000000000000"),
+    (Capability(0, 0xFEDCBA9876543210, 0x0123456789ABCDEF), "0000000210325476efcdab8998badcfe67452301"),
+    (Capability(0, 0, 0), "00000002" + "00000000" * 4),
+    (Capability(1, MOST_BITS, 0, MOST_ID), "01000003ffffffff00000000ffffffff00000000feffffff"),
+]
+# Bytes of the attribute that no tree text says.
+UNSAID = [
+    *("00" * size for size in range(41)),
+    *("01000002" + "00" * size for size in range(37) if size != 16),
+    *("01000003" + "00" * size for size in range(37) if size != 20),
+    *("010000010020000000000000", "01000001" + "00" * 16, "01000004" + "00" * 20, "02000002" + "00" * 16, "03000003" + "00" * 20),
+    "01000003" + "00" * 16 + "ffffffff",
+]
+
+
+def capabilities_are_read_from_their_bytes_and_written_to_them(_program):
+    for capability, value in CAPABILITIES:
+        found, written = attributes.capability_of(bytes.fromhex(value)), capability.value().hex()
+        if (found, written) != (capability, value):
+            raise Failed(f"{value} is read as {found}, and {capability} written as {written}")
+    named_by_nobody = bytes.fromhex("01000003" + "00" * 20)
+    if attributes.capability_of(named_by_nobody) != Capability(1, 0, 0):
+        raise Failed("revision 3 with the root 0 isn't that without a root")
+    for value in UNSAID:
+        if found := attributes.capability_of(bytes.fromhex(value)):
+            raise Failed(f"{value} is read as {found}")
 
 
 def each_manifest_is_read_or_its_first_faulty_line_is_told(_program):
@@ -160,5 +236,5 @@ def the_limits_are_those_of_the_formats(_program):
 
 scenes = named(
     *(each_tree_text_is_read_or_its_first_faulty_line_is_told, a_tree_text_gives_its_entries, each_manifest_is_read_or_its_first_faulty_line_is_told),
-    *(both_readers_tell_the_same_line_of_texts_changed_at_random, the_limits_are_those_of_the_formats),
+    *(capabilities_are_read_from_their_bytes_and_written_to_them, both_readers_tell_the_same_line_of_texts_changed_at_random, the_limits_are_those_of_the_formats),
 )

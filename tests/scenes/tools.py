@@ -19,13 +19,20 @@ def tool(place, name, *words, before=None, **options):
     """What a tool writes on standard output and standard error, and its status."""
     around = {**os.environ, "HOSTEXT": str(place.program)}
     run = subprocess.run([TOOLS / name, *words], **{"env": around, "capture_output": True, "timeout": SECONDS, "preexec_fn": before, **options})
-    return run.stdout, run.stderr, run.returncode
+    return run.stdout, without_own(run.stderr), run.returncode
+
+
+def without_own(said):
+    """What is told but for the caller's own entries, of which there are some where somebody other than root runs the scenes."""
+    if os.getuid() == 0:
+        return said
+    return b"".join(line for line in said.splitlines(keepends=True) if b", which become root's: " not in line)
 
 
 def tool_of_nobody(place, name, *words):
     """The same of a tool that a user runs who may do nothing. It is a copy, which that user may read."""
     tools = beside(place, "tools")
-    tools.mkdir()
+    tools.mkdir(exist_ok=True)
     for path in TOOLS / name, *TOOLS.glob("*.py"), place.program:
         shutil.copy(path, tools)
     around = {**os.environ, "HOSTEXT": str(tools / place.program.name)}
@@ -43,8 +50,8 @@ def beside(place, name):
     return place.store.with_name(name)
 
 
-def text_of(place, folder):
-    written, told, status = tool(place, "tree-text", folder)
+def text_of(place, folder, *options):
+    written, told, status = tool(place, "tree-text", *options, folder)
     expect((b"", told, status), (b"", b"", 0))
     return written
 
@@ -87,7 +94,7 @@ def pack_and_unpack_give_a_folder_back(place):
 
 
 def a_tree_text_is_asked_for_by_one_folder(place):
-    usage = b"usage: tree-text [--quiet] FOLDER\n"
+    usage = b"usage: tree-text [--keep-owners | --root-owned] [--quiet] FOLDER\n"
     written, told, status = tool(place, "tree-text", "--help")
     expect((written[: len(usage)], told, status), (usage, b"", 0))
     lacking = b"error: the following arguments are required:"
@@ -316,8 +323,9 @@ def who_is_not_root_unpacks_directories_that_may_not_be_written(place):
     out = beside(place, "out")
     out.mkdir()
     out.chmod(0o777)
-    expect(tool_of_nobody(place, "unpack", place.store, "/", out), (b"", b"", 0))
-    if text_of(place, out) != text:
+    told = b"unpack: lost: owners: 3 (/a, /a/b, /a/b/c)\n"
+    expect(tool_of_nobody(place, "unpack", place.store, "/", out), (b"", told, 0))
+    if text_of(place, out, "--root-owned") != text:
         raise Failed(f"what was unpacked is {text_of(place, out)}")
 
 
@@ -326,7 +334,7 @@ def the_program_is_found_once(place):
     place.resource("r", tree_text(*(f"f 644 3 {ABC} {name}" for name in "abc")), {name: b"abc" for name in "abc"})
     place.expect(("init x86-64 system", DONE), ("import-fs r /", DONE))
     tools, notes = beside(place, "tools"), beside(place, "notes")
-    tools.mkdir()
+    tools.mkdir(exist_ok=True)
     for path in TOOLS / "unpack", *TOOLS.glob("*.py"):
         shutil.copy(path, tools)
     script(tools / "program", f'echo "$1" >>"{notes}"\necho "it builds" >&2\necho "{place.program}"')

@@ -4,13 +4,20 @@ import re
 
 MOST_ENTRIES, MOST_FILE_BYTES, MOST_LENGTH = 262_144, 1_073_741_824, 4_096
 CONTROL = re.compile(rb"[\x00-\x1f\x7f]")
-MODE, SIZE, DIGEST = rb"(0|[1-7][0-7]{0,3})", rb"(0|[1-9][0-9]{0,9})", rb"([0-9a-f]{64})"
-# The fields of a line of each kind, and its path; of a link its length, and the rest.
+SIZE, DIGEST = rb"(0|[1-9][0-9]{0,9})", rb"([0-9a-f]{64})"
+# What follows a mode or a length: a user and a group, and of a file a capability.
+NUMBER = rb"(?::(?:0|[1-9][0-9]{0,19}))"
+OWNER, ATTRIBUTES = rb"(?:%b{2})?" % NUMBER, rb"(?:%b{2}(?:%b{4})?)?" % (NUMBER, NUMBER)
+MOST_USER, MOST_SET = 4_294_967_294, 18_446_744_073_709_551_615
+MOST_TOLD = MOST_USER, MOST_USER, 1, MOST_SET, MOST_SET, MOST_USER
+MODE = rb"(?:0|[1-7][0-7]{0,3})"
+DIRECTORY_FIELD, FILE_FIELD = rb"(%b%b)" % (MODE, OWNER), rb"(%b%b)" % (MODE, ATTRIBUTES)
+# The fields of a line of each kind, and its path; of a link its length and its owner, and the rest.
 FORMS = {
-    b"d": re.compile(rb"%b (.+)" % MODE, re.S),
-    b"o": re.compile(rb"%b (.+)" % MODE, re.S),
-    b"f": re.compile(rb"%b %b %b (.+)" % (MODE, SIZE, DIGEST), re.S),
-    b"l": re.compile(rb"([1-9][0-9]{0,3}) (.+)", re.S),
+    b"d": re.compile(rb"%b (.+)" % DIRECTORY_FIELD, re.S),
+    b"o": re.compile(rb"%b (.+)" % DIRECTORY_FIELD, re.S),
+    b"f": re.compile(rb"%b %b %b (.+)" % (FILE_FIELD, SIZE, DIGEST), re.S),
+    b"l": re.compile(rb"([1-9][0-9]{0,3}%b) (.+)" % OWNER, re.S),
     b"w": re.compile(rb"(.+)", re.S),
 }
 MARKS, DIRECTORIES = (b"o", b"w"), (b"d", b"o")
@@ -42,11 +49,22 @@ def names_of(path):
     return names if len(path) <= 4_096 and len(names) <= 64 and all(map(is_name, names)) else None
 
 
-def link_of(length, rest):
+def numbers_told(field):
+    """The numbers of the owner and the capability that a field tells after its mode or length."""
+    return [int(number) for number in field.split(b":")[1:]]
+
+
+def may_be_told(numbers):
+    """Root's owner alone is told nowhere."""
+    return numbers != [0, 0] and all(number <= most for number, most in zip(numbers, MOST_TOLD))
+
+
+def link_of(field, rest):
     """The fields of a link and its path, or nothing."""
-    target, space, path = rest[: int(length)], rest[int(length) : int(length) + 1], rest[int(length) + 1 :]
-    is_link = int(length) <= MOST_LENGTH and len(target) == int(length) and space == b" " and is_text(target)
-    return (length, target, path) if is_link else None
+    length = int(field.partition(b":")[0])
+    target, space, path = rest[:length], rest[length : length + 1], rest[length + 1 :]
+    is_link = length <= MOST_LENGTH and len(target) == length and space == b" " and is_text(target)
+    return (field, target, path) if is_link else None
 
 
 def entry_of(line, forms=FORMS):
@@ -54,10 +72,20 @@ def entry_of(line, forms=FORMS):
     kind, _, rest = line.partition(b" ")
     found = forms[kind].fullmatch(rest) if kind in forms else None
     parts = found and (link_of(*found.groups()) if kind == b"l" else found.groups())
-    if not parts or (kind == b"f" and int(parts[1]) > MOST_FILE_BYTES):
+    if not parts or (kind == b"f" and int(parts[1]) > MOST_FILE_BYTES) or (kind != b"w" and not may_be_told(numbers_told(parts[0]))):
         return None
     names = names_of(parts[-1])
     return names and (kind, parts[:-1], names)
+
+
+def version_for(kind, fields):
+    """The least version of a text that may have a line of this kind with these fields."""
+    return 3 if kind != b"w" and b":" in fields[0] else 2 if kind in MARKS else 1
+
+
+def version_of(entries):
+    """The greatest version that a line of these needs."""
+    return max((version_for(*entry) for entry in entries.values()), default=1)
 
 
 class Tree:
@@ -80,24 +108,23 @@ def line_of(names, kind, fields):
 
 def text_of(entries):
     """The text of a tree of these entries."""
-    version = 2 if any(kind in MARKS for kind, _ in entries.values()) else 1
-    return b"".join((b"hostext-tree %d\n" % version, *(line_of(names, *entries[names]) for names in sorted(entries)), b"end\n"))
+    return b"".join((b"hostext-tree %d\n" % version_of(entries), *(line_of(names, *entries[names]) for names in sorted(entries)), b"end\n"))
 
 
 def read_one(lines, at):
     """The tree of the text that begins at a line, and the number of lines up to its end."""
-    header = re.fullmatch(rb"hostext-tree ([12])", lines[at]) if at < len(lines) else None
+    header = re.fullmatch(rb"hostext-tree ([123])", lines[at]) if at < len(lines) else None
     if not header:
         raise Faulty(at + 1)
-    tree, marked = Tree(), False
+    tree, version, needed = Tree(), int(header[1]), 1
     for number in range(at + 1, len(lines)):
-        if lines[number] == b"end" and (marked or header[1] == b"1"):
+        if lines[number] == b"end" and needed == version:
             return tree, number + 1
         entry = entry_of(lines[number])
-        if not entry or not tree.may_take(entry[2]) or (header[1] == b"1" and entry[0] in MARKS):
+        if not entry or not tree.may_take(entry[2]) or version_for(*entry[:2]) > version:
             raise Faulty(number + 1)
         tree.take(*entry)
-        marked |= entry[0] in MARKS
+        needed = max(needed, version_for(*entry[:2]))
     raise Faulty(len(lines) + 1)
 
 

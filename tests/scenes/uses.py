@@ -5,6 +5,7 @@ import subprocess
 from dataclasses import dataclass
 from pathlib import Path
 
+from scenes.owners import with_owners
 from scenes.running import HOST as LAYERED, Failed, shortened, tree_text
 from scenes.stores import DONE, OLD_INDEX
 
@@ -20,6 +21,11 @@ def tree_of(files):
             lines[str(folder)] = f"d 755 {folder}"
         lines[path] = f"f 644 {len(content)} {hashlib.sha256(content).hexdigest()} {path}"
     return tree_text(*(lines[path] for path in sorted(lines, key=lambda path: path.split("/"))))
+
+
+def owned_tree(files):
+    """The same with owners at half of the entries, and capabilities at some of the files."""
+    return with_owners(tree_of(files))
 
 
 RELEASE = b"ID=debian\n"
@@ -70,7 +76,7 @@ NEXT = "import-fs other /next"
 
 
 # What the sources of updates list.
-LISTED = {"foo_2.raw": b"two", "tool_2.tree": tree_of(RESOURCES["images/tool_2"])}
+LISTED = {"foo_2.raw": b"two", "tool_2.tree": owned_tree(RESOURCES["images/tool_2"])}
 
 
 def list_updates(folder, content=LISTED["foo_2.raw"]):
@@ -84,8 +90,8 @@ def fill(place):
     """Puts the resources into the depot of a place, with one that lacks its last file, a text that is none, and two sources of
     updates, of which one has another file than it lists."""
     for name, files in RESOURCES.items():
-        place.resource(name, tree_of(files), files)
-    place.resource("less", tree_of({"a": b"a", "b": b"b", "c": b"c"}), {"a": b"a", "b": b"b"})
+        place.resource(name, owned_tree(files), files)
+    place.resource("less", owned_tree({"a": b"a", "b": b"b", "c": b"c"}), {"a": b"a", "b": b"b"})
     place.resource("bad", b"hostext-tree 1\nend\nend\n")
     (place.depot / "wrong").mkdir()
     list_updates(place.depot / "images")
@@ -192,7 +198,7 @@ WITH_ROOM = (*BOTH_TRANSFERS, *ROOM_TO_MAKE)
 MISMATCH = f"refused 25 mismatch wrong/foo_2.raw 3 {hashlib.sha256(b'two').hexdigest()} 3 {hashlib.sha256(b'owt').hexdigest()}\n".encode()
 MARKED = (*ON_HOST, "mark")
 CHANGED = (*MARKED, "remove /own")
-LAYERS = b"".join(b"%b f 644 7 %b\n" % (layer, hashlib.sha256(content).hexdigest().encode()) for layer, content in ((b"image x", b"tool x\n"), (b"base", b"tool 1\n")))
+LAYERS = b"".join(b"%b %b\n" % (layer, owned_tree({"tool": content}).splitlines()[1].removesuffix(b" tool")) for layer, content in ((b"image x", b"tool x\n"), (b"base", b"tool 1\n")))
 CHANGES = b"+ /usr/lib\n+ /usr/lib/extension-release.d\n+ /usr/lib/extension-release.d/extension-release.x\n* /usr/tool\n"
 NO_MARK = b"refused 37 no-mark 2\n"
 WITH_SERVICE = (*ON_HOST, "import-fs profile /usr/lib/systemd/portable/profile/default", "import-fs app /var/lib/portables/app_1")
@@ -274,9 +280,9 @@ USES = [
     Use("rollback 2", DONE, (*CHANGED, *ROOM_TO_MAKE), long=True),
     Use("rollback 2", NO_MARK, ON_HOST),
     Use("forget 2", DONE, CHANGED, again=NO_MARK),
-    Use("tree", tree_of(RESOURCES["host"]), ON_HOST),
-    Use("tree /etc", tree_of({"os-release": RELEASE}), ON_HOST),
-    Use("tree /etc", tree_of({"os-release": RELEASE}), ON_HOST, waits=True),
+    Use("tree", owned_tree(RESOURCES["host"]), ON_HOST),
+    Use("tree /etc", owned_tree({"os-release": RELEASE}), ON_HOST),
+    Use("tree /etc", owned_tree({"os-release": RELEASE}), ON_HOST, waits=True),
     Use("cat /own", b"own", ON_HOST),
     Use("cat /srv/large", RESOURCES["large"]["large"], (*ON_HOST, "import-fs large /srv")),
     Use("check", b"ok 9 71\n", MERGED),

@@ -5,6 +5,8 @@ use Rattle.std.specs.List.{AllByRecursion, list_any}
 use Rattle.std.specs.Ordering.{eq_by_cmp}
 use Rattle.std.proofs.lemmas.Bool.{false≢true}
 use Rattle.std.proofs.lemmas.Option.{none-some, same_Some}
+use Rattle.ext_attributes.specs.Attributes.{OfFile, root_owner}
+use Rattle.ext_attributes.proofs.ForCallers.{mode_in_range}
 use Rattle.ext_text.specs.Absolute.{absolute}
 use Rattle.ext_text.specs.Path.{IsPath, path_cmp}
 use Rattle.ext_text.proofs.ForCallers.{all_append}
@@ -15,7 +17,7 @@ use Rattle.ext_host.specs.Drawn.{HasFile}
 use Rattle.ext_host.specs.Held.{HeldFile}
 use Rattle.ext_find.specs.Content.{is_file_at}
 use Rattle.ext_units.specs.declared.unit_file.UnitFile.{UnitFile}
-use Rattle.ext_added.specs.Added.{copied, copies_images, copies_profiles, drop_ins, file_mode, image_piece, image_piece_by, image_pieces, is_service, links_units, pieces_of, profile_entry, service_piece, services, unit_entry, unit_piece, unit_target}
+use Rattle.ext_added.specs.Added.{copied, copies_images, copies_profiles, drop_ins, image_piece, image_piece_by, image_pieces, is_service, links_units, made_attributes, pieces_of, profile_entry, service_piece, services, unit_entry, unit_piece, unit_target}
 use Rattle.ext_added.specs.Entries.{IsAddedEntry, IsAddedPiece, IsMadeEntry, IsWellMade}
 use Rattle.ext_added.specs.Tops.{FitsAttaching, FitsProfile, FitsService, FitsUnit}
 use Rattle.ext_added.specs.declared.attaching.Attaching.{Attaching}
@@ -30,26 +32,26 @@ none_served (u ∷ us) none = elim (is_service u) as (λ b. (b || list_any is_se
 ] none
 
 module _ (made : Attaching) (image tree : Entries HeldFile) (well : IsWellMade made) where
-  copied_made : (o : Option (Entry HeldFile)) → is_file_at o ≡ true → ((mode : ℕ) (held : HeldFile) → o ≡ Some (File mode held) → HasFile tree held) → IsMadeEntry made image tree (copied o)
+  copied_made : (o : Option (Entry HeldFile)) → is_file_at o ≡ true → ((attributes : OfFile) (held : HeldFile) → o ≡ Some (File attributes held) → HasFile tree held) → IsMadeEntry made image tree (copied o)
   copied_made None file has = absurd (false≢true file)
-  copied_made (Some (Dir mode)) file has = absurd (false≢true file)
-  copied_made (Some (Opaque mode)) file has = absurd (false≢true file)
-  copied_made (Some (File mode held)) file has = (refl, inr (inr (has mode held refl)))
-  copied_made (Some (Link target)) file has = absurd (false≢true file)
+  copied_made (Some (Dir attributes)) file has = absurd (false≢true file)
+  copied_made (Some (Opaque attributes)) file has = absurd (false≢true file)
+  copied_made (Some (File attributes held)) file has = (refl, inr (inr (has attributes held refl)))
+  copied_made (Some (Link owner target)) file has = absurd (false≢true file)
   copied_made (Some Hide) file has = absurd (false≢true file)
 
   unit_made : (u : UnitFile) → is_file_at (lookup tree u.file) ≡ true → IsPath u.file → FitsUnit made u → IsMadeEntry made image tree (unit_entry made tree u)
   unit_made u file path fits =
-      elim (links_units made.copy) as (λ b. links_units made.copy ≡ b → IsMadeEntry made image tree (if b then Link (unit_target made u) else copied (lookup tree u.file))) [
-        | true ↦ λ linked. both_target made.directory u.file well.directory path (fits linked)
-        | false ↦ λ _. copied_made (lookup tree u.file) file (λ mode held stands. record { path = u.file; mode = mode; stands = stands })
+      elim (links_units made.copy) as (λ b. links_units made.copy ≡ b → IsMadeEntry made image tree (if b then Link root_owner (unit_target made u) else copied (lookup tree u.file))) [
+        | true ↦ λ linked. (refl, both_target made.directory u.file well.directory path (fits linked))
+        | false ↦ λ _. copied_made (lookup tree u.file) file (λ attributes held stands. record { path = u.file; attributes = attributes; stands = stands })
       ] refl
 
   profile_made : FitsProfile made → IsMadeEntry made image tree (profile_entry made)
   profile_made fits =
-      elim (copies_profiles made.copy) as (λ b. copies_profiles made.copy ≡ b → IsMadeEntry made image tree (if b then File file_mode made.profile.file else Link (absolute made.profile.path))) [
+      elim (copies_profiles made.copy) as (λ b. copies_profiles made.copy ≡ b → IsMadeEntry made image tree (if b then File made_attributes made.profile.file else Link root_owner (absolute made.profile.path))) [
         | true ↦ λ _. (refl, inr (inl refl))
-        | false ↦ λ linked. absolute_target made.profile.path well.profile.each (fits linked)
+        | false ↦ λ linked. (refl, absolute_target made.profile.path well.profile.each (fits linked))
       ] refl
 
   nothing_in : (path : List (List ℕ)) (e : Entry HeldFile) → lookup [] path ≡ Some e → IsAddedEntry made image tree e
@@ -63,17 +65,17 @@ module _ (made : Attaching) (image tree : Entries HeldFile) (well : IsWellMade m
 
   drop_in_added : list_any is_service made.units ≡ true → FitsProfile made → (path : List (List ℕ)) (e : Entry HeldFile) → lookup (drop_ins made) path ≡ Some e → IsAddedEntry made image tree e
   drop_in_added some fits path e found =
-      elim (eq_by_cmp path_cmp path (codes "10-profile.conf" ∷ [])) as (λ b. cond b (Some (profile_entry made)) (cond (eq_by_cmp path_cmp path (codes "20-portable.conf" ∷ [])) (Some (File file_mode made.own)) None) ≡ Some e → IsAddedEntry made image tree e) [
+      elim (eq_by_cmp path_cmp path (codes "10-profile.conf" ∷ [])) as (λ b. cond b (Some (profile_entry made)) (cond (eq_by_cmp path_cmp path (codes "20-portable.conf" ∷ [])) (Some (File made_attributes made.own)) None) ≡ Some e → IsAddedEntry made image tree e) [
         | true ↦ λ first. subst (IsAddedEntry made image tree) (same_Some (profile_entry made) e first) (inl (profile_made fits))
-        | false ↦ elim (eq_by_cmp path_cmp path (codes "20-portable.conf" ∷ [])) as (λ b. cond b (Some (File file_mode made.own)) None ≡ Some e → IsAddedEntry made image tree e) [
-          | true ↦ λ second. subst (IsAddedEntry made image tree) (same_Some (File file_mode made.own) e second) (inl (refl, inl (refl, some)))
+        | false ↦ elim (eq_by_cmp path_cmp path (codes "20-portable.conf" ∷ [])) as (λ b. cond b (Some (File made_attributes made.own)) None ≡ Some e → IsAddedEntry made image tree e) [
+          | true ↦ λ second. subst (IsAddedEntry made image tree) (same_Some (File made_attributes made.own) e second) (inl (refl, inl (refl, some)))
           | false ↦ λ none. absurd (none-some e none)
         ]
       ] found
 
   services_added : list_any is_service made.units ≡ true → (units : List UnitFile) → AllByRecursion (FitsService made) units → AllByRecursion (IsAddedPiece made image tree) (map (service_piece made) units)
   services_added some [] fits = tt
-  services_added some (u ∷ units) fits = (record { top = inl (omega arith); part = drop_in_added some (fits.0).profile }, services_added some units fits.1)
+  services_added some (u ∷ units) fits = (record { top = inl (mode_in_range 493 (omega arith)); part = drop_in_added some (fits.0).profile }, services_added some units fits.1)
 
   all_services : AllByRecursion (FitsService made) (services made.units) → AllByRecursion (IsAddedPiece made image tree) (map (service_piece made) (services made.units))
   all_services fits =
@@ -82,10 +84,10 @@ module _ (made : Attaching) (image tree : Entries HeldFile) (well : IsWellMade m
         | false ↦ λ none. subst (λ us. AllByRecursion (IsAddedPiece made image tree) (map (service_piece made) us)) (sym (none_served made.units none)) tt
       ] refl
 
-  image_added : (copies_images made.copy ≡ false → IsMadeEntry made image tree (Link (absolute made.place))) → IsAddedPiece made image tree (image_piece made image)
+  image_added : (copies_images made.copy ≡ false → IsMadeEntry made image tree (Link root_owner (absolute made.place))) → IsAddedPiece made image tree (image_piece made image)
   image_added linked =
       elim (copies_images made.copy) as (λ b. copies_images made.copy ≡ b → IsAddedPiece made image tree (image_piece_by made image b)) [
-        | true ↦ λ _. record { top = inl well.mode; part = λ path e found. inr (path, found) }
+        | true ↦ λ _. record { top = inl well.attributes; part = λ path e found. inr (path, found) }
         | false ↦ λ links. record { top = inl (linked links); part = nothing_in }
       ] refl
 
@@ -96,6 +98,6 @@ module _ (made : Attaching) (image tree : Entries HeldFile) (well : IsWellMade m
       (all_append (IsAddedPiece made image tree) (map (unit_piece made tree) made.units) (map (service_piece made) (services made.units))
       (units_added made.units files well.files fits.units) (all_services fits.services_fit))
       (elim made.outside as (λ b. made.outside ≡ b → AllByRecursion (IsAddedPiece made image tree) (if b then image_piece made image ∷ [] else [])) [
-        | true ↦ λ outside. (image_added (λ links. absolute_target made.place well.place.each (fits.image outside links)), tt)
+        | true ↦ λ outside. (image_added (λ links. (refl, absolute_target made.place well.place.each (fits.image outside links))), tt)
         | false ↦ λ _. tt
       ] refl)

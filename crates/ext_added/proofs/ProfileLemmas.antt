@@ -24,7 +24,7 @@ pub profile_there : {E : Type 0} (es : Entries HeldFile) (names end : List (List
 profile_there es names end (Ok None) ends none = no_file es names end ends none
 profile_there es names end (Ok (Some profile)) ends there = record {
   leads = subst (Ends es names) (sym there.0) ends;
-  mode = there.1.0;
+  attributes = there.1.0;
   stands = ap (lookup es) there.0 ∙ there.1.1;
 }
 profile_there es names end (Err e) ends is = tt

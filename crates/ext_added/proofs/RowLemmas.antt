@@ -2,13 +2,14 @@
 -- in and outside the search directories.
 use Rattle.std.proofs.Common.{◌≡◌, ℕ, true, false, List, [], ◌∷◌, ◌++◌, length, refl}
 use Rattle.std.specs.Prelude.{codes}
+use Rattle.ext_attributes.specs.Attributes.{file_of_mode, of_mode, root_owner}
 use Rattle.ext_tree.specs.declared.entry.Entry.TheVariants.{File, Link}
 use Rattle.ext_host.specs.Held.{HeldFile}
 use Rattle.ext_units.specs.ImageName.{first_part, last_name}
 use Rattle.ext_units.specs.Units.{has_unit_suffix}
 use Rattle.ext_units.specs.declared.image.Image.TheVariants.{Named, At}
 use Rattle.ext_units.specs.declared.unit_file.UnitFile.{UnitFile}
-use Rattle.ext_added.specs.Added.{drop_ins, unit_entry}
+use Rattle.ext_added.specs.Added.{drop_ins, made_attributes, unit_entry}
 use Rattle.ext_added.specs.Attaching.{is_outside}
 use Rattle.ext_added.specs.DropIn.{doubled, own_text}
 use Rattle.ext_added.specs.Tops.{tops_of, ways_of}
@@ -72,7 +73,7 @@ module _ (own profile unit : HeldFile) where
     place = place;
     outside = false;
     directory = place;
-    mode = 493;
+    attributes = of_mode 493;
     profile = record {
       path = codes "usr" ∷ codes "lib" ∷ codes "systemd" ∷ codes "portable" ∷ codes "profile" ∷ codes "default" ∷ codes "service.conf" ∷ [];
       file = profile;
@@ -92,9 +93,9 @@ module _ (own profile unit : HeldFile) where
 
   -- the profile is linked, and the other drop-in is a file
   drop_ins_are : drop_ins made
-      ≡ (codes "10-profile.conf" ∷ [], Link (codes "/usr/lib/systemd/portable/profile/default/service.conf")) ∷ (codes "20-portable.conf" ∷ [], File 420 own) ∷ []
+      ≡ (codes "10-profile.conf" ∷ [], Link root_owner (codes "/usr/lib/systemd/portable/profile/default/service.conf")) ∷ (codes "20-portable.conf" ∷ [], File made_attributes own) ∷ []
   drop_ins_are = refl
 
-  -- a unit is copied, with the mode of made files
-  unit_is : unit_entry made (((unit_of (codes "foobar.service")).file, File 384 unit) ∷ []) (unit_of (codes "foobar.service")) ≡ File 420 unit
+  -- a unit is copied, with the attributes of made files
+  unit_is : unit_entry made (((unit_of (codes "foobar.service")).file, File (file_of_mode 384) unit) ∷ []) (unit_of (codes "foobar.service")) ≡ File made_attributes unit
   unit_is = refl

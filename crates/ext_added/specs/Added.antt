@@ -1,8 +1,9 @@
 -- What attaching an image adds, after portablectl(1): each unit below its name; for each service a directory of drop-ins, with the
--- profile and the image in which it runs; and the image, where that stands outside the search directories. Modes of what is made,
--- that a link's text is a path from the root on, and the table of what is copied are this project's own.
+-- profile and the image in which it runs; and the image, where that stands outside the search directories. The attributes of what is
+-- made, that a link's text is a path from the root on, and the table of what is copied are this project's own.
 use Rattle.std.specs.Prelude.{ℕ, nat_eq, Bool, true, false, if◌then◌else◌, List, [], ◌∷◌, ◌++◌, codes, map, Option, Some, None}
 use Rattle.std.specs.List.{ends_with, filter}
+use Rattle.ext_attributes.specs.Attributes.{OfFile, file_of_mode, root_owner}
 use Rattle.ext_text.specs.Absolute.{absolute}
 use Rattle.ext_tree.specs.Graft.{made}
 use Rattle.ext_tree.specs.Tree.{Entries, lookup}
@@ -38,17 +39,17 @@ copies_images copying.Symlink = false
 copies_images copying.Auto = false
 copies_images copying.Mixed = true
 
--- the mode of made files, which is octal 644
-abbrev pub file_mode : ℕ
-file_mode = 420
+-- the attributes of made files: root's, with the mode octal 644
+abbrev pub made_attributes : OfFile
+made_attributes = file_of_mode 420
 
--- a copied file, with that mode; nothing else is copied for a unit
+-- a copied file, with these; nothing else is copied for a unit
 abbrev pub copied : Option (Entry HeldFile) → Entry HeldFile
 copied None = Hide
-copied (Some (Dir mode)) = Hide
-copied (Some (Opaque mode)) = Hide
-copied (Some (File mode held)) = File file_mode held
-copied (Some (Link target)) = Hide
+copied (Some (Dir attributes)) = Hide
+copied (Some (Opaque attributes)) = Hide
+copied (Some (File attributes held)) = File made_attributes held
+copied (Some (Link owner target)) = Hide
 copied (Some Hide) = Hide
 
 -- the name of a service
@@ -74,11 +75,11 @@ module _ (attaching : Attaching) where
 
   -- the profile of each service
   abbrev pub profile_entry : Entry HeldFile
-  profile_entry = if copies_profiles attaching.copy then File file_mode attaching.profile.file else Link (absolute attaching.profile.path)
+  profile_entry = if copies_profiles attaching.copy then File made_attributes attaching.profile.file else Link root_owner (absolute attaching.profile.path)
 
   -- the drop-ins of each service
   abbrev pub drop_ins : Entries HeldFile
-  drop_ins = drop_ins_of profile_entry (File file_mode attaching.own)
+  drop_ins = drop_ins_of profile_entry (File made_attributes attaching.own)
 
   -- what is put for a service beside its unit
   abbrev pub service_piece : UnitFile → Piece HeldFile
@@ -87,7 +88,7 @@ module _ (attaching : Attaching) where
   module _ (tree : Entries HeldFile) where
     -- a unit, whose file the tree has
     abbrev pub unit_entry : UnitFile → Entry HeldFile
-    unit_entry unit = if links_units attaching.copy then Link (unit_target unit) else copied (lookup tree unit.file)
+    unit_entry unit = if links_units attaching.copy then Link root_owner (unit_target unit) else copied (lookup tree unit.file)
 
     -- what is put for a unit
     abbrev pub unit_piece : UnitFile → Piece HeldFile
@@ -96,8 +97,8 @@ module _ (attaching : Attaching) where
   module _ (image : Entries HeldFile) where
     -- the image, copied with all below it, or linked
     abbrev pub image_piece_by : Bool → Piece HeldFile
-    image_piece_by true = record { path = image_top attaching; top = Dir attaching.mode; part = image }
-    image_piece_by false = record { path = image_top attaching; top = Link (absolute attaching.place); part = [] }
+    image_piece_by true = record { path = image_top attaching; top = Dir attaching.attributes; part = image }
+    image_piece_by false = record { path = image_top attaching; top = Link root_owner (absolute attaching.place); part = [] }
 
     -- by what is copied
     abbrev pub image_piece : Piece HeldFile

@@ -1,9 +1,11 @@
 -- What is made of an ask, an image and its units. Outside the search directories is an image at a path whose folder, compared as a
--- path, is none of them. The mode of a copied image is that of the directory to which its place leads, and octal 755 of the root;
--- that is this project's own.
+-- path, is none of them. The mode and the owner of a copied image are those of the directory to which its place leads, and octal
+-- 755 and root's of the root; that is this project's own.
 use Rattle.std.specs.Prelude.{◌≡◌, ℕ, Bool, false, not, ◌&&◌, ◌||◌, if◌then◌else◌, List, [], ◌∷◌, ◌++◌, codes, Option, Some, None}
 use Rattle.std.specs.Ordering.{eq_by_cmp}
 use Rattle.ext_lines.specs.ByteOrder.{bytes_cmp}
+use Rattle.ext_attributes.specs.declared.attributes.Attributes.{Attributes}
+use Rattle.ext_attributes.specs.Attributes.{of_mode}
 use Rattle.ext_text.specs.Path.{parent, path_text}
 use Rattle.ext_tree.specs.Tree.{Entries, lookup}
 use Rattle.ext_tree.specs.declared.entry.Entry.{Entry}
@@ -38,19 +40,19 @@ abbrev pub is_outside : Image → Bool
 is_outside (Named name) = false
 is_outside (At path) = not (is_searched (path_text (parent path)))
 
--- the mode of a directory, and octal 755 of the root
-abbrev pub directory_mode : Option (Entry HeldFile) → ℕ
-directory_mode None = 493
-directory_mode (Some (Dir mode)) = mode
-directory_mode (Some (Opaque mode)) = mode
-directory_mode (Some (File mode held)) = 493
-directory_mode (Some (Link target)) = 493
-directory_mode (Some Hide) = 493
+-- the attributes of a directory, and those of the root
+abbrev pub directory_attributes : Option (Entry HeldFile) → Attributes
+directory_attributes None = of_mode 493
+directory_attributes (Some (Dir attributes)) = attributes
+directory_attributes (Some (Opaque attributes)) = attributes
+directory_attributes (Some (File attributes held)) = of_mode 493
+directory_attributes (Some (Link owner target)) = of_mode 493
+directory_attributes (Some Hide) = of_mode 493
 
--- the directory to which a place leads, and its mode
+-- the directory to which a place leads, and its attributes
 pub record IsDirectoryOf (base : Entries HeldFile) (place : List (List ℕ)) (directory : ImageDirectory) : Type 0 where
   pub leads : Ends base place directory.path
-  pub mode : directory.mode ≡ directory_mode (lookup base directory.path)
+  pub attributes : directory.attributes ≡ directory_attributes (lookup base directory.path)
 
 -- the path at which an image is shown to its services: where it stands, or where it is copied to
 abbrev pub shown_for : Bool → CopyMode → Bool → List (List ℕ) → List (List ℕ)
@@ -65,7 +67,7 @@ pub record IsAttaching (base : Entries HeldFile) (ask : Ask) (body : Body) (unit
   pub place : attaching.place ≡ body.place
   pub outside : attaching.outside ≡ is_outside ask.image
   pub leads : Ends base body.place attaching.directory
-  pub mode : attaching.mode ≡ directory_mode (lookup base attaching.directory)
+  pub attributes : attaching.attributes ≡ directory_attributes (lookup base attaching.directory)
   pub profile_is : attaching.profile ≡ profile
   pub own : IsOwn (own_text body.place (shown_for ask.runtime ask.copy (is_outside ask.image) body.place) lines) attaching.own
   pub units_are : attaching.units ≡ units

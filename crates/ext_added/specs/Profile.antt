@@ -1,6 +1,7 @@
 -- The profile of an attachment, after portablectl(1), option --profile=. That it is always needed, and the order of the directories,
 -- is this project's own.
 use Rattle.std.specs.Prelude.{◌≡◌, ◌⊎◌, ℕ, false, List, ◌++◌, codes, Option, Some, None}
+use Rattle.ext_attributes.specs.Attributes.{OfFile}
 use Rattle.ext_tree.specs.Tree.{Entries, lookup}
 use Rattle.ext_tree.specs.declared.entry.Entry.TheVariants.{File}
 use Rattle.ext_walk.specs.Leads.{LeadsTo}
@@ -28,13 +29,13 @@ profile_text directory name = (directory ++ name) ++ codes "/service.conf"
 -- names lead to the file of a profile
 pub record LeadsToProfile (base : Entries HeldFile) (names : List (List ℕ)) (profile : Profile) : Type 0 where
   pub leads : Ends base names profile.path
-  pub mode : ℕ
-  pub stands : lookup base profile.path ≡ Some (File mode profile.file)
+  pub attributes : OfFile
+  pub stands : lookup base profile.path ≡ Some (File attributes profile.file)
 
 -- the file that stands at a path, or that none does
 abbrev pub ProfileWhere : Entries HeldFile → List (List ℕ) → Option Profile → Type 0
 ProfileWhere base end None = is_file_at (lookup base end) ≡ false
-ProfileWhere base end (Some profile) = (profile.path ≡ end) × ((mode : ℕ) × (lookup base end ≡ Some (File mode profile.file)))
+ProfileWhere base end (Some profile) = (profile.path ≡ end) × ((attributes : OfFile) × (lookup base end ≡ Some (File attributes profile.file)))
 
 -- the profile to which names lead, or that they lead to no file
 abbrev pub ProfileIn : Entries HeldFile → List (List ℕ) → Option Profile → Type 0

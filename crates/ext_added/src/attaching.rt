@@ -4,12 +4,13 @@ ghost use Rattle.std.specs.Option.{option_copied};
 ghost use Rattle.std.specs.Ordering.{eq_by_cmp};
 ghost use Rattle.ext_lines.specs.ByteOrder.{bytes_cmp};
 ghost use Rattle.ext_walk.specs.Leads.{LeadsToDirectory};
-ghost use Rattle.ext_added.specs.Attaching.{IsAttaching, IsDirectoryOf, directory_mode, is_outside, is_searched, shown_for};
+ghost use Rattle.ext_added.specs.Attaching.{IsAttaching, IsDirectoryOf, directory_attributes, is_outside, is_searched, shown_for};
 
 use crate::ask::{Ask, CopyMode};
 use crate::drop_in::own_file;
 use crate::image::{copies_images, image_top};
 use crate::profile::Profile;
+use ext_attributes::Attributes;
 use ext_host::Held;
 use ext_text::{Mode, OutOfMemory, Path};
 use ext_tree::{Entry, Tree};
@@ -33,8 +34,8 @@ pub struct Attaching {
     pub outside: bool,
     /// The directory to which the place leads.
     pub directory: Path,
-    /// The mode of that directory.
-    pub mode: Mode,
+    /// The attributes of that directory.
+    pub attributes: Attributes,
     /// The profile.
     pub profile: Profile,
     /// The file of the drop-in that tells a service its image.
@@ -48,8 +49,8 @@ pub struct Attaching {
 pub struct ImageDirectory {
     // Its path.
     pub path: Path,
-    // Its mode.
-    pub mode: Mode,
+    // Its attributes.
+    pub attributes: Attributes,
 }
 
 /// What is made of an ask, the image in the base that it is about, the units and the profile that it has, and further lines for each
@@ -80,7 +81,7 @@ pub fn attaching_of(
         place,
         outside,
         directory: directory.path,
-        mode: directory.mode,
+        attributes: directory.attributes,
         profile,
         own,
         units,
@@ -101,21 +102,23 @@ fn directory_of(
     match directory_at(alloc, base, &place.names())? {
         None => unreachable!(),
         Some(end) => {
-            let mode = directory_mode(base.entry_at(&end));
+            let attributes = directory_attributes(base.entry_at(&end));
             let path = Path::of_names(alloc, &end)?;
-            Ok(ImageDirectory { path, mode })
+            Ok(ImageDirectory { path, attributes })
         }
     }
 }
 
-// The mode of a directory, or of the root where there is no entry.
-fn directory_mode(entry: Option<&Entry<Held>>) -> Mode
-    ensures { result ≡ directory_mode (option_copied entry.entry) }
+// The attributes of a directory, or of the root where there is no entry.
+fn directory_attributes(entry: Option<&Entry<Held>>) -> Attributes
+    ensures { result ≡ directory_attributes (option_copied entry.entry) }
 {
     match entry {
-        Some(Entry::Dir(mode)) => *mode,
-        Some(Entry::Opaque(mode)) => *mode,
-        Some(Entry::File(_, _)) | Some(Entry::Link(_)) | Some(Entry::Hide) | None => root_mode(),
+        Some(Entry::Dir(attributes)) => *attributes,
+        Some(Entry::Opaque(attributes)) => *attributes,
+        Some(Entry::File(_, _)) | Some(Entry::Link(_, _)) | Some(Entry::Hide) | None => {
+            Attributes::of_mode(root_mode())
+        }
     }
 }
 

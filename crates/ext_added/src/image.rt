@@ -75,7 +75,7 @@ fn image_piece(
     let path = image_top(alloc, attaching.runtime, &attaching.place)?;
     if copies_images(attaching.copy) {
         let part = image.copy()?;
-        let top = Entry::Dir(attaching.mode);
+        let top = Entry::Dir(attaching.attributes);
         Ok(Piece { path, top, part })
     } else {
         let top = link_to(alloc, &attaching.place)?;

@@ -1,11 +1,13 @@
 // The texts of links.
 ghost use Rattle.std.specs.Prelude.{◌≡◌, ◌++◌, IfOk, IfErr, OnOk, true, false};
+ghost use Rattle.ext_attributes.specs.Attributes.{root_owner};
 ghost use Rattle.ext_text.specs.Absolute.{absolute};
 ghost use Rattle.ext_text.specs.PathText.{text_of_both};
 ghost use Rattle.ext_tree.specs.Grafting.{IsLongPath};
 ghost use Rattle.ext_tree.specs.declared.entry.Entry.TheVariants.{Link};
 ghost use Rattle.ext_added.specs.Limits.{fits_text};
 
+use ext_attributes::Owner;
 use ext_host::Held;
 use ext_text::{OutOfMemory, Path, Text};
 use ext_tree::{Entry, TreeErr};
@@ -16,7 +18,7 @@ const MOST_TARGET: usize = 4096;
 
 // The link to a path; `Path` exactly where its text is too long.
 pub(crate) fn link_to(alloc: Global, path: &Path) -> Result<Entry<Held>, TreeErr>
-    ensures ok { IfOk result (λ entry. (entry ≡ Link (absolute path.now)) × (fits_text (absolute path.now) ≡ true)) }
+    ensures ok { IfOk result (λ entry. (entry ≡ Link root_owner (absolute path.now)) × (fits_text (absolute path.now) ≡ true)) }
     ensures err { IfErr result (IsLongPath (fits_text (absolute path.now) ≡ false)) }
 {
     link_below(alloc, path, &Path::root(alloc))
@@ -24,7 +26,7 @@ pub(crate) fn link_to(alloc: Global, path: &Path) -> Result<Entry<Held>, TreeErr
 
 // The link to a path below another one, where both may be too long together.
 pub(crate) fn link_below(alloc: Global, above: &Path, below: &Path) -> Result<Entry<Held>, TreeErr>
-    ensures ok { IfOk result (λ entry. (entry ≡ Link (absolute (above.now ++ below.now)))
+    ensures ok { IfOk result (λ entry. (entry ≡ Link root_owner (absolute (above.now ++ below.now)))
         × (fits_text (absolute (above.now ++ below.now)) ≡ true)) }
     ensures err { IfErr result (IsLongPath (fits_text (absolute (above.now ++ below.now)) ≡ false)) }
 {
@@ -32,7 +34,7 @@ pub(crate) fn link_below(alloc: Global, above: &Path, below: &Path) -> Result<En
     if text.bytes().len() > MOST_TARGET {
         return Err(TreeErr::Path);
     }
-    Ok(Entry::Link(text))
+    Ok(Entry::Link(Owner::root(), text))
 }
 
 // The path below the other one, as it is written for a reader.

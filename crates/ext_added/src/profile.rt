@@ -103,6 +103,6 @@ fn profile_where(
             let path = Path::of_names(alloc, end)?;
             Ok(Some(Profile { path, file }))
         }
-        Some(Entry::Dir(_) | Entry::Opaque(_) | Entry::Link(_) | Entry::Hide) | None => Ok(None),
+        Some(Entry::Dir(_) | Entry::Opaque(_) | Entry::Link(_, _) | Entry::Hide) | None => Ok(None),
     }
 }

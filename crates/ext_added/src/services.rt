@@ -11,6 +11,7 @@ use crate::attaching::Attaching;
 use crate::destination::{child, destination, drop_in_name, name_of};
 use crate::link_text::link_to;
 use crate::units::made_file;
+use ext_attributes::Attributes;
 use ext_host::Held;
 use ext_text::{Mode, OutOfMemory, Path};
 use ext_tree::{Entry, Tree, TreeErr};
@@ -133,7 +134,7 @@ fn service_piece(
         Some(name) => {
             let path = child(directory, &name)?;
             let part = drop_ins(alloc, attaching)?;
-            let top = Entry::Dir(directory_mode());
+            let top = Entry::Dir(Attributes::of_mode(directory_mode()));
             Ok(Piece { path, top, part })
         }
     }

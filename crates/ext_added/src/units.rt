@@ -4,7 +4,7 @@ ghost use Rattle.std.specs.List.{AllByRecursion};
 ghost use Rattle.ext_tree.specs.Grafting.{IsLongPath};
 ghost use Rattle.ext_tree.specs.Tree.{lookup};
 ghost use Rattle.ext_find.specs.Content.{is_file_at};
-ghost use Rattle.ext_added.specs.Added.{copied, file_mode, links_units, unit_entry, unit_piece};
+ghost use Rattle.ext_added.specs.Added.{copied, links_units, made_attributes, unit_entry, unit_piece};
 ghost use Rattle.ext_added.specs.Destination.{destination};
 ghost use Rattle.ext_added.specs.Tops.{FitsUnit};
 ghost use Rattle.ext_tree.specs.declared.entry.Entry.TheVariants.{File};
@@ -13,6 +13,7 @@ use crate::ask::CopyMode;
 use crate::attaching::Attaching;
 use crate::destination::{child, destination};
 use crate::link_text::link_below;
+use ext_attributes::FileAttributes;
 use ext_host::Held;
 use ext_lines::allocated;
 use ext_text::{Mode, OutOfMemory, Path};
@@ -106,10 +107,10 @@ fn copied(alloc: Global, tree: &Tree<Held>, path: &Path) -> Result<Entry<Held>, 
 
 // A file of these bytes.
 pub(crate) fn made_file(alloc: Global, held: &Held) -> Result<Entry<Held>, OutOfMemory>
-    ensures { IfOk result (λ entry. entry ≡ File file_mode held.now) }
+    ensures { IfOk result (λ entry. entry ≡ File made_attributes held.now) }
 {
     match Mode::new(FILE_MODE) {
-        Some(mode) => Ok(Entry::File(mode, held.copy(alloc)?)),
+        Some(mode) => Ok(Entry::File(FileAttributes::of_mode(mode), held.copy(alloc)?)),
         None => unreachable!(),
     }
 }

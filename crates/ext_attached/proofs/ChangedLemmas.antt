@@ -74,7 +74,7 @@ module _ (host : Host) (touched : List (List (List ℕ))) (root : Entries HeldFi
       let moves = λ (q : List (List ℕ)) (below : is_prefix m.path q ≡ true). base_moves q (unmet_below touched m.path q out below) in
       record {
         each = all_weaker _ _ (λ item has. (has.0, (has.1.0, has.1.1, moves item.path has.0 ∙ has.1.2, has.1.3))) m.items items.each;
-        whole = λ q mode held below stands. items.whole q mode held below (sym (moves q below) ∙ stands);
+        whole = λ q attributes held below stands. items.whole q attributes held below (sym (moves q below) ∙ stands);
       }
 
   all_items_move : (kept : List Manifest) → AllByRecursion (HasItems (base_at (hierarchies_in host) (present host))) kept

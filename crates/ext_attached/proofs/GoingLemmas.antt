@@ -123,7 +123,7 @@ cut_drawn host paths held home kept file =
     record {
       tree = host.root;
       among = (zero, omega arith, refl);
-      file = record { path = f.path; mode = f.mode; stands = cut_found paths host.root f.path (File f.mode held) f.stands };
+      file = record { path = f.path; attributes = f.attributes; stands = cut_found paths host.root f.path (File f.attributes held) f.stands };
     }
 
 pub detached_is_planned : (by : By) (text : List ℕ) (host : Host) → IsValidHost host → IsPlannedHost host (detached by text host)

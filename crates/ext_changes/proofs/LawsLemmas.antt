@@ -94,10 +94,10 @@ find_below p q cs = find-where_key path_cmp (is_prefix p) q (λ x tied. ap (is_p
 
 -- of files nothing but the stamp was kept
 stamped_itself : (e : Entry Stamp) → stamped (λ s. s) e ≡ e
-stamped_itself (Dir mode) = refl
-stamped_itself (Opaque mode) = refl
-stamped_itself (File mode content) = refl
-stamped_itself (Link target) = refl
+stamped_itself (Dir attributes) = refl
+stamped_itself (Opaque attributes) = refl
+stamped_itself (File attributes content) = refl
+stamped_itself (Link owner target) = refl
 stamped_itself Hide = refl
 
 stamped_option : (o : Option (Entry Stamp)) → option_map (stamped (λ s. s)) o ≡ o

@@ -1,5 +1,5 @@
 -- The changes between two trees, an earlier and a later one, stated of each path by itself. This project's own choice: an
--- entry is added, removed or changed, and a file is changed where its mode or its stamp is another one.
+-- entry is added, removed or changed, and a file is changed where its attributes or its stamp are others.
 use Rattle.std.specs.Prelude.{◌≡◌, ◌≢◌, ℕ, false, List, IsTrue, Option, Some, None}
 use Rattle.std.specs.FinMap.{find, is_sorted}
 use Rattle.std.specs.Option.{option_map}
@@ -11,12 +11,12 @@ use Rattle.ext_tree.specs.declared.stamp.Stamp.{Stamp}
 use Rattle.ext_changes.specs.declared.change.ChangeKind.{ChangeKind}
 use Rattle.ext_changes.specs.declared.change.ChangeKind.TheVariants.{Added, Removed, Changed}
 
--- the entry, with nothing of a file but its mode and its stamp
+-- the entry, with nothing of a file but its attributes and its stamp
 abbrev pub stamped : {C : Type 0} → (C → Stamp) → Entry C → Entry Stamp
-stamped stamp (Dir mode) = Dir mode
-stamped stamp (Opaque mode) = Opaque mode
-stamped stamp (File mode content) = File mode (stamp content)
-stamped stamp (Link target) = Link target
+stamped stamp (Dir attributes) = Dir attributes
+stamped stamp (Opaque attributes) = Opaque attributes
+stamped stamp (File attributes content) = File attributes (stamp content)
+stamped stamp (Link owner target) = Link owner target
 stamped stamp Hide = Hide
 
 -- what a tree has at a path, so seen

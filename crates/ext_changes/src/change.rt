@@ -7,7 +7,7 @@ pub enum ChangeKind {
     Added,
     /// Only the earlier tree has one.
     Removed,
-    /// Both have one, and its kind, its mode, its file's stamp or its link's target differs.
+    /// Both have one, and its kind, its mode, its owner, its file's capability, its file's stamp or its link's target differs.
     Changed,
 }
 

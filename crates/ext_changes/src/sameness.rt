@@ -5,7 +5,7 @@ ghost use Rattle.ext_changes.specs.Changes.{DiffersBy, IsChanged, stamped};
 
 use crate::change::ChangeKind;
 use crate::stamped::Stamped;
-use ext_text::{Mode, Text};
+use ext_text::Text;
 use ext_tree::{Entry, Stamp};
 
 // How what the earlier and the later tree have at one path differs; `None` exactly where it doesn't.
@@ -43,22 +43,17 @@ fn are_same<A: Stamped, B: Stamped>(old: &Entry<A>, new: &Entry<B>) -> bool
     ensures { IsTrue result ↔ (stamped A.stamp old.now ≡ stamped B.stamp new.now) }
 {
     match (old, new) {
-        (Entry::Dir(mode), Entry::Dir(other)) => are_same_modes(*mode, *other),
-        (Entry::Opaque(mode), Entry::Opaque(other)) => are_same_modes(*mode, *other),
-        (Entry::File(mode, content), Entry::File(other, now)) => {
-            are_same_modes(*mode, *other) && are_same_stamps(content.stamp(), now.stamp())
+        (Entry::Dir(attributes), Entry::Dir(other)) => attributes.equals(other),
+        (Entry::Opaque(attributes), Entry::Opaque(other)) => attributes.equals(other),
+        (Entry::File(attributes, content), Entry::File(other, now)) => {
+            attributes.equals(other) && are_same_stamps(content.stamp(), now.stamp())
         }
-        (Entry::Link(target), Entry::Link(other)) => are_same_texts(target, other),
+        (Entry::Link(owner, target), Entry::Link(other, new)) => {
+            owner.equals(*other) && are_same_texts(target, new)
+        }
         (Entry::Hide, Entry::Hide) => true,
         _ => false,
     }
-}
-
-// Whether two modes are equal.
-fn are_same_modes(mode: Mode, other: Mode) -> bool
-    ensures { IsTrue result ↔ (mode ≡ other) }
-{
-    mode.bits() == other.bits()
 }
 
 // Whether two stamps are equal.

@@ -206,7 +206,7 @@ fn of_transfers(alloc: Global, command: &Command) -> Result<String, OutOfMemory>
     ))
 }
 
-// Whether it is the depot that is missing, or a file in it.
+// Whether it is the depot that is missing, a folder in it, or a file there.
 fn of_depot(rt: &HostRuntime, depot: &str, path: &Path) -> Result<String, OutOfMemory> {
     let shown = escaped(rt.alloc(), depot)?;
     if fs::metadata(rt, depot).is_err() {
@@ -214,8 +214,23 @@ fn of_depot(rt: &HostRuntime, depot: &str, path: &Path) -> Result<String, OutOfM
             "DEPOT {shown} is missing, or can't be looked at: is it the right folder?"
         ));
     }
-    let path = escaped(rt.alloc(), str::from_utf8(path.text()).unwrap_or(""))?;
+    let path = str::from_utf8(path.text()).unwrap_or("");
+    if let Some((folder, _name)) = path.rsplit_once('/')
+        && is_missing(rt, depot, folder)?
+    {
+        let folder = escaped(rt.alloc(), folder)?;
+        return allocated(format!(in rt.alloc();
+            "DEPOT {shown} has no folder {folder}: `tools/pack` and `tools/fetch` make it with what they put there"
+        ));
+    }
+    let path = escaped(rt.alloc(), path)?;
     allocated(format!(in rt.alloc();
         "DEPOT {shown} has no file {path}: `tools/pack` and `tools/fetch` put files there"
     ))
+}
+
+// Whether nothing can be looked at at this place in the depot.
+fn is_missing(rt: &HostRuntime, depot: &str, place: &str) -> Result<bool, OutOfMemory> {
+    let whole = allocated(format!(in rt.alloc(); "{depot}/{place}"))?;
+    Ok(fs::metadata(rt, whole.as_str()).is_err())
 }

@@ -5,6 +5,7 @@ use Rattle.std.specs.FinMap.Entries.{below_all}
 use Rattle.std.specs.List.{AllByRecursion}
 use Rattle.std.specs.Ordering.{is_eq, is_lt, ordering_reverse}
 use Rattle.std.proofs.lemmas.Bool.{and_parts}
+use Rattle.ext_attributes.specs.Attributes.{OfFile}
 use Rattle.ext_lines.specs.ByteOrder.{bytes_cmp, bytes_total}
 use Rattle.ext_text.proofs.ForCallers.{all_back, is_less, names_tied}
 use Rattle.ext_text.specs.Name.{IsName}
@@ -45,7 +46,7 @@ module _ {C : Type 0} (size : C → ℕ) (es : Entries C) (component : Option (L
   each_config files are = each_in files files are (each_found (files_by_name files) are.sorted)
 
   -- the content of a configuration file is that of a file of the base
-  pub config_in_base : (name : List ℕ) (content : C) → IsConfig size es component kind name content → (path : List (List ℕ)) × (mode : ℕ) × (lookup es path ≡ Some (File mode content))
+  pub config_in_base : (name : List ℕ) (content : C) → IsConfig size es component kind name content → (path : List (List ℕ)) × (attributes : OfFile) × (lookup es path ≡ Some (File attributes content))
   config_in_base name content config = (config.leads.0, config.leads.1, config.leads.3)
 
   -- a name that has one content as a configuration file has no other

@@ -92,10 +92,10 @@ find_contents q ((name, Content content) ∷ es) sorted =
 -- the content of a file
 abbrev held_in : {C : Type 0} → C → Option (Entry C) → C
 held_in other None = other
-held_in other (Some (Dir mode)) = other
-held_in other (Some (Opaque mode)) = other
-held_in other (Some (File mode content)) = content
-held_in other (Some (Link target)) = other
+held_in other (Some (Dir attributes)) = other
+held_in other (Some (Opaque attributes)) = other
+held_in other (Some (File attributes content)) = content
+held_in other (Some (Link owner target)) = other
 held_in other (Some Hide) = other
 
 -- names lead to one content

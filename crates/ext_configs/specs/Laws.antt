@@ -1,6 +1,7 @@
 -- The laws of configuration files and components.
 use Rattle.std.specs.Prelude.{◌≡◌, ℕ, List, Option, Some}
 use Rattle.std.specs.FinMap.{find}
+use Rattle.ext_attributes.specs.Attributes.{OfFile}
 use Rattle.ext_lines.specs.ByteOrder.{bytes_cmp}
 use Rattle.ext_tree.specs.Tree.{Entries, lookup}
 use Rattle.ext_tree.specs.declared.entry.Entry.TheVariants.{File}
@@ -27,4 +28,4 @@ ConfigsAreFiles {C} size =
     (es : Entries C) (component : Option (List ℕ)) (kind : ConfigKind) (files : List (ConfigFile C))
     → AreConfigs size es component kind files
     → (name : List ℕ) (content : C) → find bytes_cmp name (files_by_name files) ≡ Some content
-    → (path : List (List ℕ)) × (mode : ℕ) × (lookup es path ≡ Some (File mode content))
+    → (path : List (List ℕ)) × (attributes : OfFile) × (lookup es path ≡ Some (File attributes content))

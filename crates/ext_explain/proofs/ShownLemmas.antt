@@ -17,18 +17,18 @@ use Rattle.ext_explain.proofs.PrefixLemmas.{passes_nowhere, passes_there}
 
 -- what shows of an entry is what shows of it as it shows
 pub shows_as : (e : Entry HeldFile) → shown_entry (stamped_entry (as_shown e)) ≡ shown_entry (stamped_entry e)
-shows_as (Dir mode) = refl
-shows_as (Opaque mode) = refl
-shows_as (File mode held) = refl
-shows_as (Link target) = refl
+shows_as (Dir attributes) = refl
+shows_as (Opaque attributes) = refl
+shows_as (File attributes held) = refl
+shows_as (Link owner target) = refl
 shows_as Hide = refl
 
 -- an entry that shows nothing is a whiteout
 hidden_or : (e : Entry HeldFile) → ((not (is_hide e) ≡ true) → ⊥) → shown_entry (stamped_entry e) ≡ None
-hidden_or (Dir mode) visible = absurd (visible refl)
-hidden_or (Opaque mode) visible = absurd (visible refl)
-hidden_or (File mode held) visible = absurd (visible refl)
-hidden_or (Link target) visible = absurd (visible refl)
+hidden_or (Dir attributes) visible = absurd (visible refl)
+hidden_or (Opaque attributes) visible = absurd (visible refl)
+hidden_or (File attributes held) visible = absurd (visible refl)
+hidden_or (Link owner target) visible = absurd (visible refl)
 hidden_or Hide visible = refl
 
 -- what a layer has

@@ -25,10 +25,10 @@ use Rattle.ext_explain.specs.ViewChanges.{AreViewChanges}
 
 -- an entry of a tree as it shows, a file with its stamp alone; a whiteout shows nothing
 abbrev pub shown_entry : Entry Stamp → Option (Entry Stamp)
-shown_entry (Dir mode) = Some (Dir mode)
-shown_entry (Opaque mode) = Some (Dir mode)
-shown_entry (File mode stamp) = Some (File mode stamp)
-shown_entry (Link target) = Some (Link target)
+shown_entry (Dir attributes) = Some (Dir attributes)
+shown_entry (Opaque attributes) = Some (Dir attributes)
+shown_entry (File attributes stamp) = Some (File attributes stamp)
+shown_entry (Link owner target) = Some (Link owner target)
 shown_entry Hide = None
 
 -- what shows where this stands, if something does

@@ -27,10 +27,10 @@ module _ {C : Type 0} (es : Entries C) (more : List (List ℕ)) where
 
   more_entered : (o : Option (Entry C)) (at : List (List ℕ)) (name : List ℕ) (left : List (List ℕ)) (links : ℕ) → enter o at name (left ++ more) links ≡ option_map (with_more more) (enter o at name left links)
   more_entered None at name left links = refl
-  more_entered (Some (Dir mode)) at name left links = refl
-  more_entered (Some (Opaque mode)) at name left links = refl
-  more_entered (Some (File mode content)) at name left links = refl
-  more_entered (Some (Link target)) at name left links = more_followed target at left links
+  more_entered (Some (Dir attributes)) at name left links = refl
+  more_entered (Some (Opaque attributes)) at name left links = refl
+  more_entered (Some (File attributes content)) at name left links = refl
+  more_entered (Some (Link owner target)) at name left links = more_followed target at left links
   more_entered (Some Hide) at name left links = refl
 
   more_stepped : (at : List (List ℕ)) (name : List ℕ) (left : List (List ℕ)) (links : ℕ) → step es (walk at (name ∷ (left ++ more)) links) ≡ option_map (with_more more) (step es (walk at (name ∷ left) links))

@@ -35,18 +35,18 @@ name_not_up (b ∷ c ∷ d ∷ n) is = refl
 
 directory_stands : {C : Type 0} (o : Option (Entry C)) → is_directory_at o ≡ true → is_standing o ≡ true
 directory_stands None is = absurd (false≢true is)
-directory_stands (Some (Dir mode)) is = refl
-directory_stands (Some (Opaque mode)) is = refl
-directory_stands (Some (File mode content)) is = absurd (false≢true is)
-directory_stands (Some (Link target)) is = absurd (false≢true is)
+directory_stands (Some (Dir attributes)) is = refl
+directory_stands (Some (Opaque attributes)) is = refl
+directory_stands (Some (File attributes content)) is = absurd (false≢true is)
+directory_stands (Some (Link owner target)) is = absurd (false≢true is)
 directory_stands (Some Hide) is = absurd (false≢true is)
 
 file_stands : {C : Type 0} (o : Option (Entry C)) → is_file_at o ≡ true → is_standing o ≡ true
 file_stands None is = absurd (false≢true is)
-file_stands (Some (Dir mode)) is = absurd (false≢true is)
-file_stands (Some (Opaque mode)) is = absurd (false≢true is)
-file_stands (Some (File mode content)) is = refl
-file_stands (Some (Link target)) is = absurd (false≢true is)
+file_stands (Some (Dir attributes)) is = absurd (false≢true is)
+file_stands (Some (Opaque attributes)) is = absurd (false≢true is)
+file_stands (Some (File attributes content)) is = refl
+file_stands (Some (Link owner target)) is = absurd (false≢true is)
 file_stands (Some Hide) is = absurd (false≢true is)
 
 standing_some : {C : Type 0} (o : Option (Entry C)) → is_standing o ≡ true → is_some o ≡ true
@@ -55,10 +55,10 @@ standing_some (Some e) is = refl
 
 entered : {C : Type 0} (o : Option (Entry C)) (at : List (List ℕ)) (name : List ℕ) (left : List (List ℕ)) (links : ℕ) → is_standing o ≡ true → enter o at name left links ≡ Some (walk (at ++ name ∷ []) left links)
 entered None at name left links stands = absurd (false≢true stands)
-entered (Some (Dir mode)) at name left links stands = refl
-entered (Some (Opaque mode)) at name left links stands = refl
-entered (Some (File mode content)) at name left links stands = refl
-entered (Some (Link target)) at name left links stands = absurd (false≢true stands)
+entered (Some (Dir attributes)) at name left links stands = refl
+entered (Some (Opaque attributes)) at name left links stands = refl
+entered (Some (File attributes content)) at name left links stands = refl
+entered (Some (Link owner target)) at name left links stands = absurd (false≢true stands)
 entered (Some Hide) at name left links stands = absurd (false≢true stands)
 
 module _ {C : Type 0} (es : Entries C) (tree : IsTree es) where
@@ -107,13 +107,13 @@ module _ {C : Type 0} (es : Entries C) (tree : IsTree es) where
 
     -- where no link stands there, it leads to a directory exactly where one stands there
     pub child_leads_on : (e : Entry C) → lookup es (directory ++ name ∷ []) ≡ Some e → is_link e ≡ false → IsTrue (is_directory e) ↔ LeadsToDirectory es (path ++ name ∷ [])
-    child_leads_on (Dir mode) at plain = (λ _. (directory ++ name ∷ [], child_ends (Some (Dir mode)) at refl, dir_directory es (directory ++ name ∷ []) (ap is_directory_at at)), λ _. refl)
-    child_leads_on (Opaque mode) at plain = (λ _. (directory ++ name ∷ [], child_ends (Some (Opaque mode)) at refl, dir_directory es (directory ++ name ∷ []) (ap is_directory_at at)), λ _. refl)
-    child_leads_on (File mode content) at plain = (
+    child_leads_on (Dir attributes) at plain = (λ _. (directory ++ name ∷ [], child_ends (Some (Dir attributes)) at refl, dir_directory es (directory ++ name ∷ []) (ap is_directory_at at)), λ _. refl)
+    child_leads_on (Opaque attributes) at plain = (λ _. (directory ++ name ∷ [], child_ends (Some (Opaque attributes)) at refl, dir_directory es (directory ++ name ∷ []) (ap is_directory_at at)), λ _. refl)
+    child_leads_on (File attributes content) at plain = (
       λ is. absurd (false≢true is),
-      λ leads. absurd (other_directory es (path ++ name ∷ []) (directory ++ name ∷ []) (child_ends (Some (File mode content)) at refl) (not_root (directory ++ name ∷ []) (omega (arith, length-append directory (name ∷ []))) (ap is_directory_at at)) leads),
+      λ leads. absurd (other_directory es (path ++ name ∷ []) (directory ++ name ∷ []) (child_ends (Some (File attributes content)) at refl) (not_root (directory ++ name ∷ []) (omega (arith, length-append directory (name ∷ []))) (ap is_directory_at at)) leads),
     )
-    child_leads_on (Link target) at plain = absurd (false≢true (sym plain))
+    child_leads_on (Link owner target) at plain = absurd (false≢true (sym plain))
     child_leads_on Hide at plain = (
       λ is. absurd (false≢true is),
       λ leads. absurd (stuck es directory name [] first.1 (entering (Some Hide) at) leads.0 ((parted_from es (name ∷ []) first.0 (walk [] path 0) directory first.1 first.2).there leads.0 leads.1)),

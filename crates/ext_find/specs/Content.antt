@@ -18,10 +18,10 @@ is_other_at (Some e) = not (is_directory e)
 
 -- a mask: an empty file, or a link to `/dev/null`
 abbrev pub is_mask : {C : Type 0} → (C → ℕ) → Entry C → Bool
-is_mask size (Dir mode) = false
-is_mask size (Opaque mode) = false
-is_mask size (File mode content) = size content == 0
-is_mask size (Link target) = eq_by_cmp bytes_cmp target (codes "/dev/null")
+is_mask size (Dir attributes) = false
+is_mask size (Opaque attributes) = false
+is_mask size (File attributes content) = size content == 0
+is_mask size (Link owner target) = eq_by_cmp bytes_cmp target (codes "/dev/null")
 is_mask size Hide = false
 
 -- a mask stands there: an empty file, or a link to `/dev/null`
@@ -31,18 +31,18 @@ is_mask_at size (Some e) = is_mask size e
 
 -- a link
 abbrev pub is_link : {C : Type 0} → Entry C → Bool
-is_link (Dir mode) = false
-is_link (Opaque mode) = false
-is_link (File mode content) = false
-is_link (Link target) = true
+is_link (Dir attributes) = false
+is_link (Opaque attributes) = false
+is_link (File attributes content) = false
+is_link (Link owner target) = true
 is_link Hide = false
 
 -- a file that is not empty
 abbrev pub is_full : {C : Type 0} → (C → ℕ) → Entry C → Bool
-is_full size (Dir mode) = false
-is_full size (Opaque mode) = false
-is_full size (File mode content) = not (size content == 0)
-is_full size (Link target) = false
+is_full size (Dir attributes) = false
+is_full size (Opaque attributes) = false
+is_full size (File attributes content) = not (size content == 0)
+is_full size (Link owner target) = false
 is_full size Hide = false
 
 -- a file that is not empty stands there

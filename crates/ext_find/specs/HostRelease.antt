@@ -2,6 +2,7 @@
 use Rattle.std.specs.Prelude.{◌≡◌, ◌⊎◌, ℕ, false, List, codes, Option, Some, None, Result, Ok, Err}
 use Rattle.std.specs.Borrow.{Bor}
 use Rattle.std.specs.FinMap.{FinMap}
+use Rattle.ext_attributes.specs.Attributes.{OfFile}
 use Rattle.ext_lines.specs.ByteOrder.{bytes_cmp}
 use Rattle.ext_tree.specs.declared.entry.Entry.{Entry}
 use Rattle.ext_tree.specs.declared.entry.Entry.TheVariants.{File}
@@ -30,11 +31,11 @@ vendor_release = parts (codes "usr/lib/os-release")
 -- the entry is a file of this content, or it is none
 abbrev pub IsContent : {C : Type 0} → Option (Entry C) → Option (Bor C) → Type 0
 IsContent entry None = is_file_at entry ≡ false
-IsContent entry (Some content) = (mode : ℕ) × (entry ≡ Some (File mode content.now))
+IsContent entry (Some content) = (attributes : OfFile) × (entry ≡ Some (File attributes content.now))
 
 -- names lead to a file of this content
 abbrev pub LeadsToContent : {C : Type 0} → Entries C → List (List ℕ) → C → Type 0
-LeadsToContent es names content = (end : List (List ℕ)) × (mode : ℕ) × Ends es names end × (lookup es end ≡ Some (File mode content))
+LeadsToContent es names content = (end : List (List ℕ)) × (attributes : OfFile) × Ends es names end × (lookup es end ≡ Some (File attributes content))
 
 -- the file to which names lead, or that they lead to none
 abbrev pub ContentAt : {C : Type 0} → Entries C → List (List ℕ) → Option (Bor C) → Type 0

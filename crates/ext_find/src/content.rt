@@ -38,7 +38,7 @@ pub fn is_mask<C: Measured>(entry: &Entry<C>) -> bool
     match entry {
         Entry::Dir(_) | Entry::Opaque(_) | Entry::Hide => false,
         Entry::File(_, content) => content.size() == 0,
-        Entry::Link(target) => target.bytes().cmp(b"/dev/null".as_slice()).is_eq(),
+        Entry::Link(_, target) => target.bytes().cmp(b"/dev/null".as_slice()).is_eq(),
     }
 }
 
@@ -48,7 +48,7 @@ pub(crate) fn is_link<C>(entry: &Entry<C>) -> bool
 {
     match entry {
         Entry::Dir(_) | Entry::Opaque(_) | Entry::File(_, _) | Entry::Hide => false,
-        Entry::Link(_) => true,
+        Entry::Link(_, _) => true,
     }
 }
 
@@ -57,7 +57,7 @@ pub(crate) fn is_full<C: Measured>(entry: &Entry<C>) -> bool
     ensures { result ≡ is_full C.size entry.now }
 {
     match entry {
-        Entry::Dir(_) | Entry::Opaque(_) | Entry::Link(_) | Entry::Hide => false,
+        Entry::Dir(_) | Entry::Opaque(_) | Entry::Link(_, _) | Entry::Hide => false,
         Entry::File(_, content) => content.size() != 0,
     }
 }

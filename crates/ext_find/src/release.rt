@@ -167,6 +167,6 @@ fn content<C>(entry: &Entry<C>) -> Option<&C>
 {
     match entry {
         Entry::File(_, content) => Some(content),
-        Entry::Dir(_) | Entry::Opaque(_) | Entry::Link(_) | Entry::Hide => None,
+        Entry::Dir(_) | Entry::Opaque(_) | Entry::Link(_, _) | Entry::Hide => None,
     }
 }

@@ -131,10 +131,10 @@ bytes_fit whole xs ys zs m n most is first second bound =
     omega (arith, sum_by-append (λ (held : HeldFile). held.stamp.size) ys zs)
 
 one_entry : (e : Entry HeldFile) → length (files_in e) ≤ 1
-one_entry (Dir mode) = omega arith
-one_entry (Opaque mode) = omega arith
-one_entry (File mode held) = omega arith
-one_entry (Link target) = omega arith
+one_entry (Dir attributes) = omega arith
+one_entry (Opaque attributes) = omega arith
+one_entry (File attributes held) = omega arith
+one_entry (Link owner target) = omega arith
 one_entry Hide = omega arith
 
 -- entries have no more files than they are
@@ -146,10 +146,10 @@ length-files_of (x ∷ es) =
     omega (arith, length-append (files_in x.1) (files_of es))
 
 bytes_of_one : (e : Entry HeldFile) → sizes_of (files_in e) ≡ bytes_of e
-bytes_of_one (Dir mode) = refl
-bytes_of_one (Opaque mode) = refl
-bytes_of_one (File mode held) = omega arith
-bytes_of_one (Link target) = refl
+bytes_of_one (Dir attributes) = refl
+bytes_of_one (Opaque attributes) = refl
+bytes_of_one (File attributes held) = omega arith
+bytes_of_one (Link owner target) = refl
 bytes_of_one Hide = refl
 
 -- and as many bytes
@@ -199,10 +199,10 @@ slice_get-after [] x xs = refl
 slice_get-after (f ∷ seen) x xs = slice_get-after seen x xs
 
 entry_served : (whole : Entries HeldFile) (path : List (List ℕ)) (e : Entry HeldFile) → find path_cmp path whole ≡ Some e → ((held : HeldFile) → HasFile whole held → IsServed held) → AllByRecursion IsServed (files_in e)
-entry_served whole path (Dir mode) stands each = tt
-entry_served whole path (Opaque mode) stands each = tt
-entry_served whole path (File mode held) stands each = (each held (record { path = path; mode = mode; stands = stands }), tt)
-entry_served whole path (Link target) stands each = tt
+entry_served whole path (Dir attributes) stands each = tt
+entry_served whole path (Opaque attributes) stands each = tt
+entry_served whole path (File attributes held) stands each = (each held (record { path = path; attributes = attributes; stands = stands }), tt)
+entry_served whole path (Link owner target) stands each = tt
 entry_served whole path Hide stands each = tt
 
 files_served : (seen es : Entries HeldFile) → IsTrue (is_sorted path_cmp (seen ++ es)) → ((held : HeldFile) → HasFile (seen ++ es) held → IsServed held) → AllByRecursion IsServed (files_of es)

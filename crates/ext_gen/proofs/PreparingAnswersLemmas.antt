@@ -15,6 +15,7 @@ use Rattle.ext_store_files.specs.declared.fault.StoreFault.TheVariants as store_
 use Rattle.ext_store_files.specs.declared.fault.StoreFault.TheVariants.{OutOfMemory, DiskFault, DepotFault, Damaged}
 use Rattle.ext_store_files.proofs.ForCallers.{told_itself}
 use Rattle.ext_homes.specs.declared.errors.HomesErr.TheVariants as homes_errors
+use Rattle.ext_index.specs.ValidIndex.{written_text}
 use Rattle.ext_gen.specs.Opened.{Generation}
 use Rattle.ext_gen.specs.Preparing.{LimitSays, PrepareCause, coming_number, host_before}
 use Rattle.ext_gen.specs.PreparingCauses.{ChangeCause}
@@ -69,7 +70,7 @@ prepared_limit T limit (Ok t) none cause = none
 prepared_limit T limit (Err e) none cause = failed_with T (LimitSays limit) (Fault OutOfMemory) (Err e) (ap Err cause) none
 
 pub prepared_completed : (from : Option Generation) (n : ℕ) (next host : Host) (old new : DiskState) (depot : DepotState) (r : Result Generation StoreErr) → n ≡ coming_number from
-    → Changed from n next old new depot host → IfOk r (λ g. g ≡ record { number = n; text = 2; host = host }) → IfOk r (Completed from next old new depot)
+    → Changed from n next old new depot host → IfOk r (λ g. g ≡ record { number = n; text = written_text host; host = host }) → IfOk r (Completed from next old new depot)
 prepared_completed from n next host old new depot (Ok g) number changed is =
     subst (Completed from next old new depot) (sym is) (record { number = number; text = refl; changed = changed })
 prepared_completed from n next host old new depot (Err e) number changed is = tt

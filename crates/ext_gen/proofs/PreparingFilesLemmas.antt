@@ -6,6 +6,7 @@ use Rattle.std.specs.Option.{is_some}
 use Rattle.std.specs.Ordering.{eq_by_cmp}
 use Rattle.std.proofs.lemmas.Bool.{false≢true, or_cases, or_left, or_right, eqb-true, eq-eqb}
 use Rattle.std.proofs.lemmas.List.Elements.{All-contains, All-from_recursion}
+use Rattle.ext_attributes.specs.Attributes.{OfFile}
 use Rattle.ext_text.specs.Order.{paths_total}
 use Rattle.ext_text.specs.Path.{path_cmp}
 use Rattle.ext_tree.specs.Tree.{Entries, IsTree, lookup}
@@ -81,7 +82,7 @@ pub file_needed : (g : Generation) (held : HeldFile) (home : Home) → IsFileOf 
 file_needed g held home is body =
     or_right (g.number == home.generation) _
     (any_contains (has_file_in home.generation) (trees_of g.host) is.tree is.among
-    (lookup_any (is_file_in home.generation) is.tree is.file.path (File is.file.mode held) is.file.stands
+    (lookup_any (is_file_in home.generation) is.tree is.file.path (File is.file.attributes held) is.file.stands
     (ap (is_kept_in home.generation) body ∙ eq-eqb home.generation home.generation refl)))
 
 -- and so is that of the generation before
@@ -93,11 +94,11 @@ kept_there n (Here bytes) is = absurd (false≢true is)
 kept_there n (Kept home) is = (home, refl, eqb-true home.generation n is)
 kept_there n (Depot path) is = absurd (false≢true is)
 
-file_there : (n : ℕ) (e : Entry HeldFile) → is_file_in n e ≡ true → (mode : ℕ) × (held : HeldFile) × (home : Home) × (e ≡ File mode held) × (held.body ≡ Kept home) × (home.generation ≡ n)
-file_there n (Dir mode) is = absurd (false≢true is)
-file_there n (Opaque mode) is = absurd (false≢true is)
-file_there n (File mode held) is = let kept = kept_there n held.body is in (mode, held, kept.0, refl, kept.1, kept.2)
-file_there n (Link target) is = absurd (false≢true is)
+file_there : (n : ℕ) (e : Entry HeldFile) → is_file_in n e ≡ true → (attributes : OfFile) × (held : HeldFile) × (home : Home) × (e ≡ File attributes held) × (held.body ≡ Kept home) × (home.generation ≡ n)
+file_there n (Dir attributes) is = absurd (false≢true is)
+file_there n (Opaque attributes) is = absurd (false≢true is)
+file_there n (File attributes held) is = let kept = kept_there n held.body is in (attributes, held, kept.0, refl, kept.1, kept.2)
+file_there n (Link owner target) is = absurd (false≢true is)
 file_there n Hide is = absurd (false≢true is)
 
 -- some file is kept in a generation that files need
@@ -108,7 +109,7 @@ needed_file n host formed any =
     let entry = contains_any (λ (x : List (List ℕ) × Entry HeldFile). is_file_in n x.1) tree.0 tree.2 in
     let kept = file_there n entry.0.1 entry.2 in
     let found : lookup tree.0 entry.0.0 ≡ Some (File kept.0 kept.1) = listed_found tree.0 entry.0 (tree_among host formed tree.0 tree.1) entry.1 ∙ ap Some kept.3 in
-    (kept.1, kept.2, record { tree = tree.0; among = tree.1; file = record { path = entry.0.0; mode = kept.0; stands = found } }, kept.4, kept.5)
+    (kept.1, kept.2, record { tree = tree.0; among = tree.1; file = record { path = entry.0.0; attributes = kept.0; stands = found } }, kept.4, kept.5)
 
 -- each file is kept in its generation, or in one before that
 pub opened_home : (g : Generation) → IsOpened g → (held : HeldFile) (home : Home) → IsFileOf (trees_of g.host) held → held.body ≡ Kept home → IsHomeUpTo g.number home

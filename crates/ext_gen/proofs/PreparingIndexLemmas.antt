@@ -1,10 +1,10 @@
 -- How long an index is: it is no longer where files have homes in earlier generations.
-use Rattle.std.proofs.Common.{◌≡◌, ◌⊎◌, ℕ, ◌+◌, ◌/◌, ◌%◌, ◌^◌, ◌<◌, ◌≤◌, min, false, List, [], ◌∷◌, ◌++◌, length, get_or, Option, Some, None, refl, sym, ap, ◌∙◌, subst, inl, inr, arith, length-append, codes}
+use Rattle.std.proofs.Common.{◌≡◌, ◌⊎◌, ℕ, ◌+◌, ◌/◌, ◌%◌, ◌^◌, ◌<◌, ◌≤◌, min, Bool, true, false, List, [], ◌∷◌, ◌++◌, length, get_or, Option, Some, None, refl, sym, ap, ◌∙◌, subst, inl, inr, arith, length-append, codes}
 use Rattle.std.specs.Prelude.{map, decimal, nat_lt}
 use Rattle.std.specs.Fmt.{digits}
 use Rattle.std.specs.List.{flat_map}
 use Rattle.std.proofs.lemmas.Bool.{cases_lt, cond-true, cond-false, lt-ltb, ltb-true}
-use Rattle.ext_lines.specs.Numbers.{octal}
+use Rattle.ext_attributes.specs.Attributes.{OfFile, file_attributes_text}
 use Rattle.ext_text.specs.declared.which.Which.TheVariants as whichs
 use Rattle.std.proofs.lemmas.Fmt.{decimal_by_steps, decimal_digit, decimal_step}
 use Rattle.ext_lines.specs.Lines.{lines_text}
@@ -23,9 +23,10 @@ use Rattle.ext_host.specs.declared.host.Host.{Host}
 use Rattle.ext_host.specs.declared.past.Past.{Past}
 use Rattle.ext_index_lines.specs.Homed.{file_digits}
 use Rattle.ext_index_lines.specs.Homes.{home_of, line_of_entry}
-use Rattle.ext_index_lines.specs.Lines.{number_line}
-use Rattle.ext_index.specs.Index.{machine_lines, merged_lines, past_lines, record_lines, section_lines, listed_tree_lines}
-use Rattle.ext_index.specs.ValidIndex.{most_index_bytes}
+use Rattle.ext_index_lines.specs.Lines.{header_line, host_line, number_line}
+use Rattle.ext_index_lines.specs.declared.text_number.TextNumber.TheVariants.{Later}
+use Rattle.ext_index.specs.Index.{hierarchy_lines, machine_lines, merged_lines, past_lines, record_lines, section_lines, listed_tree_lines}
+use Rattle.ext_index.specs.ValidIndex.{host_has_owners, most_index_bytes}
 use Rattle.ext_gen.specs.Opened.{Generation}
 use Rattle.ext_gen.specs.Preparing.{coming_number, limit_of}
 use Rattle.ext_gen.specs.PreparingIndex.{coming_index}
@@ -75,10 +76,10 @@ pub record IsNoLonger (n m : ℕ) (a b : HeldFile) : Type 0 where
   pub digits : length (decimal (home_of n a.body).generation) ≤ length (decimal (home_of m b.body).generation)
 
 abbrev pub EntryNoLonger : ℕ → ℕ → Entry HeldFile → Entry HeldFile → Type 0
-EntryNoLonger n m (Dir mode) f = f ≡ Dir mode
-EntryNoLonger n m (Opaque mode) f = f ≡ Opaque mode
-EntryNoLonger n m (File mode a) f = (b : HeldFile) × (f ≡ File mode b) × IsNoLonger n m a b
-EntryNoLonger n m (Link target) f = f ≡ Link target
+EntryNoLonger n m (Dir attributes) f = f ≡ Dir attributes
+EntryNoLonger n m (Opaque attributes) f = f ≡ Opaque attributes
+EntryNoLonger n m (File attributes a) f = (b : HeldFile) × (f ≡ File attributes b) × IsNoLonger n m a b
+EntryNoLonger n m (Link owner target) f = f ≡ Link owner target
 EntryNoLonger n m Hide f = f ≡ Hide
 
 abbrev pub AreNoLonger : ℕ → ℕ → Entries HeldFile → Entries HeldFile → Type 0
@@ -98,9 +99,9 @@ home_line rest gen file =
     ∙ ap (λ k. length gen + (1 + k)) (spaced_length (file_digits file) rest [] ∙ ap (λ k. k + (1 + length rest)) (five_long file))
 
 -- one line with the same stamp
-same_stamp_line : (n m mode : ℕ) (p : List (List ℕ)) (stamp : Stamp) (one two : Body) → length (decimal (home_of n one).generation) ≤ length (decimal (home_of m two).generation)
-    → length (line_of_entry n (p, File mode (record { stamp = stamp; body = one }))) ≤ length (line_of_entry m (p, File mode (record { stamp = stamp; body = two })))
-same_stamp_line n m mode p stamp one two few =
+same_stamp_line : (n m : ℕ) (attributes : OfFile) (p : List (List ℕ)) (stamp : Stamp) (one two : Body) → length (decimal (home_of n one).generation) ≤ length (decimal (home_of m two).generation)
+    → length (line_of_entry n (p, File attributes (record { stamp = stamp; body = one }))) ≤ length (line_of_entry m (p, File attributes (record { stamp = stamp; body = two })))
+same_stamp_line n m attributes p stamp one two few =
     let rest = path_text p in
     let size = decimal stamp.size in
     let hex = get_or (stamp_fields stamp) 1 [] in
@@ -108,12 +109,12 @@ same_stamp_line n m mode p stamp one two few =
     let theirs = decimal (home_of m two).generation ∷ file_digits (home_of m two).file ∷ [] in
     omega (
       arith,
-      spaced_length (codes "f") rest (octal mode ∷ size ∷ hex ∷ ours),
-      spaced_length (octal mode) rest (size ∷ hex ∷ ours),
+      spaced_length (codes "f") rest (file_attributes_text attributes ∷ size ∷ hex ∷ ours),
+      spaced_length (file_attributes_text attributes) rest (size ∷ hex ∷ ours),
       spaced_length size rest (hex ∷ ours),
       spaced_length hex rest ours,
-      spaced_length (codes "f") rest (octal mode ∷ size ∷ hex ∷ theirs),
-      spaced_length (octal mode) rest (size ∷ hex ∷ theirs),
+      spaced_length (codes "f") rest (file_attributes_text attributes ∷ size ∷ hex ∷ theirs),
+      spaced_length (file_attributes_text attributes) rest (size ∷ hex ∷ theirs),
       spaced_length size rest (hex ∷ theirs),
       spaced_length hex rest theirs,
       home_line rest (decimal (home_of n one).generation) (home_of n one).file,
@@ -121,16 +122,16 @@ same_stamp_line n m mode p stamp one two few =
       few,
     )
 
-file_line : (n m mode : ℕ) (p : List (List ℕ)) (a b : HeldFile) → IsNoLonger n m a b → length (line_of_entry n (p, File mode a)) ≤ length (line_of_entry m (p, File mode b))
-file_line n m mode p a b is =
-    subst (λ s. length (line_of_entry n (p, File mode (record { stamp = s; body = a.body }))) ≤ length (line_of_entry m (p, File mode b))) (sym is.stamp)
-    (same_stamp_line n m mode p b.stamp a.body b.body is.digits)
+file_line : (n m : ℕ) (attributes : OfFile) (p : List (List ℕ)) (a b : HeldFile) → IsNoLonger n m a b → length (line_of_entry n (p, File attributes a)) ≤ length (line_of_entry m (p, File attributes b))
+file_line n m attributes p a b is =
+    subst (λ s. length (line_of_entry n (p, File attributes (record { stamp = s; body = a.body }))) ≤ length (line_of_entry m (p, File attributes b))) (sym is.stamp)
+    (same_stamp_line n m attributes p b.stamp a.body b.body is.digits)
 
 entry_line_within : (n m : ℕ) (p : List (List ℕ)) (e f : Entry HeldFile) → EntryNoLonger n m e f → length (line_of_entry n (p, e)) ≤ length (line_of_entry m (p, f))
-entry_line_within n m p (Dir mode) f is = subst (λ x. length (line_of_entry n (p, Dir mode)) ≤ length (line_of_entry m (p, x))) (sym is) (omega arith)
-entry_line_within n m p (Opaque mode) f is = subst (λ x. length (line_of_entry n (p, Opaque mode)) ≤ length (line_of_entry m (p, x))) (sym is) (omega arith)
-entry_line_within n m p (File mode a) f (b, same, is) = subst (λ x. length (line_of_entry n (p, File mode a)) ≤ length (line_of_entry m (p, x))) (sym same) (file_line n m mode p a b is)
-entry_line_within n m p (Link target) f is = subst (λ x. length (line_of_entry n (p, Link target)) ≤ length (line_of_entry m (p, x))) (sym is) (omega arith)
+entry_line_within n m p (Dir attributes) f is = subst (λ x. length (line_of_entry n (p, Dir attributes)) ≤ length (line_of_entry m (p, x))) (sym is) (omega arith)
+entry_line_within n m p (Opaque attributes) f is = subst (λ x. length (line_of_entry n (p, Opaque attributes)) ≤ length (line_of_entry m (p, x))) (sym is) (omega arith)
+entry_line_within n m p (File attributes a) f (b, same, is) = subst (λ x. length (line_of_entry n (p, File attributes a)) ≤ length (line_of_entry m (p, x))) (sym same) (file_line n m attributes p a b is)
+entry_line_within n m p (Link owner target) f is = subst (λ x. length (line_of_entry n (p, Link owner target)) ≤ length (line_of_entry m (p, x))) (sym is) (omega arith)
 entry_line_within n m p Hide f is = subst (λ x. length (line_of_entry n (p, Hide)) ≤ length (line_of_entry m (p, x))) (sym is) (omega arith)
 
 entries_within : (n m : ℕ) (es fs : Entries HeldFile) → AreNoLonger n m es fs → length (lines_text (map (line_of_entry n) es)) ≤ length (lines_text (map (line_of_entry m) fs))
@@ -170,10 +171,10 @@ entries_themselves n m [] few = refl
 entries_themselves n m (x ∷ es) few = (x.1, es, refl, one x.1, entries_themselves n m es few)
   where
     one : (e : Entry HeldFile) → EntryNoLonger n m e e
-    one (Dir mode) = refl
-    one (Opaque mode) = refl
-    one (File mode a) = (a, refl, record { stamp = refl; digits = body_itself n m a.body few })
-    one (Link target) = refl
+    one (Dir attributes) = refl
+    one (Opaque attributes) = refl
+    one (File attributes a) = (a, refl, record { stamp = refl; digits = body_itself n m a.body few })
+    one (Link owner target) = refl
     one Hide = refl
 
 past_within : (n m : ℕ) (past : Past) → length (decimal n) ≤ length (decimal m) → length (lines_text (past_lines n past)) ≤ length (lines_text (past_lines m past))
@@ -186,13 +187,21 @@ pasts_within n m [] few = omega arith
 pasts_within n m (past ∷ pasts) few =
     both_texts (past_lines n past) (past_lines m past) (flat_map (past_lines n) pasts) (flat_map (past_lines m) pasts) (past_within n m past few) (pasts_within n m pasts few)
 
+-- the first lines of texts 2 and 3 are equally long
+same_head : (a b : Bool) (host : Host) → length (lines_text (machine_lines a host)) ≤ length (lines_text (machine_lines b host))
+same_head true true host = same_text (machine_lines true host)
+same_head true false host = omega (arith, text_cons (header_line (Later true)) (host_line host.arch host.scope ∷ hierarchy_lines host), text_cons (header_line (Later false)) (host_line host.arch host.scope ∷ hierarchy_lines host))
+same_head false true host = omega (arith, text_cons (header_line (Later true)) (host_line host.arch host.scope ∷ hierarchy_lines host), text_cons (header_line (Later false)) (host_line host.arch host.scope ∷ hierarchy_lines host))
+same_head false false host = same_text (machine_lines false host)
+
 -- an index is no longer where the generation has no more digits, and where the files of what is seen and of what lies under it
 -- have homes of no more digits
 pub index_within : (n m : ℕ) (host : Host) (root lower : Entries HeldFile) → length (decimal n) ≤ length (decimal m) → AreNoLonger n m root host.root → AreNoLonger n m lower host.lower
     → length (coming_index n (record host { root = root; lower = lower })) ≤ length (coming_index m host)
 unfolding coming_index
 index_within n m host root lower few one two =
-    both_texts (machine_lines host) (machine_lines host) _ _ (same_text (machine_lines host))
+    both_texts (machine_lines (host_has_owners (record host { root = root; lower = lower })) host) (machine_lines (host_has_owners host) host) _ _
+    (same_head (host_has_owners (record host { root = root; lower = lower })) (host_has_owners host) host)
     (both_texts (section_lines n (record (present host) { root = root; lower = lower })) (section_lines m (present host)) _ _ (section_within n m (present host) root lower one two)
     (and_line (number_line (codes "past") (length host.past)) (flat_map (past_lines n) host.past ++ codes "end" ∷ []) (flat_map (past_lines m) host.past ++ codes "end" ∷ [])
     (both_texts (flat_map (past_lines n) host.past) (flat_map (past_lines m) host.past) (codes "end" ∷ []) (codes "end" ∷ []) (pasts_within n m host.past few) (same_text (codes "end" ∷ [])))))

@@ -6,7 +6,7 @@ use Rattle.ext_text.specs.Path.{is_prefix}
 use Rattle.ext_disk.specs.Disk.{Node, folder, file, Place, Places, Told, DiskState, BothTold, IsDisk, is_folder, is_synced}
 use Rattle.ext_disk.specs.Calls.{IsFree}
 use Rattle.ext_disk.specs.Fixed.{Spares, IsUnchangedAt, Stays}
-use Rattle.ext_store_files.specs.Names.{generation_path, home_folder, home_path, index_path, next_path}
+use Rattle.ext_store_files.specs.Names.{home_folder, home_path}
 use Rattle.ext_store_files.specs.Writing.{is_at, nowhere, Holds, IsWritten, SyncsIn, Works, WorksTold}
 use Rattle.ext_store_files.proofs.ForCallers.{holds_map, holds_both, holds_then, works_itself, works_then, works_wider}
 use Rattle.ext_gen.specs.PreparingStages.{AreSynced, AreSyncedIn, HasHomeFolders, IsAbsent, IsFolderAt, IsPutSynced}

@@ -1,9 +1,10 @@
 -- The coming generation is one of a store: its host is valid, and there is an index of it.
-use Rattle.std.proofs.Common.{◌≡◌, ◌⊎◌, ℕ, zero, suc, ◌+◌, ◌^◌, ◌<◌, ◌≤◌, true, false, List, [], ◌∷◌, length, Option, Some, None, IfSome, refl, sym, ap, ◌∙◌, subst, inl, inr, arith}
+use Rattle.std.proofs.Common.{◌≡◌, ◌⊎◌, ℕ, zero, suc, ◌+◌, ◌^◌, ◌<◌, ◌≤◌, Bool, true, false, List, [], ◌∷◌, length, Option, Some, None, IfSome, refl, sym, ap, ◌∙◌, subst, inl, inr, arith}
 use Rattle.std.specs.Prelude.{slice_get}
 use Rattle.std.specs.List.{Contains}
 use Rattle.std.specs.Option.{is_some}
 use Rattle.std.proofs.lemmas.Bool.{false≢true}
+use Rattle.ext_attributes.specs.Attributes.{OfFile}
 use Rattle.ext_depot.specs.Depot.{DepotState}
 use Rattle.ext_disk.specs.Disk.{DiskState}
 use Rattle.ext_tree.specs.Tree.{Entries, lookup}
@@ -17,8 +18,9 @@ use Rattle.ext_host.specs.declared.body.Body.TheVariants.{Here, Kept, Depot}
 use Rattle.ext_host.specs.declared.home.Home.{Home}
 use Rattle.ext_host.specs.declared.host.Host.{Host}
 use Rattle.ext_host.proofs.ForCallers.{one_stamp}
-use Rattle.ext_index.specs.Index.{index_text}
-use Rattle.ext_index.specs.ValidIndex.{IsHomeUpTo, IsKeptUpTo, IsWellFormed, most_index_bytes}
+use Rattle.ext_index_lines.specs.declared.text_number.TextNumber.TheVariants.{One, Later}
+use Rattle.ext_index.specs.ValidIndex.{IsHomeUpTo, IsKeptUpTo, IsWellFormed, most_index_bytes, written_index, written_number, written_text}
+use Rattle.ext_index.proofs.ForCallers.{written_is_told}
 use Rattle.ext_store_files.specs.Names.{IsGeneration}
 use Rattle.ext_homes.specs.Brought.{is_brought}
 use Rattle.ext_homes.specs.Giving.{lists_kept, stored_by, trees_before}
@@ -33,7 +35,7 @@ use Rattle.ext_gen.proofs.PreparingOriginLemmas.{IsOrigin, stayed, listed, new, 
 use Rattle.ext_gen.proofs.PreparingPlacedLemmas.{host_count}
 use Rattle.ext_gen.proofs.PreparingValidLemmas.{placed_is_valid}
 
-pub coming_is : (n : ℕ) (host : Host) → coming_index n host ≡ index_text true n host
+pub coming_is : (n : ℕ) (host : Host) → coming_index n host ≡ written_index n host
 unfolding coming_index
 coming_is n host = refl
 
@@ -73,9 +75,9 @@ module _ (trees : List (Entries HeldFile)) (next : Host) (drawn : AreDrawnFrom t
 
   of_origin : (old : Stored) (n number : ℕ) (written : List (List ℕ)) (es : Entries HeldFile) (p : List (List ℕ)) (held : HeldFile) → ((stamp : Stamp) (home : Home) → old.lists stamp home → lists_kept trees stamp home)
       → ((h : HeldFile) → HasFile es h → IsFileOf (trees_of next) h) → number ≡ 0
-      → IsOrigin old n (λ h. (m : ℕ) × (lookup es p ≡ Some (File m h))) number written held → IsFrom (lists_kept trees) n written held
+      → IsOrigin old n (λ h. (m : OfFile) × (lookup es p ≡ Some (File m h))) number written held → IsFrom (lists_kept trees) n written held
   of_origin old n number written es p held lists among start (stayed home body was) =
-      was_before n written held home body (among held (record { path = p; mode = was.0; stands = was.1 }))
+      was_before n written held home body (among held (record { path = p; attributes = was.0; stands = was.1 }))
   of_origin old n number written es p held lists among start (listed home body is) = before home body (lists held.stamp home is)
   of_origin old n number written es p held lists among start (new k bytes body at stamp) =
       let same : number + k ≡ k = omega (arith, start) in
@@ -90,8 +92,8 @@ module _ (trees : List (Entries HeldFile)) (next : Host) (drawn : AreDrawnFrom t
       of_lower : HasFile lower held ⊎ IsFileOf (trees_of_pasts next.past) held → IsFrom (lists_kept trees) n written held
       of_lower (inl is) =
           of_origin old n 0 written next.lower is.path held lists (λ h was. after_first next.root (next.lower ∷ trees_of_pasts next.past) h (first_of next.lower (trees_of_pasts next.past) h was)) refl
-          (origin_rest old n _ (λ h. (m : ℕ) × (lookup next.lower is.path ≡ Some (File m h))) 0 first rest written held parts (λ h was. was)
-          (tree_origin old depot n next.lower (0 + length first) lower rest is.path is.mode held two is.stands))
+          (origin_rest old n _ (λ h. (m : OfFile) × (lookup next.lower is.path ≡ Some (File m h))) 0 first rest written held parts (λ h was. was)
+          (tree_origin old depot n next.lower (0 + length first) lower rest is.path is.attributes held two is.stands))
       of_lower (inr is) =
           let kept = brings_none held.body (none held is) in
           was_before n written held kept.0 kept.1 (after_first next.root (next.lower ∷ trees_of_pasts next.past) held (after_first next.lower (trees_of_pasts next.past) held is))
@@ -99,8 +101,8 @@ module _ (trees : List (Entries HeldFile)) (next : Host) (drawn : AreDrawnFrom t
       of_root : HasFile root held ⊎ IsFileOf (lower ∷ trees_of_pasts next.past) held → IsFrom (lists_kept trees) n written held
       of_root (inl is) =
           of_origin old n 0 written next.root is.path held lists (λ h was. first_of next.root (next.lower ∷ trees_of_pasts next.past) h was) refl
-          (origin_first old n _ (λ h. (m : ℕ) × (lookup next.root is.path ≡ Some (File m h))) 0 first rest written held parts (λ h was. was)
-          (tree_origin old depot n next.root 0 root first is.path is.mode held one is.stands))
+          (origin_first old n _ (λ h. (m : OfFile) × (lookup next.root is.path ≡ Some (File m h))) 0 first rest written held parts (λ h was. was)
+          (tree_origin old depot n next.root 0 root first is.path is.attributes held one is.stands))
       of_root (inr is) = of_lower (file_side lower (trees_of_pasts next.past) held is)
 
 pub before_home : (from : Option Generation) → IfSome from IsOpened → (stamp : Stamp) (home : Home) → lists_kept (trees_before (host_before from)) stamp home
@@ -167,9 +169,12 @@ coming_is_shorter from n next host disk depot written opened number is (root, lo
     subst (λ h. length (coming_index n h) ≤ length (coming_index n next)) (sym same)
     (index_within n n next root lower (omega arith) (placed_digits old depot n next.root 0 root first earlier small one) (placed_digits old depot n next.lower (0 + length first) lower rest earlier small two))
 
+later_not_one : {owners : Bool} → Later owners ≡ One → ⊥
+later_not_one same = cc
+
 pub coming_is_opened : (from : Option Generation) (n : ℕ) (next host : Host) (disk : DiskState) (depot : DepotState) (written : List (List ℕ)) → IfSome from IsOpened → n ≡ coming_number from → IsGeneration n
     → IsValidHost next → AreDrawnFrom (trees_before (host_before from)) (trees_of next) → BringNone (trees_of_pasts next.past) → ArePastBefore n next.past → length (coming_index n next) ≤ most_index_bytes
-    → IsHostPlaced (stored_by (host_before from) disk) depot n next host written → IsWellFormed host → IsOpened (record { number = n; text = 2; host = host })
+    → IsHostPlaced (stored_by (host_before from) disk) depot n next host written → IsWellFormed host → IsOpened (record { number = n; text = written_text host; host = host })
 coming_is_opened from n next host disk depot written opened number is valid drawn none past fits placed formed =
     let old = stored_by (host_before from) disk in
     let earlier : (s : Stamp) (h : Home) → old.lists s h → h.generation < n = λ s h listed. omega (arith, (before_home from opened s h listed).1, number) in
@@ -186,7 +191,7 @@ coming_is_opened from n next host disk depot written opened number is valid draw
       number = is;
       bytes = coming_index n host;
       index = (
-        true,
+        written_number host,
         refl,
         record {
           formed = formed;
@@ -197,7 +202,8 @@ coming_is_opened from n next host disk depot written opened number is valid draw
             past = subst (λ h. ArePastBefore n h.past) (sym same) past;
           };
           text = coming_is n host;
-          text_1 = λ one. absurd (false≢true (sym one));
+          told = written_is_told host;
+          text_1 = λ one. absurd (later_not_one one);
           fits = omega (arith, shorter, fits);
         },
       );

@@ -1,9 +1,10 @@
 -- Where each file of a host that has its homes is kept, and which bytes were written there.
-use Rattle.std.proofs.Common.{◌≡◌, ◌⊎◌, ℕ, zero, suc, ◌+◌, ◌^◌, ◌<◌, ◌≤◌, Bool, true, false, cond, List, [], ◌∷◌, ◌++◌, length, Option, Some, None, IfSome, refl, sym, ap, ◌∙◌, subst, inl, inr, arith, length-append}
+use Rattle.std.proofs.Common.{◌≡◌, ℕ, zero, suc, ◌+◌, ◌^◌, ◌<◌, ◌≤◌, true, false, cond, List, [], ◌∷◌, ◌++◌, length, Some, None, refl, sym, ap, ◌∙◌, subst, inl, inr, arith}
 use Rattle.std.specs.Prelude.{slice_get, decimal}
 use Rattle.std.specs.Option.{is_some}
 use Rattle.std.specs.Ordering.{eq_by_cmp}
 use Rattle.std.proofs.lemmas.Bool.{false≢true}
+use Rattle.ext_attributes.specs.Attributes.{OfFile}
 use Rattle.ext_depot.specs.Depot.{DepotState}
 use Rattle.ext_text.specs.Path.{path_cmp}
 use Rattle.ext_tree.specs.Tree.{Entries, lookup}
@@ -50,14 +51,14 @@ none_is x same = false≢true (ap is_some same)
 some_is : {X : Type 0} (x y : X) → Some x ≡ Some y → x ≡ y
 some_is x y same = cc
 
-file_is : (m mode : ℕ) (a b : HeldFile) → File m a ≡ File mode b → a ≡ b
-file_is m mode a b same = ap held_in same
+file_is : (m : OfFile) (attributes : OfFile) (a b : HeldFile) → File m a ≡ File attributes b → a ≡ b
+file_is m attributes a b same = ap held_in same
   where
     held_in : Entry HeldFile → HeldFile
     held_in (Dir k) = a
     held_in (Opaque k) = a
     held_in (File k h) = h
-    held_in (Link t) = a
+    held_in (Link owner t) = a
     held_in Hide = a
 
 get_first : (first rest : List (List ℕ)) (k : ℕ) (bytes : List ℕ) → slice_get first k ≡ Some bytes → slice_get (first ++ rest) k ≡ Some bytes
@@ -88,25 +89,25 @@ origin_rest old n kept more next first rest written held parts wider (new k byte
     new (length first + k) bytes (body ∙ ap Kept (λ i. record { generation = n; file = number i })) (ap (λ l. slice_get l (length first + k)) parts ∙ get_rest first rest k bytes at) stamp
 
 -- a file of the entry
-entry_origin : (old : Stored) (depot : DepotState) (n : ℕ) (kept : HeldFile → Type 0) (e : Entry HeldFile) (next : ℕ) (f : Entry HeldFile) (written : List (List ℕ)) (mode : ℕ) (held : HeldFile)
-    → ((m : ℕ) (h : HeldFile) → e ≡ File m h → kept h) → IsEntryPlaced old depot n e next f written → f ≡ File mode held → IsOrigin old n kept next written held
-entry_origin old depot n kept (Dir m) next f written mode held was is same = cc
-entry_origin old depot n kept (Opaque m) next f written mode held was is same = cc
-entry_origin old depot n kept (File m before) next f written mode held was is same =
-    subst (IsOrigin old n kept next written) (file_is m mode is.0 held (sym is.2 ∙ same)) (body_origin old depot n kept before before.body next is.0 written refl (was m before refl) is.1)
-entry_origin old depot n kept (Link t) next f written mode held was is same = cc
-entry_origin old depot n kept Hide next f written mode held was is same = cc
+entry_origin : (old : Stored) (depot : DepotState) (n : ℕ) (kept : HeldFile → Type 0) (e : Entry HeldFile) (next : ℕ) (f : Entry HeldFile) (written : List (List ℕ)) (attributes : OfFile) (held : HeldFile)
+    → ((m : OfFile) (h : HeldFile) → e ≡ File m h → kept h) → IsEntryPlaced old depot n e next f written → f ≡ File attributes held → IsOrigin old n kept next written held
+entry_origin old depot n kept (Dir m) next f written attributes held was is same = cc
+entry_origin old depot n kept (Opaque m) next f written attributes held was is same = cc
+entry_origin old depot n kept (File m before) next f written attributes held was is same =
+    subst (IsOrigin old n kept next written) (file_is m attributes is.0 held (sym is.2 ∙ same)) (body_origin old depot n kept before before.body next is.0 written refl (was m before refl) is.1)
+entry_origin old depot n kept (Link owner t) next f written attributes held was is same = cc
+entry_origin old depot n kept Hide next f written attributes held was is same = cc
 
 -- where each file of a tree that has its homes is kept
-pub tree_origin : (old : Stored) (depot : DepotState) (n : ℕ) (es : Entries HeldFile) (next : ℕ) (fs : Entries HeldFile) (written : List (List ℕ)) (p : List (List ℕ)) (mode : ℕ) (held : HeldFile)
-    → ArePlaced old depot n es next fs written → lookup fs p ≡ Some (File mode held) → IsOrigin old n (λ h. (m : ℕ) × (lookup es p ≡ Some (File m h))) next written held
-tree_origin old depot n [] next fs written p mode held is found = absurd (none_is (File mode held) (sym (ap (λ l. lookup l p) is.0) ∙ found))
-tree_origin old depot n (x ∷ es) next fs written p mode held (e, more, first, rest, one, two, same, parts) found =
-    let after = tree_origin old depot n es (next + length first) more rest p mode held two in
-    elim (eq_by_cmp path_cmp p x.0) as (λ b. cond b (Some e) (lookup more p) ≡ Some (File mode held) → IsOrigin old n (λ h. (m : ℕ) × (cond b (Some x.1) (lookup es p) ≡ Some (File m h))) next written held) [
-      | true ↦ λ h. origin_first old n (λ f. (m : ℕ) × (x.1 ≡ File m f)) (λ f. (m : ℕ) × (Some x.1 ≡ Some (File m f))) next first rest written held parts (λ f was. (was.0, ap Some was.1))
-          (entry_origin old depot n (λ f. (m : ℕ) × (x.1 ≡ File m f)) x.1 next e first mode held (λ m f is. (m, is)) one (some_is e (File mode held) h))
-      | false ↦ λ h. origin_rest old n (λ f. (m : ℕ) × (lookup es p ≡ Some (File m f))) (λ f. (m : ℕ) × (lookup es p ≡ Some (File m f))) next first rest written held parts (λ f was. was) (after h)
+pub tree_origin : (old : Stored) (depot : DepotState) (n : ℕ) (es : Entries HeldFile) (next : ℕ) (fs : Entries HeldFile) (written : List (List ℕ)) (p : List (List ℕ)) (attributes : OfFile) (held : HeldFile)
+    → ArePlaced old depot n es next fs written → lookup fs p ≡ Some (File attributes held) → IsOrigin old n (λ h. (m : OfFile) × (lookup es p ≡ Some (File m h))) next written held
+tree_origin old depot n [] next fs written p attributes held is found = absurd (none_is (File attributes held) (sym (ap (λ l. lookup l p) is.0) ∙ found))
+tree_origin old depot n (x ∷ es) next fs written p attributes held (e, more, first, rest, one, two, same, parts) found =
+    let after = tree_origin old depot n es (next + length first) more rest p attributes held two in
+    elim (eq_by_cmp path_cmp p x.0) as (λ b. cond b (Some e) (lookup more p) ≡ Some (File attributes held) → IsOrigin old n (λ h. (m : OfFile) × (cond b (Some x.1) (lookup es p) ≡ Some (File m h))) next written held) [
+      | true ↦ λ h. origin_first old n (λ f. (m : OfFile) × (x.1 ≡ File m f)) (λ f. (m : OfFile) × (Some x.1 ≡ Some (File m f))) next first rest written held parts (λ f was. (was.0, ap Some was.1))
+          (entry_origin old depot n (λ f. (m : OfFile) × (x.1 ≡ File m f)) x.1 next e first attributes held (λ m f is. (m, is)) one (some_is e (File attributes held) h))
+      | false ↦ λ h. origin_rest old n (λ f. (m : OfFile) × (lookup es p ≡ Some (File m f))) (λ f. (m : OfFile) × (lookup es p ≡ Some (File m f))) next first rest written held parts (λ f was. was) (after h)
     ] (sym (ap (λ l. lookup l p) same) ∙ found)
 
 taken_digits : (old : Stored) (n : ℕ) (stamp : Stamp) (brought : shelf.Told) (next : ℕ) (home : Home) (written : List (List ℕ)) → ((s : Stamp) (h : Home) → old.lists s h → h.generation < n) → n < 2 ^ 64
@@ -137,7 +138,7 @@ entry_digits old depot n (Dir m) next f written earlier small is = subst (λ x. 
 entry_digits old depot n (Opaque m) next f written earlier small is = subst (λ x. EntryNoLonger n n x (Opaque m)) (sym is.0) refl
 entry_digits old depot n (File m before) next f written earlier small is =
     subst (λ x. EntryNoLonger n n x (File m before)) (sym is.2) (before, refl, body_digits old depot n before before.body next is.0 written earlier small refl is.1)
-entry_digits old depot n (Link t) next f written earlier small is = subst (λ x. EntryNoLonger n n x (Link t)) (sym is.0) refl
+entry_digits old depot n (Link owner t) next f written earlier small is = subst (λ x. EntryNoLonger n n x (Link owner t)) (sym is.0) refl
 entry_digits old depot n Hide next f written earlier small is = subst (λ x. EntryNoLonger n n x Hide) (sym is.0) refl
 
 -- the entries have lines that are no longer

@@ -34,10 +34,10 @@ body_count old depot n held (Depot path) next new written is = taken_count old n
 
 entry_count : (old : Stored) (depot : DepotState) (n : ℕ) (e : Entry HeldFile) (next : ℕ) (new : Entry HeldFile) (written : List (List ℕ)) → IsEntryPlaced old depot n e next new written
     → length written ≤ 1
-entry_count old depot n (Dir mode) next new written is = omega (arith, ap length is.1)
-entry_count old depot n (Opaque mode) next new written is = omega (arith, ap length is.1)
-entry_count old depot n (File mode held) next new written is = body_count old depot n held held.body next is.0 written is.1
-entry_count old depot n (Link target) next new written is = omega (arith, ap length is.1)
+entry_count old depot n (Dir attributes) next new written is = omega (arith, ap length is.1)
+entry_count old depot n (Opaque attributes) next new written is = omega (arith, ap length is.1)
+entry_count old depot n (File attributes held) next new written is = body_count old depot n held held.body next is.0 written is.1
+entry_count old depot n (Link owner target) next new written is = omega (arith, ap length is.1)
 entry_count old depot n Hide next new written is = omega (arith, ap length is.1)
 
 placed_count : (old : Stored) (depot : DepotState) (n : ℕ) (es : Entries HeldFile) (next : ℕ) (new : Entries HeldFile) (written : List (List ℕ)) → ArePlaced old depot n es next new written
@@ -99,10 +99,10 @@ module _ (lists : Stamp → Home → Type 0) (one two : Home → shelf.Told) (al
     same_body n held (Depot path) next new written is = same_brought n held next new written is
 
     same_entry : (n : ℕ) (e : Entry HeldFile) (next : ℕ) (new : Entry HeldFile) (written : List (List ℕ)) → IsEntryPlaced first after n e next new written → IsEntryPlaced second before n e next new written
-    same_entry n (Dir mode) next new written is = is
-    same_entry n (Opaque mode) next new written is = is
-    same_entry n (File mode held) next new written is = (is.0, same_body n held held.body next is.0 written is.1, is.2)
-    same_entry n (Link target) next new written is = is
+    same_entry n (Dir attributes) next new written is = is
+    same_entry n (Opaque attributes) next new written is = is
+    same_entry n (File attributes held) next new written is = (is.0, same_body n held held.body next is.0 written is.1, is.2)
+    same_entry n (Link owner target) next new written is = is
     same_entry n Hide next new written is = is
 
     pub same_placed : (n : ℕ) (es : Entries HeldFile) (next : ℕ) (new : Entries HeldFile) (written : List (List ℕ)) → ArePlaced first after n es next new written → ArePlaced second before n es next new written
@@ -120,7 +120,7 @@ module _ (lists : Stamp → Home → Type 0) (one two : Home → shelf.Told) (al
       before = stops.before;
       after = stops.after;
       path = stops.path;
-      mode = stops.mode;
+      attributes = stops.attributes;
       held = stops.held;
       entries = stops.entries;
       placed = stops.placed;

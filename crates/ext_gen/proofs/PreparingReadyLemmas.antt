@@ -1,5 +1,5 @@
 -- What a complete generation is to a store: all is there for it beside the state for which the store durably stands.
-use Rattle.std.proofs.Common.{◌≡◌, ◌⊎◌, ℕ, ◌+◌, ◌<◌, ◌≤◌, zero, suc, Bool, true, false, cond, not, List, [], ◌∷◌, ◌++◌, length, Option, Some, None, IfSome, Result, Ok, Err, IfOk, refl, sym, ap, ◌∙◌, subst, inl, inr, arith}
+use Rattle.std.proofs.Common.{◌≡◌, ◌⊎◌, ℕ, ◌+◌, ◌<◌, zero, suc, Bool, true, false, List, [], ◌∷◌, Option, Some, None, IfSome, Result, Ok, Err, IfOk, refl, sym, ap, ◌∙◌, subst, inl, inr, arith}
 use Rattle.std.specs.Prelude.{slice_get, unwrap_or, ◌==◌}
 use Rattle.std.specs.Option.{is_some}
 use Rattle.std.specs.Ordering.{eq_by_cmp}
@@ -14,7 +14,9 @@ use Rattle.ext_host.specs.Held.{HeldFile, IsStampOf}
 use Rattle.ext_host.specs.declared.body.Body.TheVariants.{Kept}
 use Rattle.ext_host.specs.declared.home.Home.{Home}
 use Rattle.ext_host.specs.declared.host.Host.{Host}
-use Rattle.ext_index.specs.ValidIndex.{GivesIndex, text_number}
+use Rattle.ext_index_lines.specs.declared.text_number.TextNumber.{TextNumber}
+use Rattle.ext_index.specs.ValidIndex.{GivesIndex, written_number, written_text}
+use Rattle.ext_index.proofs.ForCallers.{text_number_once}
 use Rattle.ext_store_files.specs.LeftOvers.{is_left_over}
 use Rattle.ext_store_files.specs.Names.{IsGeneration, current_path, generation_name, generation_path, home_path, index_path, next_name, next_path}
 use Rattle.ext_store_files.specs.Writing.{IsWritten}
@@ -66,20 +68,16 @@ bases_out from (Some d) points =
 pub change_keeps_durably : (from : Option Generation) (old new : DiskState) → IfSome old.told IsDisk → PointsBefore from old → Spares (is_left from) old new → BothTold KeepsDurably old.told new.told
 change_keeps_durably from old new disk points spares = durably_kept (is_left from) old new disk (current_out from) (bases_out from old.told points) spares
 
-number_of : (b : Bool) → text_number b ≡ 2 → b ≡ true
-number_of true same = refl
-number_of false same = absurd (omega (arith, same))
-
 -- the index that was written is that of the generation
-opened_reads : (n : ℕ) (host : Host) → IsOpened (record { number = n; text = 2; host = host }) → GivesIndex n (coming_index n host) (host, 2)
+opened_reads : (n : ℕ) (host : Host) → IsOpened (record { number = n; text = written_text host; host = host }) → GivesIndex n (coming_index n host) (host, written_text host)
 opened_reads n host opened =
-    let two : opened.index.0 ≡ true = number_of opened.index.0 (sym opened.index.1) in
-    let same : opened.bytes ≡ coming_index n host = opened.index.2.text ∙ ap (λ b. Rattle.ext_index.specs.Index.index_text b n host) two ∙ sym (coming_is n host) in
-    subst (λ b. GivesIndex n b (host, 2)) same opened.index
+    let number : opened.index.0 ≡ written_number host = text_number_once opened.index.0 (written_number host) (sym opened.index.1) in
+    let same : opened.bytes ≡ coming_index n host = opened.index.2.text ∙ ap (λ (text : TextNumber). Rattle.ext_index.specs.Index.index_text text n host) number ∙ sym (coming_is n host) in
+    subst (λ b. GivesIndex n b (host, written_text host)) same opened.index
 
 -- with what is at `next` at `current`, it is current
-is_current : (n : ℕ) (host : Host) (written : List (List ℕ)) (e : Places) → IsOpened (record { number = n; text = 2; host = host }) → IsComplete n written (coming_index n host) e
-    → IsCurrent (with_current (e next_path).node (now e)) (record { number = n; text = 2; host = host })
+is_current : (n : ℕ) (host : Host) (written : List (List ℕ)) (e : Places) → IsOpened (record { number = n; text = written_text host; host = host }) → IsComplete n written (coming_index n host) e
+    → IsCurrent (with_current (e next_path).node (now e)) (record { number = n; text = written_text host; host = host })
 is_current n host written e opened complete = record {
   number = opened.number;
   current = cond-true (eq_by_cmp path_cmp current_path current_path) (e next_path).node (e current_path).node (tied_path current_path current_path refl) ∙ complete.next_is;
@@ -148,7 +146,7 @@ abbrev FilesFrom : Option Generation → ℕ → List (List ℕ) → Host → Ty
 FilesFrom from n written host = (held : HeldFile) → IsFileOf (trees_of host) held → IsFrom (lists_kept (trees_before (host_before from))) n written held
 
 base_durable : (s : State) (n : ℕ) (host : Host) (written : List (List ℕ)) (e : Places) → IsComplete n written (coming_index n host) e
-    → ((held : HeldFile) (home : Home) → IsKeptFile host held home → IsThere n written s e held home) → (u : State) → u ≡ at (record { number = n; text = 2; host = host }) (contents_after n written s)
+    → ((held : HeldFile) (home : Home) → IsKeptFile host held home → IsThere n written s e held home) → (u : State) → u ≡ at (record { number = n; text = written_text host; host = host }) (contents_after n written s)
     → (p : List (List ℕ)) → IsGenerationPath u p → is_durable e p ≡ true
 base_durable s n host written e complete there u same p (base_folder g contents) = subst (λ (k : ℕ). is_durable e (generation_path k) ≡ true) (sym (ap number_in same)) complete.generation
   where
@@ -167,8 +165,8 @@ base_durable s n host written e complete there u same p (base_home g contents he
     host_in (at h c) = h.host
 
 is_ready : (s : State) (n : ℕ) (host : Host) (written : List (List ℕ)) (e : Places) → IfSome (generation_in s) IsOpened → n ≡ coming_number (generation_in s) → IsDurably s e
-    → IsOpened (record { number = n; text = 2; host = host }) → IsComplete n written (coming_index n host) e → FilesFrom (generation_in s) n written host
-    → IsReady s (at (record { number = n; text = 2; host = host }) (contents_after n written s)) e
+    → IsOpened (record { number = n; text = written_text host; host = host }) → IsComplete n written (coming_index n host) e → FilesFrom (generation_in s) n written host
+    → IsReady s (at (record { number = n; text = written_text host; host = host }) (contents_after n written s)) e
 is_ready s n host written e opened number durably fresh complete files =
     let there : (held : HeldFile) (home : Home) → IsKeptFile host held home → IsThere n written s e held home =
     λ held home is. all_there s n host written e held home opened number durably complete is.body (files held is.file) in
@@ -182,7 +180,7 @@ is_ready s n host written e opened number durably fresh complete files =
           stamped = λ held home is. (there held home is).stamped;
         },
       );
-      base = base_durable s n host written e complete there (at (record { number = n; text = 2; host = host }) (contents_after n written s)) refl;
+      base = base_durable s n host written e complete there (at (record { number = n; text = written_text host; host = host }) (contents_after n written s)) refl;
     }
 
 generations_of : (needed : ℕ → Bool) (n : ℕ) (e : Places) → IsGeneration n
@@ -202,9 +200,9 @@ no_folder_current : (t : Tree) (from : Option Generation) → Points t from → 
 no_folder_current t None points = ap is_no_folder points
 no_folder_current t (Some g) points = ap is_no_folder points.current
 
-prepares_told : (from : Option Generation) (n : ℕ) (host : Host) (written : List (List ℕ)) (x y : Option Told) → n ≡ coming_number from → IsOpened (record { number = n; text = 2; host = host })
+prepares_told : (from : Option Generation) (n : ℕ) (host : Host) (written : List (List ℕ)) (x y : Option Told) → n ≡ coming_number from → IsOpened (record { number = n; text = written_text host; host = host })
     → FilesFrom from n written host → IfSome x (λ d. Points (now d.places) from) → BothTold KeepsDurably x y → BothTold (λ d e. (p : List (List ℕ)) → is_left from p ≡ false → IsUnchangedAt d e p) x y
-    → BothTold (ChangedTold (is_needed from) n host written) x y → BothTold (PreparesTold from (record { number = n; text = 2; host = host }) written) x y
+    → BothTold (ChangedTold (is_needed from) n host written) x y → BothTold (PreparesTold from (record { number = n; text = written_text host; host = host }) written) x y
 prepares_told from n host written None None number fresh files points keeps spares changed = tt
 prepares_told from n host written None (Some e) number fresh files points keeps spares changed = absurd changed
 prepares_told from n host written (Some d) None number fresh files points keeps spares changed = absurd changed
@@ -227,7 +225,7 @@ pub completed_prepares : (from : Option Generation) (next : Host) (old new : Dis
     → Prepares from next old new depot g
 completed_prepares from next old new depot g drawn bring points keeps spares completed =
     let changed = completed.changed in
-    let same : g ≡ record { number = g.number; text = 2; host = g.host } = λ i. record { number = g.number; text = completed.text i; host = g.host } in
+    let same : g ≡ record { number = g.number; text = written_text g.host; host = g.host } = λ i. record { number = g.number; text = completed.text i; host = g.host } in
     let files : FilesFrom from g.number changed.written g.host =
     λ held file. host_from (trees_before (host_before from)) next drawn (stored_by (host_before from) old) depot g.number g.host changed.written held (λ s h listed. listed) bring changed.homes file in
     record {

@@ -1,5 +1,5 @@
 -- What each part of a change leaves for the next one, and that at the end all is durable.
-use Rattle.std.proofs.Common.{◌≡◌, ◌⊎◌, ℕ, ◌+◌, ◌≤◌, ◌<◌, Bool, true, false, cond, not, ◌&&◌, ◌||◌, List, [], ◌∷◌, ◌++◌, take, drop, length, Option, Some, None, IfSome, Result, Ok, Err, refl, sym, ap, ◌∙◌, subst, inl, inr, arith}
+use Rattle.std.proofs.Common.{◌≡◌, ◌⊎◌, ℕ, ◌+◌, ◌<◌, Bool, true, false, not, ◌&&◌, List, [], ◌∷◌, take, drop, length, Option, Some, None, IfSome, Result, Ok, refl, sym, ap, ◌∙◌, subst, inl, inr, arith}
 use Rattle.std.specs.List.{sum_by}
 use Rattle.std.specs.Option.{is_some}
 use Rattle.std.specs.Ordering.{eq_by_cmp}
@@ -14,7 +14,7 @@ use Rattle.ext_store_files.specs.LeftOvers.{is_left_path}
 use Rattle.ext_store_files.specs.Names.{IsGeneration, current_text, generation_name, generation_path, home_folder, home_path, index_name, index_path, next_name, next_path}
 use Rattle.ext_store_files.specs.Removal.{IsClear, Removes}
 use Rattle.ext_store_files.specs.Writing.{is_at, nowhere, Holds, IsMade, Works, WorksTold}
-use Rattle.ext_store_files.proofs.ForCallers.{holds_map, holds_both, holds_then, told_map, told_then, is_left, within_none}
+use Rattle.ext_store_files.proofs.ForCallers.{holds_map, holds_both, holds_then, told_then, is_left, within_none}
 use Rattle.ext_store_files.specs.declared.errors.CleanErr.{CleanErr}
 use Rattle.ext_depot.specs.Depot.{DepotState}
 use Rattle.ext_host.specs.declared.host.Host.{Host}
@@ -24,7 +24,7 @@ use Rattle.ext_homes.specs.Written.{AreWritten, HasOnlyHomes, Writes, is_below}
 use Rattle.ext_gen.specs.PreparingPaths.{is_coming, IsComing, MakesTold, Makes}
 use Rattle.ext_gen.specs.PreparingStages.{AreSynced, CompletesGeneration, Fills, FillsTold, HasFolder, HasHomeFolders, IsAbsent, IsComplete, IsFilled, IsFolderAt, IsIndexed, IsGenerationOpen, IsPutSynced}
 use Rattle.ext_gen.proofs.PreparingMovesLemmas.{stays_holds, still_written, told_fact}
-use Rattle.ext_gen.proofs.PreparingPathsLemmas.{not_true, contraposed, top_coming}
+use Rattle.ext_gen.proofs.PreparingPathsLemmas.{not_true, contraposed}
 
 clear_at : (needed : ℕ → Bool) (n : ℕ) → IsGeneration n → needed n ≡ false → (d : Places) → IsClear (is_left_path needed) d → IsAbsent (generation_path n) d
 clear_at needed n is free d clear = clear (generation_path n) (is_left needed (generation_name n) (inr (n, is, refl, free)))

@@ -1,11 +1,12 @@
 -- A valid host is valid whichever homes its files have.
 use Rattle.std.proofs.Common.{◌≡◌, ℕ, ◌+◌, true, false, cond, List, [], ◌∷◌, length, Option, Some, None, refl, sym, ap, ◌∙◌, subst, arith}
 use Rattle.std.specs.Prelude.{IsTrue}
-use Rattle.std.specs.List.{AllByRecursion, sum_by}
+use Rattle.std.specs.List.{AllByRecursion}
 use Rattle.std.specs.Option.{is_some}
 use Rattle.std.specs.Ordering.{eq_by_cmp}
 use Rattle.std.proofs.lemmas.Bool.{false≢true}
 use Rattle.std.proofs.lemmas.List.Sums.{sum_by-cons}
+use Rattle.ext_attributes.specs.Attributes.{OfFile}
 use Rattle.ext_text.specs.Path.{is_prefix, path_cmp}
 use Rattle.ext_tree.specs.EntryLine.{IsWritable}
 use Rattle.ext_tree.specs.Tree.{Entries, lookup}
@@ -52,36 +53,36 @@ alike_some n m None y alike = sym (ap is_some alike)
 alike_some n m (Some e) y alike = sym (ap is_some alike.1)
 
 -- a file of the one, as that of the other
-file_forth : (n m mode : ℕ) (a : HeldFile) (x y : Option (Entry HeldFile)) → OptionAlike n m x y → x ≡ Some (File mode a) → (b : HeldFile) × (y ≡ Some (File mode b)) × (a.stamp ≡ b.stamp)
-file_forth n m mode a None y alike is = absurd (none_is (File mode a) is)
-file_forth n m mode a (Some e) y alike is =
-    let here : EntryNoLonger n m (File mode a) alike.0 = subst (λ z. EntryNoLonger n m z alike.0) (some_is e (File mode a) is) alike.2 in
+file_forth : (n m : ℕ) (attributes : OfFile) (a : HeldFile) (x y : Option (Entry HeldFile)) → OptionAlike n m x y → x ≡ Some (File attributes a) → (b : HeldFile) × (y ≡ Some (File attributes b)) × (a.stamp ≡ b.stamp)
+file_forth n m attributes a None y alike is = absurd (none_is (File attributes a) is)
+file_forth n m attributes a (Some e) y alike is =
+    let here : EntryNoLonger n m (File attributes a) alike.0 = subst (λ z. EntryNoLonger n m z alike.0) (some_is e (File attributes a) is) alike.2 in
     (here.0, alike.1 ∙ ap Some here.1, here.2.stamp)
 
-file_back : (n m mode : ℕ) (b : HeldFile) (x y : Option (Entry HeldFile)) → OptionAlike n m x y → y ≡ Some (File mode b) → (a : HeldFile) × (x ≡ Some (File mode a)) × (a.stamp ≡ b.stamp)
-file_back n m mode b None y alike is = absurd (none_is (File mode b) (sym alike ∙ is))
-file_back n m mode b (Some e) y alike is = of_kind e alike.0 alike.2 (some_is alike.0 (File mode b) (sym alike.1 ∙ is))
+file_back : (n m : ℕ) (attributes : OfFile) (b : HeldFile) (x y : Option (Entry HeldFile)) → OptionAlike n m x y → y ≡ Some (File attributes b) → (a : HeldFile) × (x ≡ Some (File attributes a)) × (a.stamp ≡ b.stamp)
+file_back n m attributes b None y alike is = absurd (none_is (File attributes b) (sym alike ∙ is))
+file_back n m attributes b (Some e) y alike is = of_kind e alike.0 alike.2 (some_is alike.0 (File attributes b) (sym alike.1 ∙ is))
   where
     in_file : Entry HeldFile → HeldFile
     in_file (Dir k) = b
     in_file (Opaque k) = b
     in_file (File k h) = h
-    in_file (Link t) = b
+    in_file (Link owner t) = b
     in_file Hide = b
 
-    mode_in : Entry HeldFile → ℕ
-    mode_in (Dir k) = mode
-    mode_in (Opaque k) = mode
-    mode_in (File k h) = k
-    mode_in (Link t) = mode
-    mode_in Hide = mode
+    attributes_in : Entry HeldFile → OfFile
+    attributes_in (Dir k) = attributes
+    attributes_in (Opaque k) = attributes
+    attributes_in (File k h) = k
+    attributes_in (Link owner t) = attributes
+    attributes_in Hide = attributes
 
-    of_kind : (e f : Entry HeldFile) → EntryNoLonger n m e f → f ≡ File mode b → (a : HeldFile) × (Some e ≡ Some (File mode a)) × (a.stamp ≡ b.stamp)
+    of_kind : (e f : Entry HeldFile) → EntryNoLonger n m e f → f ≡ File attributes b → (a : HeldFile) × (Some e ≡ Some (File attributes a)) × (a.stamp ≡ b.stamp)
     of_kind (Dir k) f same is = cc
     of_kind (Opaque k) f same is = cc
     of_kind (File k a) f (c, same, within) is =
-        (a, ap (λ j. Some (File j a)) (ap mode_in (sym same ∙ is)), within.stamp ∙ ap (λ (h : HeldFile). h.stamp) (ap in_file (sym same ∙ is)))
-    of_kind (Link t) f same is = cc
+        (a, ap (λ j. Some (File j a)) (ap attributes_in (sym same ∙ is)), within.stamp ∙ ap (λ (h : HeldFile). h.stamp) (ap in_file (sym same ∙ is)))
+    of_kind (Link owner t) f same is = cc
     of_kind Hide f same is = cc
 
 entry_in_range : (n m : ℕ) (e f : Entry HeldFile) → EntryNoLonger n m e f → IsWritable held_form f → IsWritable held_form e
@@ -90,7 +91,7 @@ entry_in_range n m (Opaque k) f same range = subst (IsWritable held_form) same r
 entry_in_range n m (File k a) f (b, same, within) range =
     let here : IsWritable held_form (File k b) = subst (IsWritable held_form) same range in
     (here.0, subst Rattle.ext_tree.specs.Fields.IsStamp (sym within.stamp) here.1)
-entry_in_range n m (Link t) f same range = subst (IsWritable held_form) same range
+entry_in_range n m (Link owner t) f same range = subst (IsWritable held_form) same range
 entry_in_range n m Hide f same range = tt
 
 tree_in_range : (n m : ℕ) (fs es : Entries HeldFile) → AreNoLonger n m fs es → AreInRange es → AreInRange fs
@@ -103,7 +104,7 @@ entry_bytes : (n m : ℕ) (e f : Entry HeldFile) → EntryNoLonger n m e f → b
 entry_bytes n m (Dir k) f same = sym (ap bytes_of same)
 entry_bytes n m (Opaque k) f same = sym (ap bytes_of same)
 entry_bytes n m (File k a) f (b, same, within) = ap (λ (s : Rattle.ext_tree.specs.declared.stamp.Stamp.Stamp). s.size) within.stamp ∙ sym (ap bytes_of same)
-entry_bytes n m (Link t) f same = sym (ap bytes_of same)
+entry_bytes n m (Link owner t) f same = sym (ap bytes_of same)
 entry_bytes n m Hide f same = sym (ap bytes_of same)
 
 tree_bytes : (n m : ℕ) (fs es : Entries HeldFile) → AreNoLonger n m fs es → all_bytes fs ≡ all_bytes es
@@ -123,15 +124,15 @@ each_items : (n m : ℕ) (base other : List (List ℕ) → Option (Entry HeldFil
     → HasItems base manifest
 each_items n m base other manifest alike items = record {
   each = each_of manifest.items items.each;
-  whole = λ path mode held below is.
-      let there = file_forth n m mode held (base path) (other path) (alike path) is in
+  whole = λ path attributes held below is.
+      let there = file_forth n m attributes held (base path) (other path) (alike path) is in
       subst (λ d. Rattle.std.specs.List.Contains manifest.items (record { path = path; digest = d })) (ap (λ (s : Rattle.ext_tree.specs.declared.stamp.Stamp.Stamp). s.digest) (sym there.2))
-      (items.whole path mode there.0 below there.1);
+      (items.whole path attributes there.0 below there.1);
 }
   where
     each_of : (xs : List Rattle.ext_host.specs.declared.manifest.Item.Item)
-        → AllByRecursion (λ item. IsTrue (is_prefix manifest.path item.path) × ((mode : ℕ) × (held : HeldFile) × (other item.path ≡ Some (File mode held)) × (held.stamp.digest ≡ item.digest))) xs
-        → AllByRecursion (λ item. IsTrue (is_prefix manifest.path item.path) × ((mode : ℕ) × (held : HeldFile) × (base item.path ≡ Some (File mode held)) × (held.stamp.digest ≡ item.digest))) xs
+        → AllByRecursion (λ item. IsTrue (is_prefix manifest.path item.path) × ((attributes : OfFile) × (held : HeldFile) × (other item.path ≡ Some (File attributes held)) × (held.stamp.digest ≡ item.digest))) xs
+        → AllByRecursion (λ item. IsTrue (is_prefix manifest.path item.path) × ((attributes : OfFile) × (held : HeldFile) × (base item.path ≡ Some (File attributes held)) × (held.stamp.digest ≡ item.digest))) xs
     each_of [] all = tt
     each_of (item ∷ xs) all =
         let one = all.0.1 in

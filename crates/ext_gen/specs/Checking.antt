@@ -17,10 +17,10 @@ use Rattle.ext_store_files.specs.HeldFiles.{is_served, body_told, IsListed}
 
 -- the file of an entry, if it is one
 abbrev pub files_in : Entry HeldFile → List HeldFile
-files_in (Dir mode) = []
-files_in (Opaque mode) = []
-files_in (File mode held) = held ∷ []
-files_in (Link target) = []
+files_in (Dir attributes) = []
+files_in (Opaque attributes) = []
+files_in (File attributes held) = held ∷ []
+files_in (Link owner target) = []
 files_in Hide = []
 
 -- the files of entries in path order; two that are kept at one home count twice

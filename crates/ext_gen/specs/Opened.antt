@@ -7,7 +7,7 @@ use Rattle.ext_index.specs.ValidIndex.{GivesIndex}
 -- what contracts see of an opened store
 pub record Generation : Type 0 where
   pub number : ℕ
-  -- 1 or 2
+  -- 1, 2 or 3
   pub text : ℕ
   pub host : Host
 

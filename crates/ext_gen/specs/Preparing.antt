@@ -22,7 +22,7 @@ use Rattle.ext_host.specs.Home.{last_generation}
 use Rattle.ext_store_files.specs.Appended.{raised}
 use Rattle.ext_store_files.specs.LeftOvers.{is_left_path}
 use Rattle.ext_store_files.specs.Names.{IsGeneration, current_text, generation_path}
-use Rattle.ext_index.specs.ValidIndex.{most_index_bytes}
+use Rattle.ext_index.specs.ValidIndex.{most_index_bytes, written_text}
 use Rattle.ext_homes.specs.Brought.{brought, bytes_of_all, is_brought}
 use Rattle.ext_homes.specs.Giving.{stored_by}
 use Rattle.ext_homes.specs.Placed.{IsHostPlaced}
@@ -92,10 +92,10 @@ is_kept_in n (Depot path) = false
 
 -- the entry is a file that is kept in this generation
 abbrev pub is_file_in : ℕ → Entry HeldFile → Bool
-is_file_in n (Dir mode) = false
-is_file_in n (Opaque mode) = false
-is_file_in n (File mode held) = is_kept_in n held.body
-is_file_in n (Link target) = false
+is_file_in n (Dir attributes) = false
+is_file_in n (Opaque attributes) = false
+is_file_in n (File attributes held) = is_kept_in n held.body
+is_file_in n (Link owner target) = false
 is_file_in n Hide = false
 
 -- some file of the tree is
@@ -138,10 +138,10 @@ pub record PreparesTold (from : Option Generation) (coming : Generation) (writte
   -- of generations there is the coming one, and those that were needed
   pub generations : (m : ℕ) → IsGeneration m → is_some (e.places (generation_path m)).node ≡ true → (m ≡ coming.number) ⊎ (is_needed from m ≡ true)
 
--- the coming generation has the host that is wanted, with its homes, as text 2
+-- the coming generation has the host that is wanted, with its homes, as the text that is written
 pub record Prepares (from : Option Generation) (next : Host) (old new : DiskState) (depot : DepotState) (coming : Generation) : Type 0 where
   pub number : coming.number ≡ coming_number from
-  pub text : coming.text ≡ 2
+  pub text : coming.text ≡ written_text coming.host
   pub written : List (List ℕ)
   pub homes : IsHostPlaced (stored_by (host_before from) old) depot coming.number next coming.host written
   pub told : BothTold (PreparesTold from coming written) old.told new.told

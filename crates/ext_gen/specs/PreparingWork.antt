@@ -10,6 +10,7 @@ use Rattle.ext_store_files.specs.LeftOvers.{is_left_over}
 use Rattle.ext_store_files.specs.Names.{current_text, generation_name, next_name}
 use Rattle.ext_homes.specs.Giving.{stored_by}
 use Rattle.ext_homes.specs.Placed.{IsHostPlaced}
+use Rattle.ext_index.specs.ValidIndex.{written_text}
 use Rattle.ext_gen.specs.Opened.{Generation, IsOpened}
 use Rattle.ext_gen.specs.Preparing.{coming_number, host_before, is_needed}
 use Rattle.ext_gen.specs.PreparingIndex.{coming_index}
@@ -26,11 +27,11 @@ pub record ChangedTold (needed : ℕ → Bool) (n : ℕ) (host : Host) (written 
 pub record Changed (from : Option Generation) (n : ℕ) (next : Host) (old new : DiskState) (depot : DepotState) (host : Host) : Type 0 where
   pub written : List (List ℕ)
   pub homes : IsHostPlaced (stored_by (host_before from) old) depot n next host written
-  pub opened : IsOpened (record { number = n; text = 2; host = host })
+  pub opened : IsOpened (record { number = n; text = written_text host; host = host })
   pub told : BothTold (ChangedTold (is_needed from) n host written) old.told new.told
 
 -- and the generation is the coming one
 pub record Completed (from : Option Generation) (next : Host) (old new : DiskState) (depot : DepotState) (coming : Generation) : Type 0 where
   pub number : coming.number ≡ coming_number from
-  pub text : coming.text ≡ 2
+  pub text : coming.text ≡ written_text coming.host
   pub changed : Changed from coming.number next old new depot coming.host

@@ -125,7 +125,7 @@ fn check_entry<D: Disk>(
 {
     match entry {
         Entry::File(_, held) => check_file(alloc, disk, verified, held),
-        Entry::Dir(_) | Entry::Opaque(_) | Entry::Link(_) | Entry::Hide => Ok((0, 0)),
+        Entry::Dir(_) | Entry::Opaque(_) | Entry::Link(_, _) | Entry::Hide => Ok((0, 0)),
     }
 }
 

@@ -34,7 +34,7 @@ impl Drop for Opened {
 impl Opened {
     ghost use Rattle.ext_gen.specs.Opened.{IsOpened};
 
-    /// The generation of this number, whose index is a text of that number, 1 or 2, and lists the host.
+    /// The generation of this number, whose index is a text of that number, 1 to 3, and lists the host.
     pub(crate) fn new(host: Host, generation: u32, text: u32) -> Opened
         requires { IsOpened (record { number = generation; text = text; host = host }) }
         ensures { result ≡ record { number = generation; text = text; host = host } }

@@ -7,7 +7,7 @@ ghost use Rattle.ext_disk.specs.Since.{Follows};
 ghost use Rattle.ext_host.specs.Drawn.{AreDrawnFrom, trees_of};
 ghost use Rattle.ext_host.specs.Valid.{IsValidHost};
 ghost use Rattle.ext_homes.specs.Giving.{stored_by, trees_before};
-ghost use Rattle.ext_index.specs.ValidIndex.{most_index_bytes};
+ghost use Rattle.ext_index.specs.ValidIndex.{most_index_bytes, written_text};
 ghost use Rattle.ext_store_files.specs.Names.{IsGeneration};
 ghost use Rattle.ext_store_files.specs.declared.fault.StoreFault.TheVariants as store_faults;
 ghost use Rattle.ext_gen.specs.Opened.{IsOpened};
@@ -41,6 +41,7 @@ use crate::preparing::needed::needed_generations;
 use ext_depot::Depot;
 use ext_disk::Disk;
 use ext_host::{Host, Plan};
+use ext_index::written_text;
 use ext_store_files::{current_path, next_path, store_folder};
 use std::alloc::Global;
 
@@ -178,11 +179,12 @@ fn host_of<'a>(from: Option<&'a Opened>) -> Option<&'a Host>
 
 // What is prepared, with the paths that a switch needs.
 fn prepared(alloc: Global, generation: u32, host: Host) -> Result<Prepared, StoreErr>
-    requires { IsOpened (record { number = generation; text = 2; host = host }) }
-    ensures prepared { IfOk result (λ coming. coming ≡ record { number = generation; text = 2; host = host }) }
+    requires { IsOpened (record { number = generation; text = written_text host; host = host }) }
+    ensures prepared { IfOk result (λ coming. coming ≡ record { number = generation; text = written_text host; host = host }) }
     ensures cause { IfErr result (λ e. e ≡ errors.Fault store_faults.OutOfMemory) }
 {
-    let opened = Opened::new(host, generation, 2);
+    let text = written_text(&host);
+    let opened = Opened::new(host, generation, text);
     let next = next_path(alloc)?;
     let current = current_path(alloc)?;
     Ok(Prepared::new(opened, store_folder(alloc), next, current))

@@ -10,10 +10,10 @@ use Rattle.ext_host.specs.Valid.{IsWithinLimits, bytes_of, held_form}
 use Rattle.ext_homes.specs.Brought.{AreSmall}
 
 small : (e : Entry HeldFile) → IsWritable held_form e → bytes_of e < 2 ^ 63
-small (Dir mode) is = omega arith
-small (Opaque mode) is = omega arith
-small (File mode held) is = let size = is.1.size in omega arith
-small (Link target) is = omega arith
+small (Dir attributes) is = omega arith
+small (Opaque attributes) is = omega arith
+small (File attributes held) is = let size = is.1.size in omega arith
+small (Link owner target) is = omega arith
 small Hide is = omega arith
 
 -- the files of a tree within the limits are small enough to be brought

@@ -16,6 +16,7 @@ use Rattle.std.proofs.lemmas.Cmp.{on_total, then_total, lists_total, nat_cmp_tot
 use Rattle.std.proofs.lemmas.List.Kept.{Contains-dedup, Contains-from_dedup, IsStrictlySortedBy-dedup}
 use Rattle.std.proofs.lemmas.List.Elements.{Contains-append_cases, Contains-append_left, Contains-append_right, All-contains, All-from_recursion}
 use Rattle.std.proofs.lemmas.List.Sorted.{Contains-permutation, IsPermutation-sym}
+use Rattle.ext_attributes.specs.Attributes.{OfFile}
 use Rattle.ext_text.specs.Order.{paths_total}
 use Rattle.ext_text.specs.Path.{path_cmp}
 use Rattle.ext_text.proofs.ForCallers.{is_equal, is_less}
@@ -87,11 +88,11 @@ body_is sought stamp (Kept home) f among = ap (λ (g : KeptFile). as_held (file_
 body_is sought stamp (Depot path) f (k, lt, is) = absurd (omega arith)
 
 -- a file of the list is one of an entry
-entry_is : (sought : Stamp → Bool) (e : Entry HeldFile) (f : KeptFile) → Contains (entry_kept sought e) f → (mode : ℕ) × (e ≡ File mode (as_held (file_stamp f) (Kept (home_of f))))
-entry_is sought (Dir mode) f (k, lt, is) = absurd (omega arith)
-entry_is sought (Opaque mode) f (k, lt, is) = absurd (omega arith)
-entry_is sought (File mode held) f among = (mode, ap (λ (h : HeldFile). File mode h) (body_is sought held.stamp held.body f among))
-entry_is sought (Link target) f (k, lt, is) = absurd (omega arith)
+entry_is : (sought : Stamp → Bool) (e : Entry HeldFile) (f : KeptFile) → Contains (entry_kept sought e) f → (attributes : OfFile) × (e ≡ File attributes (as_held (file_stamp f) (Kept (home_of f))))
+entry_is sought (Dir attributes) f (k, lt, is) = absurd (omega arith)
+entry_is sought (Opaque attributes) f (k, lt, is) = absurd (omega arith)
+entry_is sought (File attributes held) f among = (attributes, ap (λ (h : HeldFile). File attributes h) (body_is sought held.stamp held.body f among))
+entry_is sought (Link owner target) f (k, lt, is) = absurd (omega arith)
 entry_is sought Hide f (k, lt, is) = absurd (omega arith)
 
 -- the files that a tree keeps
@@ -99,13 +100,13 @@ of_tree : (sought : Stamp → Bool) (es : Entries HeldFile) (f : KeptFile) → I
 of_tree sought es f tree among =
     let at = in_flat (λ (e : List (List ℕ) × Entry HeldFile). entry_kept sought e.1) es f among in
     let is = entry_is sought at.0.1 f at.2 in
-    record { path = at.0.0; mode = is.0; stands = looked_up es at.0 tree at.1 ∙ ap Some is.1 }
+    record { path = at.0.0; attributes = is.0; stands = looked_up es at.0 tree at.1 ∙ ap Some is.1 }
 
 in_tree : (sought : Stamp → Bool) (es : Entries HeldFile) (stamp : Stamp) (home : Home) → sought stamp ≡ true → HasFile es (as_held stamp (Kept home)) → Contains (tree_kept sought es) (kept_file stamp home)
 in_tree sought es stamp home is file =
-    let at = some_entry es file.path (File file.mode (as_held stamp (Kept home))) file.stands in
+    let at = some_entry es file.path (File file.attributes (as_held stamp (Kept home))) file.stands in
     let here : Contains (body_kept sought stamp (Kept home)) (kept_file stamp home) = subst (λ b. Contains (if b then kept_file stamp home ∷ [] else []) (kept_file stamp home)) (sym is) (contains_here (kept_file stamp home) []) in
-    flat_in (λ (e : List (List ℕ) × Entry HeldFile). entry_kept sought e.1) es (at.0, File file.mode (as_held stamp (Kept home))) (kept_file stamp home) at.1 here
+    flat_in (λ (e : List (List ℕ) × Entry HeldFile). entry_kept sought e.1) es (at.0, File file.attributes (as_held stamp (Kept home))) (kept_file stamp home) at.1 here
 
 -- the files that trees keep, in any order
 pub kept_by_trees : (sought : Stamp → Bool) (trees : List (Entries HeldFile)) (files : List KeptFile) → AllByRecursion (λ es. IsTree es) trees → HaveSame (trees_kept sought trees) files → AreKept trees sought files

@@ -109,12 +109,12 @@ body_way old contents depot files n stamp (Depot path) next a b w v has is one t
 
 entry_way : (old : Stored) (contents : Home → List ℕ) (depot : DepotState) (files : Files) (n : ℕ) (e : Entry HeldFile) (next : ℕ) (a b : Entry HeldFile) (w v : List (List ℕ)) → HasBytes old contents
     → depot.contents ≡ Some files → IsEntryPlaced old depot n e next a w → IsEntryPlaced old depot n e next b v → (a ≡ b) × (w ≡ v)
-entry_way old contents depot files n (Dir mode) next a b w v has is one two = (one.0 ∙ sym two.0, one.1 ∙ sym two.1)
-entry_way old contents depot files n (Opaque mode) next a b w v has is one two = (one.0 ∙ sym two.0, one.1 ∙ sym two.1)
-entry_way old contents depot files n (File mode held) next a b w v has is one two =
+entry_way old contents depot files n (Dir attributes) next a b w v has is one two = (one.0 ∙ sym two.0, one.1 ∙ sym two.1)
+entry_way old contents depot files n (Opaque attributes) next a b w v has is one two = (one.0 ∙ sym two.0, one.1 ∙ sym two.1)
+entry_way old contents depot files n (File attributes held) next a b w v has is one two =
     let same = body_way old contents depot files n held.stamp held.body next one.0 two.0 w v has is one.1 two.1 in
-    (one.2 ∙ ap (λ (h : HeldFile). File mode h) same.0 ∙ sym two.2, same.1)
-entry_way old contents depot files n (Link target) next a b w v has is one two = (one.0 ∙ sym two.0, one.1 ∙ sym two.1)
+    (one.2 ∙ ap (λ (h : HeldFile). File attributes h) same.0 ∙ sym two.2, same.1)
+entry_way old contents depot files n (Link owner target) next a b w v has is one two = (one.0 ∙ sym two.0, one.1 ∙ sym two.1)
 entry_way old contents depot files n Hide next a b w v has is one two = (one.0 ∙ sym two.0, one.1 ∙ sym two.1)
 
 entries_way : (old : Stored) (contents : Home → List ℕ) (depot : DepotState) (files : Files) (n : ℕ) (es : Entries HeldFile) (next : ℕ) (a b : Entries HeldFile) (w v : List (List ℕ)) → HasBytes old contents

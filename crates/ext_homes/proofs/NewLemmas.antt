@@ -51,10 +51,10 @@ body_new old contents depot files n stamp (Depot path) next new written has is p
 
 entry_new : (old : Stored) (contents : Home → List ℕ) (depot : DepotState) (files : Files) (n : ℕ) (e : Entry HeldFile) (next : ℕ) (new : Entry HeldFile) (written : List (List ℕ)) → HasBytes old contents
     → depot.contents ≡ Some files → IsEntryPlaced old depot n e next new written → (m : ℕ) × IsNewEntry old contents depot e m × (sum_by length written ≡ m)
-entry_new old contents depot files n (Dir mode) next new written has is placed = (0, refl, ap (λ w. sum_by length w) placed.1)
-entry_new old contents depot files n (Opaque mode) next new written has is placed = (0, refl, ap (λ w. sum_by length w) placed.1)
-entry_new old contents depot files n (File mode held) next new written has is placed = body_new old contents depot files n held.stamp held.body next placed.0 written has is placed.1
-entry_new old contents depot files n (Link target) next new written has is placed = (0, refl, ap (λ w. sum_by length w) placed.1)
+entry_new old contents depot files n (Dir attributes) next new written has is placed = (0, refl, ap (λ w. sum_by length w) placed.1)
+entry_new old contents depot files n (Opaque attributes) next new written has is placed = (0, refl, ap (λ w. sum_by length w) placed.1)
+entry_new old contents depot files n (File attributes held) next new written has is placed = body_new old contents depot files n held.stamp held.body next placed.0 written has is placed.1
+entry_new old contents depot files n (Link owner target) next new written has is placed = (0, refl, ap (λ w. sum_by length w) placed.1)
 entry_new old contents depot files n Hide next new written has is placed = (0, refl, ap (λ w. sum_by length w) placed.1)
 
 entries_new : (old : Stored) (contents : Home → List ℕ) (depot : DepotState) (files : Files) (n : ℕ) (es : Entries HeldFile) (next : ℕ) (new : Entries HeldFile) (written : List (List ℕ)) → HasBytes old contents

@@ -18,11 +18,11 @@ body_stamp old depot n held (Kept home) next new written is = ap (λ (h : HeldFi
 body_stamp old depot n held (Depot path) next new written is = ap (λ (h : HeldFile). h.stamp) is.2
 
 entry_stamp : (old : Stored) (depot : DepotState) (n : ℕ) (e : Entry HeldFile) (next : ℕ) (new : Entry HeldFile) (written : List (List ℕ)) → IsEntryPlaced old depot n e next new written → stamped_entry new ≡ stamped_entry e
-entry_stamp old depot n (Dir mode) next new written is = ap stamped_entry is.0
-entry_stamp old depot n (Opaque mode) next new written is = ap stamped_entry is.0
-entry_stamp old depot n (File mode held) next new written is =
-    ap stamped_entry is.2 ∙ ap (λ (s : Stamp). File mode s) (body_stamp old depot n held held.body next is.0 written is.1)
-entry_stamp old depot n (Link target) next new written is = ap stamped_entry is.0
+entry_stamp old depot n (Dir attributes) next new written is = ap stamped_entry is.0
+entry_stamp old depot n (Opaque attributes) next new written is = ap stamped_entry is.0
+entry_stamp old depot n (File attributes held) next new written is =
+    ap stamped_entry is.2 ∙ ap (λ (s : Stamp). File attributes s) (body_stamp old depot n held held.body next is.0 written is.1)
+entry_stamp old depot n (Link owner target) next new written is = ap stamped_entry is.0
 entry_stamp old depot n Hide next new written is = ap stamped_entry is.0
 
 -- a tree has its stamps, whatever homes its files have
@@ -33,10 +33,10 @@ placed_stamps old depot n (e ∷ es) next new written is =
     ∙ (λ i. (e.0, entry_stamp old depot n e.1 next is.0 is.2 is.4 i) ∷ placed_stamps old depot n es (next + length is.2) is.1 is.3 is.5 i)
 
 keeps_directories : (p : List (List ℕ)) (e : Entry HeldFile) → is_directory (stamped_entry e) ≡ is_directory e
-keeps_directories p (Dir mode) = refl
-keeps_directories p (Opaque mode) = refl
-keeps_directories p (File mode held) = refl
-keeps_directories p (Link target) = refl
+keeps_directories p (Dir attributes) = refl
+keeps_directories p (Opaque attributes) = refl
+keeps_directories p (File attributes held) = refl
+keeps_directories p (Link owner target) = refl
 keeps_directories p Hide = refl
 
 -- and is a tree

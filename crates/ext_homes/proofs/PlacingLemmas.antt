@@ -79,10 +79,10 @@ brought_both es gs = flat_map-append (λ (e : List (List ℕ) × Entry HeldFile)
 
 -- no more files are brought than there are entries
 few_stamps : (e : Entry HeldFile) → length (brought_stamps e) ≤ 1
-few_stamps (Dir mode) = omega arith
-few_stamps (Opaque mode) = omega arith
-few_stamps (File mode held) = elim (is_brought held.body) as (λ b. length (cond b (held.stamp ∷ []) []) ≤ 1) [ true ↦ omega arith | false ↦ omega arith ]
-few_stamps (Link target) = omega arith
+few_stamps (Dir attributes) = omega arith
+few_stamps (Opaque attributes) = omega arith
+few_stamps (File attributes held) = elim (is_brought held.body) as (λ b. length (cond b (held.stamp ∷ []) []) ≤ 1) [ true ↦ omega arith | false ↦ omega arith ]
+few_stamps (Link owner target) = omega arith
 few_stamps Hide = omega arith
 
 pub few_brought : (es : Entries HeldFile) → length (brought es) ≤ length es
@@ -288,11 +288,11 @@ stop_only files n next all rest new x later count r s t a b is going only =
 entry_stops : (files : List KeptFile) (n next count : ℕ) (all done later fs : Entries HeldFile) (p : List (List ℕ)) (e : Entry HeldFile) (err : HomesErr) (r s t : DiskState) (a b c : DepotState)
     → n < 2 ^ 32 → AreBefore n (lists_in files) → all ≡ done ++ (p, e) ∷ later → PlacedSoFar files n next done fs count r s a b
     → EntryCause s t b c (stored_in files s) e err → HomesCause r t a c (stored_in files r) n all next err
-entry_stops files n next count all done later fs p (Dir mode) err r s t a b c small before split so_far cause = absurd cause
-entry_stops files n next count all done later fs p (Opaque mode) err r s t a b c small before split so_far cause = absurd cause
-entry_stops files n next count all done later fs p (Link target) err r s t a b c small before split so_far cause = absurd cause
+entry_stops files n next count all done later fs p (Dir attributes) err r s t a b c small before split so_far cause = absurd cause
+entry_stops files n next count all done later fs p (Opaque attributes) err r s t a b c small before split so_far cause = absurd cause
+entry_stops files n next count all done later fs p (Link owner target) err r s t a b c small before split so_far cause = absurd cause
 entry_stops files n next count all done later fs p Hide err r s t a b c small before split so_far cause = absurd cause
-entry_stops files n next count all done later fs p (File mode held) err r s t a b c small before split so_far cause =
+entry_stops files n next count all done later fs p (File attributes held) err r s t a b c small before split so_far cause =
     by_error err
     (cause_since Any (stored_in files s) (stored_in files r) b a c r s t held err (alike_before n (bytes_of_all (brought done)) files r s small before so_far.works) (λ body. brought_stays a b body so_far.kept)
     so_far.works.spares.follows.count so_far.kept.count (λ brings. tt) cause)
@@ -302,7 +302,7 @@ entry_stops files n next count all done later fs p (File mode held) err r s t a 
       before = done;
       after = later;
       path = p;
-      mode = mode;
+      attributes = attributes;
       held = held;
       entries = split;
       placed = fs;

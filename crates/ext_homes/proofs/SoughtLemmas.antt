@@ -21,10 +21,10 @@ marks_more marks i within stamp is =
     ]
 
 entry_grows : (old new : List Bool) (e : Entry HeldFile) → Grows old new → EntryAmong (IsSought old) e → EntryAmong (IsSought new) e
-entry_grows old new (Dir mode) grows among = tt
-entry_grows old new (Opaque mode) grows among = tt
-entry_grows old new (File mode held) grows among = λ brings. grows held.stamp (among brings)
-entry_grows old new (Link target) grows among = tt
+entry_grows old new (Dir attributes) grows among = tt
+entry_grows old new (Opaque attributes) grows among = tt
+entry_grows old new (File attributes held) grows among = λ brings. grows held.stamp (among brings)
+entry_grows old new (Link owner target) grows among = tt
 entry_grows old new Hide grows among = tt
 
 pub entries_grow : (old new : List Bool) (es : Entries HeldFile) → Grows old new → AreSought old es → AreSought new es

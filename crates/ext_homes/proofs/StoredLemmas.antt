@@ -36,10 +36,10 @@ abbrev pub Any : Stamp → Type 0
 Any stamp = Unit {0}
 
 entry_any : (e : Entry HeldFile) → EntryAmong Any e
-entry_any (Dir mode) = tt
-entry_any (Opaque mode) = tt
-entry_any (File mode held) = λ brings. tt
-entry_any (Link target) = tt
+entry_any (Dir attributes) = tt
+entry_any (Opaque attributes) = tt
+entry_any (File attributes held) = λ brings. tt
+entry_any (Link owner target) = tt
 entry_any Hide = tt
 
 pub all_any : (es : Entries HeldFile) → AreAmong Any es
@@ -90,10 +90,10 @@ body_alike Among one two x y n held (Depot path) next new written alike same amo
 
 entry_alike : (Among : Stamp → Type 0) (one two : Stored) (x y : DepotState) (n : ℕ) (e : Entry HeldFile) (next : ℕ) (new : Entry HeldFile) (written : List (List ℕ)) → IsAlike Among one two → AreAlike x y
     → EntryAmong Among e → IsEntryPlaced one x n e next new written → IsEntryPlaced two y n e next new written
-entry_alike Among one two x y n (Dir mode) next new written alike same among is = is
-entry_alike Among one two x y n (Opaque mode) next new written alike same among is = is
-entry_alike Among one two x y n (File mode held) next new written alike same among is = (is.0, body_alike Among one two x y n held held.body next is.0 written alike same among is.1, is.2)
-entry_alike Among one two x y n (Link target) next new written alike same among is = is
+entry_alike Among one two x y n (Dir attributes) next new written alike same among is = is
+entry_alike Among one two x y n (Opaque attributes) next new written alike same among is = is
+entry_alike Among one two x y n (File attributes held) next new written alike same among is = (is.0, body_alike Among one two x y n held held.body next is.0 written alike same among is.1, is.2)
+entry_alike Among one two x y n (Link owner target) next new written alike same among is = is
 entry_alike Among one two x y n Hide next new written alike same among is = is
 
 -- entries have the same homes in two stores that are alike
@@ -170,19 +170,19 @@ cause_since Among one two x y after old mid new held (NotInDepot path) alike sam
 stops_since : (Among : Stamp → Type 0) (one two : Stored) (x y : DepotState) (n : ℕ) (es : Entries HeldFile) (next : ℕ) (Why Since : HeldFile → Type 0) → IsAlike Among one two → AreAlike x y → AreAmong Among es
     → ((held : HeldFile) → BringsAmong Among held held.body → Why held → Since held) → StopsAt one x n es next Why → StopsAt two y n es next Since
 stops_since Among one two x y n es next Why Since alike same among why stops =
-    let here : AreAmong Among (stops.before ++ (stops.path, File stops.mode stops.held) ∷ stops.after) = subst (AreAmong Among) stops.entries among in
+    let here : AreAmong Among (stops.before ++ (stops.path, File stops.attributes stops.held) ∷ stops.after) = subst (AreAmong Among) stops.entries among in
     record {
       before = stops.before;
       after = stops.after;
       path = stops.path;
-      mode = stops.mode;
+      attributes = stops.attributes;
       held = stops.held;
       entries = stops.entries;
       placed = stops.placed;
       written = stops.written;
       homes = entries_alike Among one two x y n stops.before next stops.placed stops.written alike same
-          (all_prefix (λ e. EntryAmong Among e.1) stops.before ((stops.path, File stops.mode stops.held) ∷ stops.after) here) stops.homes;
-      why = why stops.held (all_back (λ e. EntryAmong Among e.1) stops.before ((stops.path, File stops.mode stops.held) ∷ stops.after) here).0 stops.why;
+          (all_prefix (λ e. EntryAmong Among e.1) stops.before ((stops.path, File stops.attributes stops.held) ∷ stops.after) here) stops.homes;
+      why = why stops.held (all_back (λ e. EntryAmong Among e.1) stops.before ((stops.path, File stops.attributes stops.held) ∷ stops.after) here).0 stops.why;
     }
 
 -- a cause of a later stretch is one since an earlier time
@@ -206,9 +206,9 @@ stops_more old depot n es gs next Why stops = record {
   before = stops.before;
   after = stops.after ++ gs;
   path = stops.path;
-  mode = stops.mode;
+  attributes = stops.attributes;
   held = stops.held;
-  entries = ap (λ l. l ++ gs) stops.entries ∙ append_assoc stops.before ((stops.path, File stops.mode stops.held) ∷ stops.after) gs;
+  entries = ap (λ l. l ++ gs) stops.entries ∙ append_assoc stops.before ((stops.path, File stops.attributes stops.held) ∷ stops.after) gs;
   placed = stops.placed;
   written = stops.written;
   homes = stops.homes;
@@ -229,9 +229,9 @@ stops_after old depot n es gs next mid fs first Why count placed stops = record 
   before = es ++ stops.before;
   after = stops.after;
   path = stops.path;
-  mode = stops.mode;
+  attributes = stops.attributes;
   held = stops.held;
-  entries = ap (λ l. es ++ l) stops.entries ∙ sym (append_assoc es stops.before ((stops.path, File stops.mode stops.held) ∷ stops.after));
+  entries = ap (λ l. es ++ l) stops.entries ∙ sym (append_assoc es stops.before ((stops.path, File stops.attributes stops.held) ∷ stops.after));
   placed = fs ++ stops.placed;
   written = first ++ stops.written;
   homes = placed_both old depot n es stops.before next fs stops.placed first stops.written placed (subst (λ i. ArePlaced old depot n stops.before i stops.placed stops.written) count stops.homes);

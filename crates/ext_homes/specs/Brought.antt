@@ -22,10 +22,10 @@ held_stamps held = if is_brought held.body then held.stamp ∷ [] else []
 
 -- the stamp of an entry's file, where it is brought
 abbrev pub brought_stamps : Entry HeldFile → List Stamp
-brought_stamps (Dir mode) = []
-brought_stamps (Opaque mode) = []
-brought_stamps (File mode held) = held_stamps held
-brought_stamps (Link target) = []
+brought_stamps (Dir attributes) = []
+brought_stamps (Opaque attributes) = []
+brought_stamps (File attributes held) = held_stamps held
+brought_stamps (Link owner target) = []
 brought_stamps Hide = []
 
 -- the stamps of the files that are brought, in the order of their entries

@@ -83,10 +83,10 @@ body_kept sought stamp (Depot path) = []
 
 -- that of an entry's file
 abbrev pub entry_kept : (Stamp → Bool) → Entry HeldFile → List KeptFile
-entry_kept sought (Dir mode) = []
-entry_kept sought (Opaque mode) = []
-entry_kept sought (File mode held) = body_kept sought held.stamp held.body
-entry_kept sought (Link target) = []
+entry_kept sought (Dir attributes) = []
+entry_kept sought (Opaque attributes) = []
+entry_kept sought (File attributes held) = body_kept sought held.stamp held.body
+entry_kept sought (Link owner target) = []
 entry_kept sought Hide = []
 
 -- those of all entries of a tree

@@ -64,10 +64,10 @@ IsNewBody old contents depot stamp (Depot path) n = IsNewSize old contents (brou
 
 -- and nothing of an entry that is no file
 abbrev pub IsNewEntry : Stored → (Home → List ℕ) → DepotState → Entry HeldFile → ℕ → Type 0
-IsNewEntry old contents depot (Dir mode) n = n ≡ 0
-IsNewEntry old contents depot (Opaque mode) n = n ≡ 0
-IsNewEntry old contents depot (File mode held) n = IsNewBody old contents depot held.stamp held.body n
-IsNewEntry old contents depot (Link target) n = n ≡ 0
+IsNewEntry old contents depot (Dir attributes) n = n ≡ 0
+IsNewEntry old contents depot (Opaque attributes) n = n ≡ 0
+IsNewEntry old contents depot (File attributes held) n = IsNewBody old contents depot held.stamp held.body n
+IsNewEntry old contents depot (Link owner target) n = n ≡ 0
 IsNewEntry old contents depot Hide n = n ≡ 0
 
 -- the sizes of the file entries whose bytes the store has at no home, added up

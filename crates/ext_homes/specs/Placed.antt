@@ -75,11 +75,11 @@ IsFilePlaced old depot generation held next new written = IsBodyPlaced old depot
 
 -- an entry's file has its home; other entries stay
 abbrev pub IsEntryPlaced : Stored → DepotState → ℕ → Entry HeldFile → ℕ → Entry HeldFile → List (List ℕ) → Type 0
-IsEntryPlaced old depot generation (Dir mode) next new written = (new ≡ Dir mode) × (written ≡ [])
-IsEntryPlaced old depot generation (Opaque mode) next new written = (new ≡ Opaque mode) × (written ≡ [])
-IsEntryPlaced old depot generation (File mode held) next new written =
-    (placed : HeldFile) × IsFilePlaced old depot generation held next placed written × (new ≡ File mode placed)
-IsEntryPlaced old depot generation (Link target) next new written = (new ≡ Link target) × (written ≡ [])
+IsEntryPlaced old depot generation (Dir attributes) next new written = (new ≡ Dir attributes) × (written ≡ [])
+IsEntryPlaced old depot generation (Opaque attributes) next new written = (new ≡ Opaque attributes) × (written ≡ [])
+IsEntryPlaced old depot generation (File attributes held) next new written =
+    (placed : HeldFile) × IsFilePlaced old depot generation held next placed written × (new ≡ File attributes placed)
+IsEntryPlaced old depot generation (Link owner target) next new written = (new ≡ Link owner target) × (written ≡ [])
 IsEntryPlaced old depot generation Hide next new written = (new ≡ Hide) × (written ≡ [])
 
 -- the files of entries have their homes, in their order

@@ -22,8 +22,8 @@ pub record Placing (Homes : List (List ℕ) → Type 0) (generation next files :
 
 -- why the file of an entry got no home
 abbrev pub EntryCause : DiskState → DiskState → DepotState → DepotState → Stored → Entry HeldFile → HomesErr → Type 0
-EntryCause disk new depot after old (Dir mode) e = ⊥
-EntryCause disk new depot after old (Opaque mode) e = ⊥
-EntryCause disk new depot after old (File mode held) e = HomeCause disk new depot after old held e
-EntryCause disk new depot after old (Link target) e = ⊥
+EntryCause disk new depot after old (Dir attributes) e = ⊥
+EntryCause disk new depot after old (Opaque attributes) e = ⊥
+EntryCause disk new depot after old (File attributes held) e = HomeCause disk new depot after old held e
+EntryCause disk new depot after old (Link owner target) e = ⊥
 EntryCause disk new depot after old Hide e = ⊥

@@ -3,6 +3,7 @@
 -- its file, the brought one is what decides. The first such file stops the change.
 use Rattle.std.specs.Prelude.{◌≡◌, ◌≢◌, ℕ, true, List, ◌∷◌, ◌++◌, Option}
 use Rattle.std.specs.declared.cmp.Ordering.TheVariants.{Less}
+use Rattle.ext_attributes.specs.Attributes.{OfFile}
 use Rattle.ext_text.specs.Causes.{Rose}
 use Rattle.ext_depot.specs.Depot.{DepotState}
 use Rattle.ext_disk.specs.Disk.{DiskState}
@@ -50,9 +51,9 @@ pub record StopsAt (old : Stored) (depot : DepotState) (generation : ℕ) (es : 
   pub before : Entries HeldFile
   pub after : Entries HeldFile
   pub path : List (List ℕ)
-  pub mode : ℕ
+  pub attributes : OfFile
   pub held : HeldFile
-  pub entries : es ≡ before ++ (path, File mode held) ∷ after
+  pub entries : es ≡ before ++ (path, File attributes held) ∷ after
   pub placed : Entries HeldFile
   pub written : List (List ℕ)
   pub homes : ArePlaced old depot generation before next placed written

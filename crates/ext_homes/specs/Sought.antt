@@ -32,10 +32,10 @@ BringsAmong Among held body = is_brought body ≡ true → Among held.stamp
 
 -- the same of an entry's file
 abbrev pub EntryAmong : (Stamp → Type 0) → Entry HeldFile → Type 0
-EntryAmong Among (Dir mode) = Unit {0}
-EntryAmong Among (Opaque mode) = Unit {0}
-EntryAmong Among (File mode held) = BringsAmong Among held held.body
-EntryAmong Among (Link target) = Unit {0}
+EntryAmong Among (Dir attributes) = Unit {0}
+EntryAmong Among (Opaque attributes) = Unit {0}
+EntryAmong Among (File attributes held) = BringsAmong Among held held.body
+EntryAmong Among (Link owner target) = Unit {0}
 EntryAmong Among Hide = Unit {0}
 
 -- so is the stamp of each file among the entries

@@ -158,7 +158,7 @@ fn place_entry<D: Disk, P: Depot>(
         Entry::File(_, held) => place_held(alloc, disk, depot, kept, generation, held, files),
         Entry::Dir(_) => Ok(()),
         Entry::Opaque(_) => Ok(()),
-        Entry::Link(_) => Ok(()),
+        Entry::Link(_, _) => Ok(()),
         Entry::Hide => Ok(()),
     }
 }

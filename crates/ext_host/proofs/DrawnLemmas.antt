@@ -4,6 +4,7 @@ use Rattle.std.proofs.lemmas.Bool.{and_parts, false≢true}
 use Rattle.std.proofs.lemmas.List.Elements.{All-contains, All-from_recursion}
 use Rattle.std.specs.Ordering.{eq_by_cmp}
 use Rattle.std.specs.List.{AllByRecursion, Contains}
+use Rattle.ext_attributes.specs.Attributes.{OfFile}
 use Rattle.ext_text.specs.Path.{is_prefix, is_proper_prefix, path_cmp}
 use Rattle.ext_tree.specs.Graft.{made, or_made}
 use Rattle.ext_tree.specs.Refusals.{is_root}
@@ -67,22 +68,22 @@ of_one es held is = subst (λ tree. HasFile tree held) (only is.tree is.among) i
 pub base_is_drawn : BaseIsDrawn
 base_is_drawn host es is held home kept file =
     let f = of_one es held file in
-    elim (entries_of_base host es f.path (File f.mode held) is f.stands) [
-      | inl seen ↦ record { tree = host.root; among = first_among host.root (host.lower ∷ []); file = record { path = f.path; mode = f.mode; stands = seen } }
-      | inr under ↦ record { tree = host.lower; among = second_among host.root host.lower []; file = record { path = f.path; mode = f.mode; stands = under } }
+    elim (entries_of_base host es f.path (File f.attributes held) is f.stands) [
+      | inl seen ↦ record { tree = host.root; among = first_among host.root (host.lower ∷ []); file = record { path = f.path; attributes = f.attributes; stands = seen } }
+      | inr under ↦ record { tree = host.lower; among = second_among host.root host.lower []; file = record { path = f.path; attributes = f.attributes; stands = under } }
     ]
 
 -- a part is drawn
 pub part_is_drawn : PartIsDrawn
 part_is_drawn es part at is held home kept file =
     let f = of_one part held file in
-    record { tree = es; among = first_among es []; file = record { path = at ++ f.path; mode = f.mode; stands = entries_of_part es part at f.path (File f.mode held) is f.stands } }
+    record { tree = es; among = first_among es []; file = record { path = at ++ f.path; attributes = f.attributes; stands = entries_of_part es part at f.path (File f.attributes held) is f.stands } }
 
 -- what is left is drawn
 pub cut_is_drawn : CutIsDrawn
 cut_is_drawn es rest at is held home kept file =
     let f = of_one rest held file in
-    record { tree = es; among = first_among es []; file = record { path = f.path; mode = f.mode; stands = entries_of_cut es rest at f.path (File f.mode held) is f.stands } }
+    record { tree = es; among = first_among es []; file = record { path = f.path; attributes = f.attributes; stands = entries_of_cut es rest at f.path (File f.attributes held) is f.stands } }
 
 some_same : {X : Type 0} (x y : X) → Some x ≡ Some y → x ≡ y
 some_same x y h = cc
@@ -110,17 +111,17 @@ entries_of_graft es part new (n ∷ at) path e is stands =
     (λ below. prefix_split (n ∷ at) path (and_parts (is_prefix (n ∷ at) path) (not (is_prefix path (n ∷ at))) below).0)
     (sym (is.each path) ∙ stands)
 
-file_not_made : (mode : ℕ) (held : HeldFile) → File mode held ≡ made → ⊥
-file_not_made mode held h = false≢true (ap is_directory h)
+file_not_made : (attributes : OfFile) (held : HeldFile) → File attributes held ≡ made → ⊥
+file_not_made attributes held h = false≢true (ap is_directory h)
 
 -- a tree with a graft is drawn from both
 pub graft_is_drawn : GraftIsDrawn
 graft_is_drawn es part new at is held home kept file =
     let f = of_one new held file in
-    elim (entries_of_graft es part new at f.path (File f.mode held) is f.stands) [
-      | inl old ↦ record { tree = es; among = first_among es (part ∷ []); file = record { path = f.path; mode = f.mode; stands = old } }
-      | inr (inl hung) ↦ record { tree = part; among = second_among es part []; file = record { path = hung.0; mode = f.mode; stands = hung.2 } }
-      | inr (inr dir) ↦ absurd (file_not_made f.mode held dir)
+    elim (entries_of_graft es part new at f.path (File f.attributes held) is f.stands) [
+      | inl old ↦ record { tree = es; among = first_among es (part ∷ []); file = record { path = f.path; attributes = f.attributes; stands = old } }
+      | inr (inl hung) ↦ record { tree = part; among = second_among es part []; file = record { path = hung.0; attributes = f.attributes; stands = hung.2 } }
+      | inr (inr dir) ↦ absurd (file_not_made f.attributes held dir)
     ]
 
 -- so are several trees

@@ -13,10 +13,10 @@ use Rattle.ext_host.specs.declared.body.Body.TheVariants.{Depot}
 
 -- the entry, a file with its body in the depot at the path
 abbrev pub in_depot : List (List ℕ) → Entry Stamp → Entry HeldFile
-in_depot path (Dir mode) = Dir mode
-in_depot path (Opaque mode) = Opaque mode
-in_depot path (File mode stamp) = File mode (record { stamp = stamp; body = Depot path })
-in_depot path (Link target) = Link target
+in_depot path (Dir attributes) = Dir attributes
+in_depot path (Opaque attributes) = Opaque attributes
+in_depot path (File attributes stamp) = File attributes (record { stamp = stamp; body = Depot path })
+in_depot path (Link owner target) = Link owner target
 in_depot path Hide = Hide
 
 -- an entry whose file is in the depot below the path

@@ -2,6 +2,7 @@
 -- before: so no command makes up where a file is kept. This project's own.
 use Rattle.std.specs.Prelude.{◌≡◌, ℕ, List, [], ◌∷◌, Some, Contains}
 use Rattle.std.specs.List.{flat_map}
+use Rattle.ext_attributes.specs.Attributes.{OfFile}
 use Rattle.ext_tree.specs.Tree.{Entries, lookup}
 use Rattle.ext_tree.specs.declared.entry.Entry.TheVariants.{File}
 use Rattle.ext_host.specs.Held.{HeldFile}
@@ -9,11 +10,11 @@ use Rattle.ext_host.specs.declared.body.Body.TheVariants.{Kept}
 use Rattle.ext_host.specs.declared.home.Home.{Home}
 use Rattle.ext_host.specs.declared.host.Host.{Host}
 
--- a file of the tree, at some path and with some mode
+-- a file of the tree, at some path and with some attributes
 pub record HasFile (es : Entries HeldFile) (held : HeldFile) : Type 0 where
   pub path : List (List ℕ)
-  pub mode : ℕ
-  pub stands : lookup es path ≡ Some (File mode held)
+  pub attributes : OfFile
+  pub stands : lookup es path ≡ Some (File attributes held)
 
 -- the trees of a host: what is seen, what lies under it, and both of each past tree
 abbrev pub trees_of : Host → List (Entries HeldFile)

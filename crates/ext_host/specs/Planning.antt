@@ -1,5 +1,6 @@
 -- What a planner is given of a host and owes of the next one: this project's own.
 use Rattle.std.specs.Prelude.{◌≡◌, ℕ, Bool, List, IsTrue, Option, Some, None}
+use Rattle.ext_attributes.specs.Attributes.{OfFile}
 use Rattle.ext_tree.specs.Tree.{Entries, IsTree, lookup}
 use Rattle.ext_tree.specs.declared.entry.Entry.TheVariants.{File}
 use Rattle.ext_host.specs.Drawn.{IsDrawnFrom}
@@ -15,7 +16,7 @@ content_size held = held.stamp.size
 
 -- a shelf serves each file of the tree
 abbrev pub ServesAll : (HeldFile → Bool) → Entries HeldFile → Type 0
-ServesAll serves es = (path : List (List ℕ)) (mode : ℕ) (held : HeldFile) → lookup es path ≡ Some (File mode held) → IsTrue (serves held)
+ServesAll serves es = (path : List (List ℕ)) (attributes : OfFile) (held : HeldFile) → lookup es path ≡ Some (File attributes held) → IsTrue (serves held)
 
 -- it serves the files of a host that are seen, and those that lie under what is seen
 pub record ServesHost (serves : HeldFile → Bool) (host : Host) : Type 0 where

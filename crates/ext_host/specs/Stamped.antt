@@ -9,10 +9,10 @@ use Rattle.ext_host.specs.Held.{HeldFile}
 
 -- the entry, a file with its stamp alone
 abbrev pub stamped_entry : Entry HeldFile → Entry Stamp
-stamped_entry (Dir mode) = Dir mode
-stamped_entry (Opaque mode) = Opaque mode
-stamped_entry (File mode held) = File mode held.stamp
-stamped_entry (Link target) = Link target
+stamped_entry (Dir attributes) = Dir attributes
+stamped_entry (Opaque attributes) = Opaque attributes
+stamped_entry (File attributes held) = File attributes held.stamp
+stamped_entry (Link owner target) = Link owner target
 stamped_entry Hide = Hide
 
 -- entries with the stamps of their files alone

@@ -5,6 +5,7 @@ use Rattle.std.specs.List.{AllByRecursion, sum_by}
 use Rattle.std.specs.Ordering.{nat_cmp}
 use Rattle.std.specs.declared.cmp.Ordering.{Ordering}
 use Rattle.std.specs.declared.cmp.Ordering.TheVariants.{Less}
+use Rattle.ext_attributes.specs.Attributes.{OfFile}
 use Rattle.ext_text.specs.Name.{bytes_cmp}
 use Rattle.ext_text.specs.Path.{are_related, is_prefix, path_cmp}
 use Rattle.ext_text.specs.declared.scope.Scope.TheVariants.{Portable}
@@ -27,10 +28,10 @@ AreAscending R (x ∷ xs) = AllByRecursion (λ y. R x y ≡ Less) xs × AreAscen
 
 -- the bytes of an entry's file
 abbrev pub bytes_of : Entry HeldFile → ℕ
-bytes_of (Dir mode) = 0
-bytes_of (Opaque mode) = 0
-bytes_of (File mode held) = held.stamp.size
-bytes_of (Link target) = 0
+bytes_of (Dir attributes) = 0
+bytes_of (Opaque attributes) = 0
+bytes_of (File attributes held) = held.stamp.size
+bytes_of (Link owner target) = 0
 bytes_of Hide = 0
 
 -- the bytes of all files
@@ -45,7 +46,7 @@ most_bytes = 4294967296
 abbrev pub held_form : LineForm HeldFile
 held_form = record { fields = λ held. stamp_fields held.stamp; writable = λ held. IsStamp held.stamp }
 
--- modes, stamps and targets are in the ranges of the lines of a tree's text
+-- attributes, stamps and targets are in the ranges of the lines of a tree's text
 abbrev pub AreInRange : Entries HeldFile → Type 0
 AreInRange es = AllByRecursion (λ e. IsWritable held_form e.1) es
 
@@ -81,8 +82,8 @@ pub record AreAttachments (attached : List Attachment) : Type 0 where
 -- the items are the files at and below the manifest's path, each with its digest: each item is such a file, and each such
 -- file is an item
 pub record HasItems (base : List (List ℕ) → Option (Entry HeldFile)) (manifest : Manifest) : Type 0 where
-  pub each : AllByRecursion (λ item. IsTrue (is_prefix manifest.path item.path) × ((mode : ℕ) × (held : HeldFile) × (base item.path ≡ Some (File mode held)) × (held.stamp.digest ≡ item.digest))) manifest.items
-  pub whole : (path : List (List ℕ)) (mode : ℕ) (held : HeldFile) → IsTrue (is_prefix manifest.path path) → base path ≡ Some (File mode held) → Contains manifest.items (record { path = path; digest = held.stamp.digest })
+  pub each : AllByRecursion (λ item. IsTrue (is_prefix manifest.path item.path) × ((attributes : OfFile) × (held : HeldFile) × (base item.path ≡ Some (File attributes held)) × (held.stamp.digest ≡ item.digest))) manifest.items
+  pub whole : (path : List (List ℕ)) (attributes : OfFile) (held : HeldFile) → IsTrue (is_prefix manifest.path path) → base path ≡ Some (File attributes held) → Contains manifest.items (record { path = path; digest = held.stamp.digest })
 
 -- the manifest of a path below the root, its items in path order
 pub record IsManifest (manifest : Manifest) : Type 0 where

@@ -64,13 +64,13 @@ fn entry_at(
     ensures err { IfErr result (HasFileErr res.now (path.now, entry)) }
 {
     match entry {
-        Entry::Dir(mode) => Ok(Entry::Dir(mode)),
-        Entry::Opaque(mode) => Ok(Entry::Opaque(mode)),
-        Entry::File(mode, stamp) => {
+        Entry::Dir(attributes) => Ok(Entry::Dir(attributes)),
+        Entry::Opaque(attributes) => Ok(Entry::Opaque(attributes)),
+        Entry::File(attributes, stamp) => {
             let path = DepotPath::new(alloc, joined(res, path)?)?;
-            Ok(Entry::File(mode, Held::depot(stamp, path)))
+            Ok(Entry::File(attributes, Held::depot(stamp, path)))
         }
-        Entry::Link(target) => Ok(Entry::Link(target)),
+        Entry::Link(owner, target) => Ok(Entry::Link(owner, target)),
         Entry::Hide => Ok(Entry::Hide),
     }
 }

@@ -14,6 +14,6 @@ pub fn bytes_of(entry: &Entry<Held>) -> u64
 {
     match entry {
         Entry::File(_, held) => held.stamp().size,
-        Entry::Dir(_) | Entry::Opaque(_) | Entry::Link(_) | Entry::Hide => 0,
+        Entry::Dir(_) | Entry::Opaque(_) | Entry::Link(_, _) | Entry::Hide => 0,
     }
 }

@@ -46,10 +46,10 @@ fn stamped_entry(entry: &Entry<Held>) -> Result<Entry<Stamp>, OutOfMemory>
     ensures { IfOk result (λ copy. copy ≡ stamped_entry entry.now) }
 {
     match entry {
-        Entry::Dir(mode) => Ok(Entry::Dir(*mode)),
-        Entry::Opaque(mode) => Ok(Entry::Opaque(*mode)),
-        Entry::File(mode, held) => Ok(Entry::File(*mode, *held.stamp())),
-        Entry::Link(target) => Ok(Entry::Link(target.copy()?)),
+        Entry::Dir(attributes) => Ok(Entry::Dir(*attributes)),
+        Entry::Opaque(attributes) => Ok(Entry::Opaque(*attributes)),
+        Entry::File(attributes, held) => Ok(Entry::File(attributes.copy()?, *held.stamp())),
+        Entry::Link(owner, target) => Ok(Entry::Link(*owner, target.copy()?)),
         Entry::Hide => Ok(Entry::Hide),
     }
 }

@@ -11,6 +11,7 @@ use Rattle.std.proofs.lemmas.Bool.{and_parts, and_from, true≢false, false≢tr
 use Rattle.std.proofs.lemmas.Grind.{flat_map-append}
 use Rattle.std.proofs.lemmas.List.{append_cancel_left, take-append-drop}
 use Rattle.std.proofs.lemmas.List.Elements.{Contains-append_left, Contains-append_right}
+use Rattle.ext_attributes.specs.Attributes.{OfFile}
 use Rattle.ext_text.specs.Order.{paths_exact, paths_total}
 use Rattle.ext_text.specs.Path.{is_prefix, is_proper_prefix, path_cmp}
 use Rattle.ext_text.specs.declared.digest.Digest.{Digest}
@@ -68,17 +69,17 @@ lowest e es q below found less =
 
 -- an item is that of a file
 abbrev Found : Entries HeldFile → Item → Type 0
-Found es item = (mode : ℕ) × (held : HeldFile) × (lookup es item.path ≡ Some (File mode held)) × (held.stamp.digest ≡ item.digest)
+Found es item = (attributes : OfFile) × (held : HeldFile) × (lookup es item.path ≡ Some (File attributes held)) × (held.stamp.digest ≡ item.digest)
 
 -- each file has an item
 abbrev AreWhole : Entries HeldFile → List Item → Type 0
-AreWhole es items = (path : List (List ℕ)) (mode : ℕ) (held : HeldFile) → lookup es path ≡ Some (File mode held) → Contains items (record { path = path; digest = held.stamp.digest })
+AreWhole es items = (path : List (List ℕ)) (attributes : OfFile) (held : HeldFile) → lookup es path ≡ Some (File attributes held) → Contains items (record { path = path; digest = held.stamp.digest })
 
 first_found : (e : List (List ℕ) × Entry HeldFile) (es : Entries HeldFile) → AllByRecursion (Found (e ∷ es)) (item_of e)
-first_found (path, Dir mode) es = tt
-first_found (path, Opaque mode) es = tt
-first_found (path, File mode held) es = ((mode, held, ap (λ b. cond b (Some (File mode held)) (lookup es path)) (tied_path path path refl), refl), tt)
-first_found (path, Link target) es = tt
+first_found (path, Dir attributes) es = tt
+first_found (path, Opaque attributes) es = tt
+first_found (path, File attributes held) es = ((attributes, held, ap (λ b. cond b (Some (File attributes held)) (lookup es path)) (tied_path path path refl), refl), tt)
+first_found (path, Link owner target) es = tt
 first_found (path, Hide) es = tt
 
 each_found : (es : Entries HeldFile) → is_sorted path_cmp es ≡ true → AllByRecursion (Found es) (items_of es)
@@ -90,21 +91,21 @@ each_found (e ∷ es) sorted =
     (λ item f. (f.0, f.1, later e es item.path (above e.0 es item.path (and_parts _ _ sorted).0 (ap is_some f.2)) ∙ f.2, f.3))
     (items_of es) (each_found es (and_parts _ _ sorted).1))
 
-here : (e : List (List ℕ) × Entry HeldFile) (path : List (List ℕ)) (mode : ℕ) (held : HeldFile) → path ≡ e.0 → e.1 ≡ File mode held → Contains (item_of e) (record { path = path; digest = held.stamp.digest })
-here e path mode held same is =
-    let first : Contains (item_of (path, File mode held)) (record { path = path; digest = held.stamp.digest }) = (0, omega arith, refl) in
+here : (e : List (List ℕ) × Entry HeldFile) (path : List (List ℕ)) (attributes : OfFile) (held : HeldFile) → path ≡ e.0 → e.1 ≡ File attributes held → Contains (item_of e) (record { path = path; digest = held.stamp.digest })
+here e path attributes held same is =
+    let first : Contains (item_of (path, File attributes held)) (record { path = path; digest = held.stamp.digest }) = (0, omega arith, refl) in
     subst (λ f. Contains (item_of f) (record { path = path; digest = held.stamp.digest })) (λ i. (same i, sym is i)) first
 
 are_whole : (es : Entries HeldFile) → AreWhole es (items_of es)
-are_whole [] path mode held found = absurd (false≢true (ap is_some found))
-are_whole (e ∷ es) path mode held found =
-    elim (eq_by_cmp path_cmp path e.0) as (λ b. eq_by_cmp path_cmp path e.0 ≡ b → cond b (Some e.1) (lookup es path) ≡ Some (File mode held) → Contains (item_of e ++ items_of es) (record { path = path; digest = held.stamp.digest })) [
-      | true ↦ λ tied is. Contains-append_left (item_of e) (items_of es) _ (here e path mode held (same_path path e.0 tied) (ap (λ o. unwrap_or o e.1) is))
-      | false ↦ λ _ there. Contains-append_right (item_of e) (items_of es) _ (are_whole es path mode held there)
+are_whole [] path attributes held found = absurd (false≢true (ap is_some found))
+are_whole (e ∷ es) path attributes held found =
+    elim (eq_by_cmp path_cmp path e.0) as (λ b. eq_by_cmp path_cmp path e.0 ≡ b → cond b (Some e.1) (lookup es path) ≡ Some (File attributes held) → Contains (item_of e ++ items_of es) (record { path = path; digest = held.stamp.digest })) [
+      | true ↦ λ tied is. Contains-append_left (item_of e) (items_of es) _ (here e path attributes held (same_path path e.0 tied) (ap (λ o. unwrap_or o e.1) is))
+      | false ↦ λ _ there. Contains-append_right (item_of e) (items_of es) _ (are_whole es path attributes held there)
     ] refl found
 
 -- where the first is no file, an item is found after it
-skipped : (e : List (List ℕ) × Entry HeldFile) (es : Entries HeldFile) → ((mode : ℕ) (held : HeldFile) → ¬ (e.1 ≡ File mode held)) → (item : Item) → Found (e ∷ es) item → Found es item
+skipped : (e : List (List ℕ) × Entry HeldFile) (es : Entries HeldFile) → ((attributes : OfFile) (held : HeldFile) → ¬ (e.1 ≡ File attributes held)) → (item : Item) → Found (e ∷ es) item → Found es item
 skipped e es other item f = (
   f.0,
   f.1,
@@ -117,16 +118,16 @@ skipped e es other item f = (
 
 -- each file of the rest has an item
 rest_whole : (e : List (List ℕ) × Entry HeldFile) (es : Entries HeldFile) (items : List Item) → below_all path_cmp e.0 es ≡ true → AreWhole (e ∷ es) items → AreWhole es items
-rest_whole e es items below whole q mode held found = whole q mode held (later e es q (above e.0 es q below (ap is_some found)) ∙ found)
+rest_whole e es items below whole q attributes held found = whole q attributes held (later e es q (above e.0 es q below (ap is_some found)) ∙ found)
 
 -- the first item is that of the first file
-first_item : (path : List (List ℕ)) (mode : ℕ) (held : HeldFile) (es : Entries HeldFile) (x : Item) (xs : List Item) → below_all path_cmp path es ≡ true
-    → AllByRecursion (λ q. path_cmp x.path q ≡ Less) (map (λ item. item.path) xs) → Found ((path, File mode held) ∷ es) x → AreWhole ((path, File mode held) ∷ es) (x ∷ xs)
+first_item : (path : List (List ℕ)) (attributes : OfFile) (held : HeldFile) (es : Entries HeldFile) (x : Item) (xs : List Item) → below_all path_cmp path es ≡ true
+    → AllByRecursion (λ q. path_cmp x.path q ≡ Less) (map (λ item. item.path) xs) → Found ((path, File attributes held) ∷ es) x → AreWhole ((path, File attributes held) ∷ es) (x ∷ xs)
     → x ≡ record { path = path; digest = held.stamp.digest }
-first_item path mode held es x xs below up found whole =
-    elim (contains_cases x xs (record { path = path; digest = held.stamp.digest }) (whole path mode held (ap (λ b. cond b (Some (File mode held)) (lookup es path)) (tied_path path path refl)))) [
+first_item path attributes held es x xs below up found whole =
+    elim (contains_cases x xs (record { path = path; digest = held.stamp.digest }) (whole path attributes held (ap (λ b. cond b (Some (File attributes held)) (lookup es path)) (tied_path path path refl)))) [
       | inl same ↦ same
-      | inr contained ↦ absurd (lowest (path, File mode held) es x.path below (ap is_some found.2) (below_contained x.path xs (record { path = path; digest = held.stamp.digest }) up contained))
+      | inr contained ↦ absurd (lowest (path, File attributes held) es x.path below (ap is_some found.2) (below_contained x.path xs (record { path = path; digest = held.stamp.digest }) up contained))
     ]
 
 -- the other items are those of the rest
@@ -139,9 +140,9 @@ other_items_found path entry es x xs same up found =
 
 other_items_whole : (path : List (List ℕ)) (entry : Entry HeldFile) (es : Entries HeldFile) (x : Item) (xs : List Item) → x.path ≡ path → below_all path_cmp path es ≡ true
     → AreWhole ((path, entry) ∷ es) (x ∷ xs) → AreWhole es xs
-other_items_whole path entry es x xs same below whole q mode held found =
+other_items_whole path entry es x xs same below whole q attributes held found =
     let less = above path es q below (ap is_some found) in
-    elim (contains_cases x xs (record { path = q; digest = held.stamp.digest }) (whole q mode held (later (path, entry) es q less ∙ found))) [
+    elim (contains_cases x xs (record { path = q; digest = held.stamp.digest }) (whole q attributes held (later (path, entry) es q less ∙ found))) [
       | inl is ↦ absurd (false≢true (sym (ap is_eq less) ∙ tied_path path q (sym same ∙ ap (λ item. item.path) is)))
       | inr contained ↦ contained
     ]
@@ -149,31 +150,31 @@ other_items_whole path entry es x xs same below whole q mode held found =
 exact : (es : Entries HeldFile) (items : List Item) → is_sorted path_cmp es ≡ true → AreAscending path_cmp (map (λ item. item.path) items) → AllByRecursion (Found es) items → AreWhole es items → items ≡ items_of es
 exact [] [] sorted up found whole = refl
 exact [] (x ∷ xs) sorted up found whole = absurd (false≢true (ap is_some found.0.2))
-exact ((path, Dir mode) ∷ es) items sorted up found whole =
+exact ((path, Dir attributes) ∷ es) items sorted up found whole =
     exact es items (and_parts _ _ sorted).1 up
-    (all_weaker _ _ (skipped (path, Dir mode) es (λ m held is. false≢true (ap is_file is))) items found)
-    (rest_whole (path, Dir mode) es items (and_parts _ _ sorted).0 whole)
-exact ((path, Opaque mode) ∷ es) items sorted up found whole =
+    (all_weaker _ _ (skipped (path, Dir attributes) es (λ m held is. false≢true (ap is_file is))) items found)
+    (rest_whole (path, Dir attributes) es items (and_parts _ _ sorted).0 whole)
+exact ((path, Opaque attributes) ∷ es) items sorted up found whole =
     exact es items (and_parts _ _ sorted).1 up
-    (all_weaker _ _ (skipped (path, Opaque mode) es (λ m held is. false≢true (ap is_file is))) items found)
-    (rest_whole (path, Opaque mode) es items (and_parts _ _ sorted).0 whole)
-exact ((path, Link target) ∷ es) items sorted up found whole =
+    (all_weaker _ _ (skipped (path, Opaque attributes) es (λ m held is. false≢true (ap is_file is))) items found)
+    (rest_whole (path, Opaque attributes) es items (and_parts _ _ sorted).0 whole)
+exact ((path, Link owner target) ∷ es) items sorted up found whole =
     exact es items (and_parts _ _ sorted).1 up
-    (all_weaker _ _ (skipped (path, Link target) es (λ m held is. false≢true (ap is_file is))) items found)
-    (rest_whole (path, Link target) es items (and_parts _ _ sorted).0 whole)
+    (all_weaker _ _ (skipped (path, Link owner target) es (λ m held is. false≢true (ap is_file is))) items found)
+    (rest_whole (path, Link owner target) es items (and_parts _ _ sorted).0 whole)
 exact ((path, Hide) ∷ es) items sorted up found whole =
     exact es items (and_parts _ _ sorted).1 up
     (all_weaker _ _ (skipped (path, Hide) es (λ m held is. false≢true (ap is_file is))) items found)
     (rest_whole (path, Hide) es items (and_parts _ _ sorted).0 whole)
-exact ((path, File mode held) ∷ es) [] sorted up found whole =
-    let none = whole path mode held (ap (λ b. cond b (Some (File mode held)) (lookup es path)) (tied_path path path refl)) in
+exact ((path, File attributes held) ∷ es) [] sorted up found whole =
+    let none = whole path attributes held (ap (λ b. cond b (Some (File attributes held)) (lookup es path)) (tied_path path path refl)) in
     let within = none.1 in
     absurd (omega arith)
-exact ((path, File mode held) ∷ es) (x ∷ xs) sorted up found whole =
+exact ((path, File attributes held) ∷ es) (x ∷ xs) sorted up found whole =
     let below = (and_parts _ _ sorted).0 in
-    let first = first_item path mode held es x xs below up.0 found.0 whole in
+    let first = first_item path attributes held es x xs below up.0 found.0 whole in
     let same = ap (λ item. item.path) first in
-    let rest = exact es xs (and_parts _ _ sorted).1 up.1 (other_items_found path (File mode held) es x xs same up.0 found.1) (other_items_whole path (File mode held) es x xs same below whole) in
+    let rest = exact es xs (and_parts _ _ sorted).1 up.1 (other_items_found path (File attributes held) es x xs same up.0 found.1) (other_items_whole path (File attributes held) es x xs same below whole) in
     λ i. first i ∷ rest i
 
 -- a list is the elements before a place, the one there, and those after it
@@ -189,21 +190,21 @@ begins_otherwise items rest es i e within at so_far other is =
 
 -- where entries have the files at and below the path of a manifest, their items are what it should say
 pub says_what_is : (es fs : Entries HeldFile) (m : Manifest) → IsManifest m → is_sorted path_cmp fs ≡ true
-    → ((q : List (List ℕ)) (mode : ℕ) (held : HeldFile) → is_prefix m.path q ≡ true → lookup es q ≡ Some (File mode held) → lookup fs q ≡ Some (File mode held))
-    → ((q : List (List ℕ)) (mode : ℕ) (held : HeldFile) → lookup fs q ≡ Some (File mode held) → (is_prefix m.path q ≡ true) × (lookup es q ≡ Some (File mode held)))
+    → ((q : List (List ℕ)) (attributes : OfFile) (held : HeldFile) → is_prefix m.path q ≡ true → lookup es q ≡ Some (File attributes held) → lookup fs q ≡ Some (File attributes held))
+    → ((q : List (List ℕ)) (attributes : OfFile) (held : HeldFile) → lookup fs q ≡ Some (File attributes held) → (is_prefix m.path q ≡ true) × (lookup es q ≡ Some (File attributes held)))
     → (m.items ≡ items_of fs) ↔ HasItems (lookup es) m
 says_what_is es fs m manifest sorted to back = (
   λ same. record {
-    each = subst (AllByRecursion (λ item. IsTrue (is_prefix m.path item.path) × ((mode : ℕ) × (held : HeldFile) × (lookup es item.path ≡ Some (File mode held)) × (held.stamp.digest ≡ item.digest)))) (sym same)
-        (all_weaker (Found fs) (λ item. IsTrue (is_prefix m.path item.path) × ((mode : ℕ) × (held : HeldFile) × (lookup es item.path ≡ Some (File mode held)) × (held.stamp.digest ≡ item.digest)))
+    each = subst (AllByRecursion (λ item. IsTrue (is_prefix m.path item.path) × ((attributes : OfFile) × (held : HeldFile) × (lookup es item.path ≡ Some (File attributes held)) × (held.stamp.digest ≡ item.digest)))) (sym same)
+        (all_weaker (Found fs) (λ item. IsTrue (is_prefix m.path item.path) × ((attributes : OfFile) × (held : HeldFile) × (lookup es item.path ≡ Some (File attributes held)) × (held.stamp.digest ≡ item.digest)))
         (λ item f. let b = back item.path f.0 f.1 f.2 in (b.0, (f.0, f.1, b.1, f.3)))
         (items_of fs) (each_found fs sorted));
-    whole = λ q mode held prefix found. subst (λ xs. Contains xs (record { path = q; digest = held.stamp.digest })) (sym same) (are_whole fs q mode held (to q mode held prefix found));
+    whole = λ q attributes held prefix found. subst (λ xs. Contains xs (record { path = q; digest = held.stamp.digest })) (sym same) (are_whole fs q attributes held (to q attributes held prefix found));
   },
   λ has. exact fs m.items sorted manifest.order
-      (all_weaker (λ item. IsTrue (is_prefix m.path item.path) × ((mode : ℕ) × (held : HeldFile) × (lookup es item.path ≡ Some (File mode held)) × (held.stamp.digest ≡ item.digest))) (Found fs)
+      (all_weaker (λ item. IsTrue (is_prefix m.path item.path) × ((attributes : OfFile) × (held : HeldFile) × (lookup es item.path ≡ Some (File attributes held)) × (held.stamp.digest ≡ item.digest))) (Found fs)
       (λ item h. (h.1.0, h.1.1, to item.path h.1.0 h.1.1 h.0 h.1.2, h.1.3)) m.items has.each)
-      (λ q mode held found. let b = back q mode held found in has.whole q mode held b.0 b.1),
+      (λ q attributes held found. let b = back q attributes held found in has.whole q attributes held b.0 b.1),
 )
 
 -- what stands below a path comes after it
@@ -238,18 +239,18 @@ stands_below p es q entry found =
     ] refl (sym (look_below p es q) ∙ found)
 
 -- where a file stands at the path, its item and those of what stands below
-pub says_the_file : (es : Entries HeldFile) (m : Manifest) (mode : ℕ) (held : HeldFile) → IsManifest m → is_sorted path_cmp (where_key path_cmp (is_proper_prefix m.path) es) ≡ true → lookup es m.path ≡ Some (File mode held)
+pub says_the_file : (es : Entries HeldFile) (m : Manifest) (attributes : OfFile) (held : HeldFile) → IsManifest m → is_sorted path_cmp (where_key path_cmp (is_proper_prefix m.path) es) ≡ true → lookup es m.path ≡ Some (File attributes held)
     → (m.items ≡ (record { path = m.path; digest = held.stamp.digest }) ∷ items_of (where_key path_cmp (is_proper_prefix m.path) es)) ↔ HasItems (lookup es) m
-says_the_file es m mode held manifest sorted is =
+says_the_file es m attributes held manifest sorted is =
     let below = where_key path_cmp (is_proper_prefix m.path) es in
-    says_what_is es ((m.path, File mode held) ∷ below) m manifest (and_from _ _ (all_below m.path es) sorted)
+    says_what_is es ((m.path, File attributes held) ∷ below) m manifest (and_from _ _ (all_below m.path es) sorted)
     (λ q other file prefix found.
-    elim (eq_by_cmp path_cmp q m.path) as (λ b. eq_by_cmp path_cmp q m.path ≡ b → cond b (Some (File mode held)) (lookup below q) ≡ Some (File other file)) [
+    elim (eq_by_cmp path_cmp q m.path) as (λ b. eq_by_cmp path_cmp q m.path ≡ b → cond b (Some (File attributes held)) (lookup below q) ≡ Some (File other file)) [
       | true ↦ λ tied. sym is ∙ ap (lookup es) (sym (same_path q m.path tied)) ∙ found
       | false ↦ λ apart. found_below m.path es q prefix (λ same. false≢true (sym apart ∙ tied_path q m.path (sym same))) ∙ found
     ] refl)
     (λ q other file.
-    elim (eq_by_cmp path_cmp q m.path) as (λ b. eq_by_cmp path_cmp q m.path ≡ b → cond b (Some (File mode held)) (lookup below q) ≡ Some (File other file) → (is_prefix m.path q ≡ true) × (lookup es q ≡ Some (File other file))) [
+    elim (eq_by_cmp path_cmp q m.path) as (λ b. eq_by_cmp path_cmp q m.path ≡ b → cond b (Some (File attributes held)) (lookup below q) ≡ Some (File other file) → (is_prefix m.path q ≡ true) × (lookup es q ≡ Some (File other file))) [
       | true ↦ λ tied found.
           let same = same_path q m.path tied in
           (ap (is_prefix m.path) same ∙ prefix_self m.path, ap (lookup es) same ∙ is ∙ found)
@@ -258,9 +259,9 @@ says_the_file es m mode held manifest sorted is =
 
 -- and elsewhere those of what stands below
 pub says_the_files : (es : Entries HeldFile) (m : Manifest) → IsManifest m → is_sorted path_cmp (where_key path_cmp (is_proper_prefix m.path) es) ≡ true
-    → ((mode : ℕ) (held : HeldFile) → ¬ (lookup es m.path ≡ Some (File mode held)))
+    → ((attributes : OfFile) (held : HeldFile) → ¬ (lookup es m.path ≡ Some (File attributes held)))
     → (m.items ≡ items_of (where_key path_cmp (is_proper_prefix m.path) es)) ↔ HasItems (lookup es) m
 says_the_files es m manifest sorted other =
     says_what_is es (where_key path_cmp (is_proper_prefix m.path) es) m manifest sorted
-    (λ q mode held prefix found. found_below m.path es q prefix (λ same. other mode held (ap (lookup es) same ∙ found)) ∙ found)
-    (λ q mode held found. stands_below m.path es q (File mode held) found)
+    (λ q attributes held prefix found. found_below m.path es q prefix (λ same. other attributes held (ap (lookup es) same ∙ found)) ∙ found)
+    (λ q attributes held found. stands_below m.path es q (File attributes held) found)

@@ -1,8 +1,9 @@
 -- An index is that of one host, and none is faulty; faulty bytes are faulty at one line.
-use Rattle.std.proofs.Common.{◌≡◌, ◌≢◌, ℕ, ◌≤◌, Bool, true, inl, inr, List, [], ◌∷◌, length, refl, sym, ap, ◌∙◌, subst, arith}
+use Rattle.std.proofs.Common.{◌≡◌, ◌≢◌, ℕ, ◌≤◌, true, inl, inr, List, [], ◌∷◌, length, refl, sym, ap, ◌∙◌, subst, arith}
 use Rattle.std.proofs.lemmas.Bool.{false≢true}
 use Rattle.std.specs.Prelude.{IsTrue, Option, Some}
 use Rattle.std.specs.List.{AllByRecursion}
+use Rattle.ext_attributes.specs.Attributes.{OfFile}
 use Rattle.ext_text.specs.Path.{is_prefix}
 use Rattle.ext_text.proofs.ForCallers.{all_weaker}
 use Rattle.ext_tree.specs.declared.entry.Entry.{Entry}
@@ -14,6 +15,7 @@ use Rattle.ext_host.specs.declared.host.Host.{Host}
 use Rattle.ext_host.specs.declared.manifest.Item.{Item}
 use Rattle.ext_host.specs.declared.manifest.Manifest.{Manifest}
 use Rattle.ext_host.specs.declared.past.Past.{Past}
+use Rattle.ext_index_lines.specs.declared.text_number.TextNumber.{TextNumber}
 use Rattle.ext_index_reader.specs.Listed.{IsListedHost, IsListedTree}
 use Rattle.ext_index_reader.specs.Reading.{IsSaid}
 use Rattle.ext_index_reader.specs.declared.said.Said.{Said}
@@ -35,7 +37,7 @@ IsBelowRoot item = item.path ≢ []
 items_some : (base : List (List ℕ) → Option (Entry HeldFile)) (kept : List Manifest) → AllByRecursion IsManifest kept → AllByRecursion (HasItems base) kept → AllByRecursion (λ (m : Manifest). AllByRecursion IsBelowRoot m.items) kept
 items_some base [] each right = tt
 items_some base (m ∷ kept) each right = (
-  all_weaker (λ item. IsTrue (is_prefix m.path item.path) × ((mode : ℕ) × (held : HeldFile) × (base item.path ≡ Some (File mode held)) × (held.stamp.digest ≡ item.digest))) IsBelowRoot (λ item has. below_some m.path item.path each.0.path has.0) m.items right.0.each,
+  all_weaker (λ item. IsTrue (is_prefix m.path item.path) × ((attributes : OfFile) × (held : HeldFile) × (base item.path ≡ Some (File attributes held)) × (held.stamp.digest ≡ item.digest))) IsBelowRoot (λ item has. below_some m.path item.path each.0.path has.0) m.items right.0.each,
   items_some base kept each.1 right.1,
 )
 
@@ -75,19 +77,19 @@ listed_host g host valid = record {
   homes = record { kept = valid.kept; agree = valid.agree };
 }
 
-abbrev said_with : Bool → Host → Said
-said_with two host = record { host = host; two = two }
+abbrev said_with : TextNumber → Host → Said
+said_with number host = record { host = host; text = number }
 
-index_says : (two : Bool) (g : ℕ) (host : Host) (bytes : List ℕ) → g ≤ 4294967295 → IsIndexOf two g host bytes → IsSaid g bytes (said_with two host)
-index_says two g host bytes last index =
+index_says : (number : TextNumber) (g : ℕ) (host : Host) (bytes : List ℕ) → g ≤ 4294967295 → IsIndexOf number g host bytes → IsSaid g bytes (said_with number host)
+index_says number g host bytes last index =
     let fits = index.fits in
-    listed_is_said g bytes (said_with two host) last (omega arith) (record { formed = index.formed; listed = listed_host g host index.valid; text_1 = index.text_1; text = index.text })
+    listed_is_said g bytes (said_with number host) last (omega arith) (record { formed = index.formed; listed = listed_host g host index.valid; told = index.told; text_1 = index.text_1; text = index.text })
 
 -- bytes are the index of one host
 pub one_host : (g : ℕ) (bytes : List ℕ) (a b : Host × ℕ) → g ≤ 4294967295 → GivesIndex g bytes a → GivesIndex g bytes b → a ≡ b
 one_host g bytes a b last one other =
     let same = one_said g bytes (said_with one.0 a.0) (said_with other.0 b.0) last (index_says one.0 g a.0 bytes last one.2) (index_says other.0 g b.0 bytes last other.2) in
-    λ i. ((same i).host, (one.1 ∙ (λ j. text_number (same j).two) ∙ sym other.1) i)
+    λ i. ((same i).host, (one.1 ∙ (λ j. text_number (same j).text) ∙ sym other.1) i)
 
 -- they are no index
 pub faulty_is_none : (g : ℕ) (bytes : List ℕ) (line : ℕ) (a : Host × ℕ) → g ≤ 4294967295 → IsFaulty g bytes line → ¬ GivesIndex g bytes a
@@ -95,7 +97,7 @@ faulty_is_none g bytes line a last (inl (long, _)) gives = let fits = gives.2.fi
 faulty_is_none g bytes line a last (inr (_, inl stop)) gives = no_stop g bytes _ line last (index_says gives.0 g a.0 bytes last gives.2).through stop
 faulty_is_none g bytes line a last (inr (_, inr wrong)) gives =
     let same = one_said g bytes wrong.said (said_with gives.0 a.0) last wrong.is_said (index_says gives.0 g a.0 bytes last gives.2) in
-    right_has_none gives.0 g a.0 line (right_host g a.0 gives.2.valid) (subst (λ (s : Said). IsWrongAt s.two g s.host line) same wrong.wrong)
+    right_has_none gives.0 g a.0 line (right_host g a.0 gives.2.valid) (subst (λ (s : Said). IsWrongAt s.text g s.host line) same wrong.wrong)
 
 -- and are faulty at one line
 pub one_faulty_line : (g : ℕ) (bytes : List ℕ) (k l : ℕ) → g ≤ 4294967295 → IsFaulty g bytes k → IsFaulty g bytes l → k ≡ l
@@ -107,4 +109,4 @@ one_faulty_line g bytes k l last (inr (_, inl one)) (inr (_, inr other)) = absur
 one_faulty_line g bytes k l last (inr (_, inr one)) (inr (_, inl other)) = absurd (no_stop g bytes _ l last one.is_said.through other)
 one_faulty_line g bytes k l last (inr (_, inr one)) (inr (_, inr other)) =
     let same = one_said g bytes one.said other.said last one.is_said other.is_said in
-    one_wrong_line other.said.two g other.said.host k l (subst (λ (s : Said). IsWrongAt s.two g s.host k) same one.wrong) other.wrong
+    one_wrong_line other.said.text g other.said.host k l (subst (λ (s : Said). IsWrongAt s.text g s.host k) same one.wrong) other.wrong

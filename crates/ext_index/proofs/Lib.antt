@@ -5,4 +5,5 @@ pub mod WrongLemmas
 pub mod ReadingLemmas
 pub mod WrongLineLemmas
 pub mod LawLemmas
+pub mod OwnersLemmas
 pub mod ForCallers

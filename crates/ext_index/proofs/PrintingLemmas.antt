@@ -1,5 +1,5 @@
 -- Lists of lines that are printed one after another.
-use Rattle.std.proofs.Common.{◌≡◌, ℕ, ◌+◌, List, [], ◌∷◌, ◌++◌, length, true, sym, ap, ◌∙◌, subst, append_assoc, append-nil, codes}
+use Rattle.std.proofs.Common.{◌≡◌, ℕ, ◌+◌, Bool, List, [], ◌∷◌, ◌++◌, length, sym, ap, ◌∙◌, subst, append_assoc, append-nil, codes}
 use Rattle.std.specs.Prelude.{map}
 use Rattle.std.specs.List.{flat_map}
 use Rattle.ext_text.specs.declared.extension.Extension.TheVariants.{Sysext, Confext}
@@ -7,7 +7,8 @@ use Rattle.ext_host.specs.Host.{HostTree, present}
 use Rattle.ext_host.specs.declared.host.Host.{Host}
 use Rattle.ext_host.specs.declared.past.Past.{Past}
 use Rattle.ext_index_lines.specs.Lines.{hierarchy_line, number_line}
-use Rattle.ext_index.specs.Index.{hierarchy_lines, index_text, machine_lines, past_lines, section_lines}
+use Rattle.ext_index.specs.ValidIndex.{host_has_owners, written_index}
+use Rattle.ext_index.specs.Index.{hierarchy_lines, machine_lines, past_lines, section_lines}
 use Rattle.ext_lines.specs.Lines.{lines_text}
 use Rattle.ext_lines.proofs.ForCallers.{lines_text-append}
 
@@ -40,14 +41,14 @@ classes_put H before n xs ys host count sysext confext held =
     held
 
 -- the whole index
-pub index_put : (H : List ℕ → Type 0) (before : List ℕ) (generation : ℕ) (host : Host) (tree : HostTree) (n : ℕ) (pasts : List Past) → tree ≡ present host → n ≡ length host.past → pasts ≡ host.past
-    → H (((((before ++ lines_text (machine_lines host)) ++ lines_text (section_lines generation tree)) ++ (number_line (codes "past") n ++ 10 ∷ [])) ++ lines_text (flat_map (past_lines generation) pasts)) ++ (codes "end" ++ 10 ∷ []))
-    → H (before ++ index_text true generation host)
-index_put H before generation host tree n pasts same count past held =
+pub index_put : (H : List ℕ → Type 0) (before : List ℕ) (generation : ℕ) (owners : Bool) (host : Host) (tree : HostTree) (n : ℕ) (pasts : List Past) → owners ≡ host_has_owners host → tree ≡ present host → n ≡ length host.past → pasts ≡ host.past
+    → H (((((before ++ lines_text (machine_lines owners host)) ++ lines_text (section_lines generation tree)) ++ (number_line (codes "past") n ++ 10 ∷ [])) ++ lines_text (flat_map (past_lines generation) pasts)) ++ (codes "end" ++ 10 ∷ []))
+    → H (before ++ written_index generation host)
+index_put H before generation owners host tree n pasts tells same count past held =
     let number = number_line (codes "past") n in
-    let first_lines = (before ++ lines_text (machine_lines host)) ++ lines_text (section_lines generation tree) in
+    let first_lines = (before ++ lines_text (machine_lines owners host)) ++ lines_text (section_lines generation tree) in
     subst H
     ((λ i. ((first_lines ++ one_line number i) ++ lines_text (flat_map (past_lines generation) pasts)) ++ one_line (codes "end") i)
-    ∙ five before (machine_lines host) (section_lines generation tree) (number ∷ []) (flat_map (past_lines generation) pasts) (codes "end" ∷ [])
-    ∙ (λ i. before ++ lines_text (machine_lines host ++ (section_lines generation (same i) ++ (number_line (codes "past") (count i) ∷ (flat_map (past_lines generation) (past i) ++ codes "end" ∷ []))))))
+    ∙ five before (machine_lines owners host) (section_lines generation tree) (number ∷ []) (flat_map (past_lines generation) pasts) (codes "end" ∷ [])
+    ∙ (λ i. before ++ lines_text (machine_lines (tells i) host ++ (section_lines generation (same i) ++ (number_line (codes "past") (count i) ∷ (flat_map (past_lines generation) (past i) ++ codes "end" ∷ []))))))
     held

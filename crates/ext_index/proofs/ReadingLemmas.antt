@@ -38,7 +38,7 @@ valid_host g host listed right = record {
 }
 
 -- the lines say an index, where no manifest says other than the base has
-pub index_said : (g : ℕ) (bytes : List ℕ) (said : Said) → g ≤ 4294967295 → length bytes ≤ most_index_bytes → IsSaid g bytes said → IsRight said.host → IsIndexOf said.two g said.host bytes
+pub index_said : (g : ℕ) (bytes : List ℕ) (said : Said) → g ≤ 4294967295 → length bytes ≤ most_index_bytes → IsSaid g bytes said → IsRight said.host → IsIndexOf said.text g said.host bytes
 index_said g bytes said small fits is right =
     let listing = said_is_listed g bytes said small is in
     record {
@@ -50,6 +50,7 @@ index_said g bytes said small fits is right =
         past = listing.listed.past_before;
       };
       text = listing.text;
+      told = listing.told;
       text_1 = listing.text_1;
       fits = fits;
     }

@@ -1,5 +1,5 @@
 -- The line of a manifest that says other than the base has: it is one of the index's lines, and there is one such line.
-use Rattle.std.proofs.Common.{◌≡◌, ℕ, ◌+◌, ◌≤◌, Bool, true, false, inl, inr, List, [], ◌∷◌, ◌++◌, length, refl, sym, ap, ◌∙◌, subst, arith, codes, length-append}
+use Rattle.std.proofs.Common.{◌≡◌, ℕ, ◌+◌, ◌≤◌, Bool, inl, inr, List, [], ◌∷◌, ◌++◌, length, refl, sym, ap, ◌∙◌, subst, arith, codes, length-append}
 use Rattle.std.specs.Prelude.{Some}
 use Rattle.std.specs.List.{AllByRecursion, flat_map}
 use Rattle.std.proofs.lemmas.List.Concat.{flat_map-append}
@@ -10,6 +10,8 @@ use Rattle.ext_host.specs.declared.past.Past.{Past}
 use Rattle.ext_host.specs.declared.host.Host.{Host}
 use Rattle.ext_index_lines.specs.Lines.{number_line}
 use Rattle.ext_index_lines.specs.Out.{at_most_64_bits}
+use Rattle.ext_index_lines.specs.declared.text_number.TextNumber.{TextNumber}
+use Rattle.ext_index_lines.specs.declared.text_number.TextNumber.TheVariants.{One, Later}
 use Rattle.ext_index_reader.specs.Listed.{IsOfText1}
 use Rattle.ext_index_reader.specs.Reading.{IsSaid}
 use Rattle.ext_index_reader.specs.declared.said.Said.{Said}
@@ -49,19 +51,19 @@ kept_within g hierarchies tree before wrong =
     omega arith
 
 -- the head and the host's own sections are lines of the index
-now_within : (two : Bool) (g : ℕ) (host : Host) → length (head_lines two host) + length (section_lines g (present host)) ≤ length (index_lines two g host)
-now_within true g host =
+now_within : (number : TextNumber) (g : ℕ) (host : Host) → length (head_lines number host) + length (section_lines g (present host)) ≤ length (index_lines number g host)
+now_within (Later owners) g host =
     let sections = section_lines g (present host) in
     let more = number_line (codes "past") (length host.past) ∷ (flat_map (past_lines g) host.past ++ codes "end" ∷ []) in
-    let one = length-append (machine_lines host) (sections ++ more) in
+    let one = length-append (machine_lines owners host) (sections ++ more) in
     let two = length-append sections more in
     omega arith
-now_within false g host = let one = length-append (section_lines g (present host)) (codes "end" ∷ []) in omega arith
+now_within One g host = let one = length-append (section_lines g (present host)) (codes "end" ∷ []) in omega arith
 
 -- and so are those to a past tree, and its sections
-past_within : (g : ℕ) (host : Host) (trees : List Past) (tree : Past) (after : List Past) → host.past ≡ trees ++ tree ∷ after → length (lines_to_past true g host trees tree) + length (section_lines g (past_tree tree)) ≤ length (index_lines true g host)
-past_within g host trees tree after parted =
-    let head = machine_lines host in
+past_within : (owners : Bool) (g : ℕ) (host : Host) (trees : List Past) (tree : Past) (after : List Past) → host.past ≡ trees ++ tree ∷ after → length (lines_to_past (Later owners) g host trees tree) + length (section_lines g (past_tree tree)) ≤ length (index_lines (Later owners) g host)
+past_within owners g host trees tree after parted =
+    let head = machine_lines owners host in
     let sections = section_lines g (present host) in
     let count = number_line (codes "past") (length host.past) in
     let some = flat_map (past_lines g) trees in
@@ -83,32 +85,32 @@ no_more xs x ys none =
     let both = length-append xs (x ∷ ys) in
     omega arith
 
-line_within : (two : Bool) (g : ℕ) (host : Host) (line : ℕ) → (two ≡ false → IsOfText1 host) → IsWrongAt two g host line → line ≤ length (index_lines two g host)
-line_within two g host line of_1 (inl wrong) =
+line_within : (number : TextNumber) (g : ℕ) (host : Host) (line : ℕ) → (number ≡ One → IsOfText1 host) → IsWrongAt number g host line → line ≤ length (index_lines number g host)
+line_within number g host line of_1 (inl wrong) =
     let counted = wrong.counted in
-    let both = length-append (head_lines two host) (lines_to_kept (present host) wrong.before) in
+    let both = length-append (head_lines number host) (lines_to_kept (present host) wrong.before) in
     let kept = kept_within g (hierarchies_in host) (present host) wrong.before wrong.wrong in
-    let whole = now_within two g host in
+    let whole = now_within number g host in
     omega arith
-line_within true g host line of_1 (inr wrong) =
+line_within (Later owners) g host line of_1 (inr wrong) =
     let counted = wrong.counted in
-    let both = length-append (lines_to_past true g host wrong.trees wrong.tree) (lines_to_kept (past_tree wrong.tree) wrong.before) in
+    let both = length-append (lines_to_past (Later owners) g host wrong.trees wrong.tree) (lines_to_kept (past_tree wrong.tree) wrong.before) in
     let kept = kept_within g (hierarchies_in host) (past_tree wrong.tree) wrong.before wrong.wrong in
-    let whole = past_within g host wrong.trees wrong.tree wrong.more wrong.parted in
+    let whole = past_within owners g host wrong.trees wrong.tree wrong.more wrong.parted in
     omega arith
-line_within false g host line of_1 (inr wrong) = absurd (no_more wrong.trees wrong.tree wrong.more (sym (of_1 refl).past ∙ wrong.parted))
+line_within One g host line of_1 (inr wrong) = absurd (no_more wrong.trees wrong.tree wrong.more (sym (of_1 refl).past ∙ wrong.parted))
 
 -- a count of 64 bits tells it
 exactly : (n : ℕ) → n ≤ most_index_bytes → at_most_64_bits n ≡ n
 exactly n low = grind (arith)
 
-pub wrong_exactly : (g : ℕ) (bytes : List ℕ) (said : Said) (found : ℕ) → g ≤ 4294967295 → length bytes ≤ most_index_bytes → IsSaid g bytes said → FindsWrong said.two g said.host (Some found) → HasWrongManifest g bytes found
+pub wrong_exactly : (g : ℕ) (bytes : List ℕ) (said : Said) (found : ℕ) → g ≤ 4294967295 → length bytes ≤ most_index_bytes → IsSaid g bytes said → FindsWrong said.text g said.host (Some found) → HasWrongManifest g bytes found
 wrong_exactly g bytes said found last fits is (line, at, same) =
     let listing = said_is_listed g bytes said last is in
-    let within = line_within said.two g said.host line listing.text_1 at in
-    let long : length bytes ≡ length (index_text said.two g said.host) = ap length listing.text in
-    let fewer = lines_below_bytes (index_lines said.two g said.host) in
-    record { said = said; is_said = is; wrong = subst (IsWrongAt said.two g said.host) (sym (same ∙ exactly line (omega arith))) at }
+    let within = line_within said.text g said.host line listing.text_1 at in
+    let long : length bytes ≡ length (index_text said.text g said.host) = ap length listing.text in
+    let fewer = lines_below_bytes (index_lines said.text g said.host) in
+    record { said = said; is_said = is; wrong = subst (IsWrongAt said.text g said.host) (sym (same ∙ exactly line (omega arith))) at }
 
 -- the first that lacks a property has one prefix before it
 module _ {X : Type 0} (P : X → Type 0) where
@@ -136,24 +138,24 @@ not_right hierarchies tree before wrong right = wrong.differs (all_but_first (Ha
 abbrev PastIsRight : Host → Past → Type 0
 PastIsRight host past = AreRight (hierarchies_in host) (past_tree past)
 
-same_past : (two : Bool) (g : ℕ) (host : Host) (k l : ℕ) (one : IsWrongPast two g host k) (other : IsWrongPast two g host l) → (one.trees ≡ other.trees) × (one.tree ≡ other.tree)
-same_past two g host k l one other =
+same_past : (number : TextNumber) (g : ℕ) (host : Host) (k l : ℕ) (one : IsWrongPast number g host k) (other : IsWrongPast number g host l) → (one.trees ≡ other.trees) × (one.tree ≡ other.tree)
+same_past number g host k l one other =
     one_first (PastIsRight host) one.trees other.trees one.tree other.tree one.more other.more (sym one.parted ∙ other.parted) one.right other.right
     (not_right (hierarchies_in host) (past_tree one.tree) one.before one.wrong) (not_right (hierarchies_in host) (past_tree other.tree) other.before other.wrong)
 
-pub one_wrong_line : (two : Bool) (g : ℕ) (host : Host) (k l : ℕ) → IsWrongAt two g host k → IsWrongAt two g host l → k ≡ l
-one_wrong_line two g host k l (inl one) (inl other) =
-    one.counted ∙ ap (λ before. length (head_lines two host ++ lines_to_kept (present host) before) + 1) (one_before (hierarchies_in host) (present host) one.before other.before one.wrong other.wrong) ∙ sym other.counted
-one_wrong_line two g host k l (inl one) (inr other) = absurd (not_right (hierarchies_in host) (present host) one.before one.wrong other.now)
-one_wrong_line two g host k l (inr one) (inl other) = absurd (not_right (hierarchies_in host) (present host) other.before other.wrong one.now)
-one_wrong_line two g host k l (inr one) (inr other) =
-    let same = same_past two g host k l one other in
+pub one_wrong_line : (number : TextNumber) (g : ℕ) (host : Host) (k l : ℕ) → IsWrongAt number g host k → IsWrongAt number g host l → k ≡ l
+one_wrong_line number g host k l (inl one) (inl other) =
+    one.counted ∙ ap (λ before. length (head_lines number host ++ lines_to_kept (present host) before) + 1) (one_before (hierarchies_in host) (present host) one.before other.before one.wrong other.wrong) ∙ sym other.counted
+one_wrong_line number g host k l (inl one) (inr other) = absurd (not_right (hierarchies_in host) (present host) one.before one.wrong other.now)
+one_wrong_line number g host k l (inr one) (inl other) = absurd (not_right (hierarchies_in host) (present host) other.before other.wrong one.now)
+one_wrong_line number g host k l (inr one) (inr other) =
+    let same = same_past number g host k l one other in
     let before = one_before (hierarchies_in host) (past_tree other.tree) one.before other.before (subst (λ (p : Past). IsFirstWrong (hierarchies_in host) (past_tree p) one.before) same.1 one.wrong) other.wrong in
-    one.counted ∙ (λ i. length (lines_to_past two g host (same.0 i) (same.1 i) ++ lines_to_kept (past_tree (same.1 i)) (before i)) + 1) ∙ sym other.counted
+    one.counted ∙ (λ i. length (lines_to_past number g host (same.0 i) (same.1 i) ++ lines_to_kept (past_tree (same.1 i)) (before i)) + 1) ∙ sym other.counted
 
 -- where each manifest says what its base has there is none
-pub right_has_none : (two : Bool) (g : ℕ) (host : Host) (line : ℕ) → IsRight host → ¬ IsWrongAt two g host line
-right_has_none two g host line right (inl wrong) = not_right (hierarchies_in host) (present host) wrong.before wrong.wrong right.now
-right_has_none two g host line right (inr wrong) =
+pub right_has_none : (number : TextNumber) (g : ℕ) (host : Host) (line : ℕ) → IsRight host → ¬ IsWrongAt number g host line
+right_has_none number g host line right (inl wrong) = not_right (hierarchies_in host) (present host) wrong.before wrong.wrong right.now
+right_has_none number g host line right (inr wrong) =
     not_right (hierarchies_in host) (past_tree wrong.tree) wrong.before wrong.wrong
     (all_but_first (PastIsRight host) wrong.trees wrong.tree wrong.more (subst (AllByRecursion (PastIsRight host)) wrong.parted right.past))

@@ -1,7 +1,8 @@
 -- The laws of indexes, in the generations that there are.
-use Rattle.std.specs.Prelude.{◌≡◌, ℕ, ◌≤◌, Bool, List}
+use Rattle.std.specs.Prelude.{◌≡◌, ℕ, ◌≤◌, List}
 use Rattle.ext_host.specs.declared.host.Host.{Host}
 use Rattle.ext_host.specs.Home.{last_generation}
+use Rattle.ext_index_lines.specs.declared.text_number.TextNumber.{TextNumber}
 use Rattle.ext_index.specs.Faulty.{IsFaulty}
 use Rattle.ext_index.specs.ValidIndex.{GivesIndex, IsIndexOf}
 
@@ -11,7 +12,7 @@ OneHost = (g : ℕ) (bytes : List ℕ) (a b : Host × ℕ) → g ≤ last_genera
 
 -- a host has one index of each number
 abbrev pub OneText : Type 0
-OneText = (two : Bool) (g : ℕ) (host : Host) (bytes other : List ℕ) → IsIndexOf two g host bytes → IsIndexOf two g host other → bytes ≡ other
+OneText = (number : TextNumber) (g : ℕ) (host : Host) (bytes other : List ℕ) → IsIndexOf number g host bytes → IsIndexOf number g host other → bytes ≡ other
 
 -- no index is faulty
 abbrev pub NoFault : Type 0

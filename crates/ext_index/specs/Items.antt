@@ -9,10 +9,10 @@ use Rattle.ext_host.specs.declared.manifest.Item.{Item}
 
 -- the item of an entry, if it is a file
 abbrev pub item_of : List (List ℕ) × Entry HeldFile → List Item
-item_of (path, Dir mode) = []
-item_of (path, Opaque mode) = []
-item_of (path, File mode held) = record { path = path; digest = held.stamp.digest } ∷ []
-item_of (path, Link target) = []
+item_of (path, Dir attributes) = []
+item_of (path, Opaque attributes) = []
+item_of (path, File attributes held) = record { path = path; digest = held.stamp.digest } ∷ []
+item_of (path, Link owner target) = []
 item_of (path, Hide) = []
 
 -- the items of entries, one for each file

@@ -1,4 +1,4 @@
--- Indexes that can be computed: that of an empty host as each text.
+-- Indexes that can be computed: that of an empty host as texts 1 and 2.
 use Rattle.std.specs.Prelude.{ℕ, List, [], ◌∷◌, codes, None}
 use Rattle.ext_lines.specs.Lines.{lines_text}
 use Rattle.ext_text.specs.declared.arch.Arch.TheVariants.{X86_64}

@@ -8,13 +8,14 @@ ghost use Rattle.ext_index.specs.Sections.{listed};
 
 use crate::sections::{Sections, sections_of_host, sections_of_past};
 use ext_host::{Attachment, Host, Manifest, Past};
+use ext_index_lines::TextNumber;
 use ext_text::Names;
 
 /// The lines before the sections of the host.
-pub(crate) fn head_count(two: bool, host: &Host) -> u64
-    ensures { result ≡ at_most_64_bits (length (head_lines two host.now)) }
+pub(crate) fn head_count(number: TextNumber, host: &Host) -> u64
+    ensures { result ≡ at_most_64_bits (length (head_lines number host.now)) }
 {
-    if !two {
+    if !number.is_later() {
         return 2;
     }
     let sysext = host.sysext_hier.len() as u64;
@@ -33,10 +34,10 @@ pub(crate) fn count_to_kept(sections: Sections<'_>, before: &[Manifest]) -> u64
 }
 
 /// The lines before the sections of a past tree; the past trees before it are these.
-pub(crate) fn count_to_past(two: bool, host: &Host, before: &[Past]) -> u64
-    ensures { (g : ℕ) (past : Past) → result ≡ at_most_64_bits (length (lines_to_past two g host.now before.now past)) }
+pub(crate) fn count_to_past(number: TextNumber, host: &Host, before: &[Past]) -> u64
+    ensures { (g : ℕ) (past : Past) → result ≡ at_most_64_bits (length (lines_to_past number g host.now before.now past)) }
 {
-    head_count(two, host)
+    head_count(number, host)
         .saturating_add(sections_count(sections_of_host(host)))
         .saturating_add(pasts_count(before))
         .saturating_add(2)

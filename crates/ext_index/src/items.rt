@@ -1,5 +1,6 @@
 // Whether a manifest says what a tree has at and below its path.
 ghost use Rattle.std.specs.Prelude.{◌≡◌, ◌↔◌, ◌∷◌, ◌++◌, ℕ, List, IsTrue, MatchOption, Some};
+ghost use Rattle.ext_attributes.specs.Attributes.{OfFile};
 ghost use Rattle.ext_host.specs.Valid.{HasItems, IsManifest};
 ghost use Rattle.ext_host.specs.declared.manifest.Item.{Item};
 ghost use Rattle.ext_host.specs.Held.{HeldFile};
@@ -27,12 +28,12 @@ pub(crate) fn has_items(tree: &Tree<Held>, manifest: &Manifest) -> bool
 // The file at a path; `None` exactly where none stands.
 fn file_at<'a>(tree: &'a Tree<Held>, path: &Path) -> Option<&'a Held>
     ensures { MatchOption result
-        ((mode : ℕ) (held : HeldFile) → ¬ (lookup tree.now path.now ≡ Some (File mode held)))
-        (λ held. (mode : ℕ) × (lookup tree.now path.now ≡ Some (File mode held.now))) }
+        ((attributes : OfFile) (held : HeldFile) → ¬ (lookup tree.now path.now ≡ Some (File attributes held)))
+        (λ held. (attributes : OfFile) × (lookup tree.now path.now ≡ Some (File attributes held.now))) }
 {
     match tree.get(path)? {
         Entry::File(_, held) => Some(held),
-        Entry::Dir(_) | Entry::Opaque(_) | Entry::Link(_) | Entry::Hide => None,
+        Entry::Dir(_) | Entry::Opaque(_) | Entry::Link(_, _) | Entry::Hide => None,
     }
 }
 
@@ -79,7 +80,7 @@ fn after_item<'a>(items: &'a [Item], entry: &(Path, Entry<Held>)) -> Option<&'a 
 {
     match &entry.1 {
         Entry::File(_, held) => after_file(items, &entry.0, held),
-        Entry::Dir(_) | Entry::Opaque(_) | Entry::Link(_) | Entry::Hide => Some(items),
+        Entry::Dir(_) | Entry::Opaque(_) | Entry::Link(_, _) | Entry::Hide => Some(items),
     }
 }
 

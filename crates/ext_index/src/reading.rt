@@ -5,16 +5,18 @@ ghost use Rattle.ext_index.specs.ValidIndex.{text_number};
 
 use crate::wrong::wrong_line;
 use ext_host::Host;
+use ext_index_lines::TextNumber;
 use ext_index_reader::{IndexErr, read_lines};
 use std::alloc::Global;
 
 /// The most bytes of an index.
 pub const MOST_INDEX_BYTES: usize = 134_217_728;
 
-/// The host of an index of a generation, and the number of the text, 1 or 2. Every file of the host is kept.
+/// The host of an index of a generation, and the number of the text, 1, 2 or 3. Every file of the host is kept.
 ///
 /// The bytes are the index of a valid host whose files are kept in that generation or in ones before it, and nothing else. A
-/// text with number 1 is one with the default hierarchies and without past trees. The format is this project's own.
+/// text with number 1 is one with the default hierarchies and without past trees, and a text with number 1 or 2 one without
+/// owners and capabilities. The format is this project's own.
 ///
 /// # Errors
 /// `Broken` exactly where the bytes are no such index, with the first line that breaks a rule, counted from 1. An index of
@@ -28,15 +30,18 @@ pub fn read_index(alloc: Global, bytes: &[u8], generation: u32) -> Result<(Host,
         return Err(IndexErr::Broken { line: 1 });
     }
     let said = read_lines(alloc, bytes, generation)?;
-    match wrong_line(said.two, &said.host) {
-        None => Ok((said.host, text_number(said.two))),
+    match wrong_line(said.text, &said.host) {
+        None => Ok((said.host, text_number(said.text))),
         Some(line) => Err(IndexErr::Broken { line }),
     }
 }
 
 // The number of a text.
-fn text_number(two: bool) -> u32
-    ensures { result ≡ text_number two }
+fn text_number(number: TextNumber) -> u32
+    ensures { result ≡ text_number number }
 {
-    if two { 2 } else { 1 }
+    match number {
+        TextNumber::One => 1,
+        TextNumber::Later { owners } => if owners { 3 } else { 2 },
+    }
 }

@@ -12,51 +12,52 @@ use crate::counting::{count_to_kept, count_to_past, head_count};
 use crate::items::has_items;
 use crate::sections::{Sections, sections_of_host, sections_of_past};
 use ext_host::{Held, Host, Manifest, Past};
+use ext_index_lines::TextNumber;
 use ext_index_reader::is_in_class;
 use ext_text::Path;
 use ext_tree::Tree;
 
 /// The first line of the first manifest that says other than the base has; `None` where there is none.
-pub(crate) fn wrong_line(two: bool, host: &Host) -> Option<u64>
+pub(crate) fn wrong_line(number: TextNumber, host: &Host) -> Option<u64>
     requires now { AllByRecursion IsManifest host.now.kept }
     requires past { AllByRecursion (λ (past : Past). AllByRecursion IsManifest past.kept) host.now.past }
-    ensures { (g : ℕ) → FindsWrong two g host.now result }
+    ensures { (g : ℕ) → FindsWrong number g host.now result }
 {
     let sections = sections_of_host(host);
     match first_wrong(host, sections) {
-        None => wrong_line_past(two, host),
+        None => wrong_line_past(number, host),
         Some(index) => {
             let (before, _rest) = host.kept.as_slice().split_at(index);
-            let lines = head_count(two, host).saturating_add(count_to_kept(sections, before));
+            let lines = head_count(number, host).saturating_add(count_to_kept(sections, before));
             Some(lines.saturating_add(1))
         }
     }
 }
 
 // The line of the first such manifest of a past tree; `None` where there is none.
-fn wrong_line_past(two: bool, host: &Host) -> Option<u64>
+fn wrong_line_past(number: TextNumber, host: &Host) -> Option<u64>
     requires now { AreRight (hierarchies_in host.now) (present host.now) }
     requires past { AllByRecursion (λ (past : Past). AllByRecursion IsManifest past.kept) host.now.past }
-    ensures { (g : ℕ) → FindsWrong two g host.now result }
+    ensures { (g : ℕ) → FindsWrong number g host.now result }
 {
     let pasts = host.past.as_slice();
     'pasts: for (at, past) in pasts.iter().enumerate() {
         if let Some(index) = first_wrong(host, sections_of_past(past)) {
             let (before, _rest) = pasts.split_at(at);
-            return Some(line_in_past(two, host, before, past, index));
+            return Some(line_in_past(number, host, before, past, index));
         }
     }
     None
 }
 
 // The line of the manifest with this index in a past tree; the past trees before it are these.
-fn line_in_past(two: bool, host: &Host, trees: &[Past], past: &Past, index: usize) -> u64
+fn line_in_past(number: TextNumber, host: &Host, trees: &[Past], past: &Past, index: usize) -> u64
     requires { index < length past.now.kept }
-    ensures { (g : ℕ) → result ≡ at_most_64_bits (length (lines_to_past two g host.now trees.now past.now
+    ensures { (g : ℕ) → result ≡ at_most_64_bits (length (lines_to_past number g host.now trees.now past.now
         ++ lines_to_kept (past_tree past.now) (take index past.now.kept)) + 1) }
 {
     let (before, _rest) = past.kept.as_slice().split_at(index);
-    count_to_past(two, host, trees)
+    count_to_past(number, host, trees)
         .saturating_add(count_to_kept(sections_of_past(past), before))
         .saturating_add(1)
 }

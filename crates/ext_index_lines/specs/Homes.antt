@@ -22,10 +22,10 @@ listed_file generation held = record { stamp = held.stamp; home = home_of genera
 
 -- an entry as an index lists it
 abbrev pub listed_entry : ℕ → Entry HeldFile → Entry Homed
-listed_entry generation (Dir mode) = Dir mode
-listed_entry generation (Opaque mode) = Opaque mode
-listed_entry generation (File mode held) = File mode (listed_file generation held)
-listed_entry generation (Link target) = Link target
+listed_entry generation (Dir attributes) = Dir attributes
+listed_entry generation (Opaque attributes) = Opaque attributes
+listed_entry generation (File attributes held) = File attributes (listed_file generation held)
+listed_entry generation (Link owner target) = Link owner target
 listed_entry generation Hide = Hide
 
 -- a file that an index lists, as a held one
@@ -34,10 +34,10 @@ kept_file file = record { stamp = file.stamp; body = Kept file.home }
 
 -- the entry of a line of an index, as a host has it
 abbrev pub kept_entry : Entry Homed → Entry HeldFile
-kept_entry (Dir mode) = Dir mode
-kept_entry (Opaque mode) = Opaque mode
-kept_entry (File mode file) = File mode (kept_file file)
-kept_entry (Link target) = Link target
+kept_entry (Dir attributes) = Dir attributes
+kept_entry (Opaque attributes) = Opaque attributes
+kept_entry (File attributes file) = File attributes (kept_file file)
+kept_entry (Link owner target) = Link owner target
 kept_entry Hide = Hide
 
 -- the line of a host's entry in an index, without its newline

@@ -72,10 +72,12 @@ pub fn kept_entry(entry: Entry<Homed>) -> Entry<Held>
     ensures { result ≡ kept_entry entry }
 {
     match entry {
-        Entry::Dir(mode) => Entry::Dir(mode),
-        Entry::Opaque(mode) => Entry::Opaque(mode),
-        Entry::File(mode, file) => Entry::File(mode, Held::kept(file.stamp, file.home)),
-        Entry::Link(target) => Entry::Link(target),
+        Entry::Dir(attributes) => Entry::Dir(attributes),
+        Entry::Opaque(attributes) => Entry::Opaque(attributes),
+        Entry::File(attributes, file) => {
+            Entry::File(attributes, Held::kept(file.stamp, file.home))
+        }
+        Entry::Link(owner, target) => Entry::Link(owner, target),
         Entry::Hide => Entry::Hide,
     }
 }

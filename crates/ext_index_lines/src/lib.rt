@@ -9,14 +9,16 @@ mod homed;
 mod line;
 mod out;
 mod printing;
+mod text_number;
 
 pub use homed::{Homed, kept_entry};
 pub use line::{
     MOST_COUNT, after_word, host_of, item_of, manifest_of, name_after, number_after, path_after,
-    version_of,
+    text_of_header,
 };
 pub use out::{Counted, Out, Printed};
 pub use printing::{
     put_attachment, put_entry, put_hierarchy, put_host, put_item, put_line, put_manifest,
     put_number, put_path, put_worded,
 };
+pub use text_number::TextNumber;

@@ -1,14 +1,15 @@
 // The readers of single lines, each without its newline.
 ghost use Rattle.std.specs.Prelude.{◌≡◌, ◌≢◌, ◌≤◌, ◌++◌, ◌∷◌, ℕ, List, codes, IfOk, IsTrue, MatchOption};
-ghost use Rattle.std.specs.Prelude.{Bool};
 ghost use Rattle.ext_text.specs.Digest.{IsDigest};
 ghost use Rattle.ext_text.specs.Name.{IsName};
 ghost use Rattle.ext_text.specs.Scope.{scope_name};
 ghost use Rattle.ext_text.specs.declared.arch.Arch.{Arch};
 ghost use Rattle.ext_text.specs.declared.scope.Scope.{Scope};
 ghost use Rattle.ext_text.specs.declared.scope.Scope.TheVariants as scopes;
+ghost use Rattle.ext_index_lines.specs.declared.text_number.TextNumber.{TextNumber};
 ghost use Rattle.ext_index_lines.specs.Lines.{IsLinePath, header_line, host_line, item_line, manifest_line, number_line, path_line, worded};
 
+use crate::text_number::TextNumber;
 use ext_lines::{OutOfMemory, read_decimal, split_at_byte};
 use ext_text::{Arch, Digest, Name, NameErr, Path, Scope};
 use ext_tree::{path_of, split_digest, split_number};
@@ -20,17 +21,22 @@ const HEADER_1: &[u8] = b"hostext-store 1";
 /// The first line of a text with number 2.
 const HEADER_2: &[u8] = b"hostext-store 2";
 
+/// The first line of a text with number 3.
+const HEADER_3: &[u8] = b"hostext-store 3";
+
 /// The highest count on a line.
 pub const MOST_COUNT: u64 = 1_073_741_824;
 
-/// Whether the number of the text that a first line tells is 2; `None` exactly where it is no such line.
-pub fn version_of(line: &[u8]) -> Option<bool>
-    ensures { MatchOption result ((two : Bool) → line.now ≢ header_line two) (λ two. line.now ≡ header_line two) }
+/// The text whose first line this is; `None` exactly where it is no such line.
+pub fn text_of_header(line: &[u8]) -> Option<TextNumber>
+    ensures { MatchOption result ((text : TextNumber) → line.now ≢ header_line text) (λ text. line.now ≡ header_line text) }
 {
     if line == HEADER_1 {
-        Some(false)
+        Some(TextNumber::One)
     } else if line == HEADER_2 {
-        Some(true)
+        Some(TextNumber::Later { owners: false })
+    } else if line == HEADER_3 {
+        Some(TextNumber::Later { owners: true })
     } else {
         None
     }

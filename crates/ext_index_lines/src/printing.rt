@@ -4,6 +4,7 @@ ghost use Rattle.std.specs.List.{flat_map};
 ghost use Rattle.hex.specs.Hex.{encode_lower};
 ghost use Rattle.ext_lines.specs.Numbers.{octal};
 ghost use Rattle.ext_text.specs.Path.{path_text};
+ghost use Rattle.ext_attributes.specs.Attributes.{attributes_text, capability_text, file_attributes_text, flag, marks_text, owned_number};
 ghost use Rattle.ext_tree.specs.Fields.{spaced, stamp_fields};
 ghost use Rattle.ext_tree.specs.EntryLine.{entry_fields};
 ghost use Rattle.ext_index_lines.specs.Homed.{file_digits, home_fields, homed_fields, homed_form};
@@ -12,8 +13,9 @@ ghost use Rattle.ext_index_lines.specs.Lines.{attachment_line, header_line, hier
 
 use crate::homed::{Homed, digits_of, listed_file};
 use crate::out::Out;
+use ext_attributes::{Attributes, Capability, FileAttributes, Owner};
 use ext_host::{Held, Home};
-use ext_text::{Arch, Digest, Extension, Mode, Name, Path, Scope};
+use ext_text::{Arch, Digest, Extension, Name, Path, Scope};
 use ext_tree::{Entry, Stamp};
 use itoa::Buffer;
 
@@ -162,21 +164,101 @@ fn put_fields<O: Out>(out: &mut O, generation: u32, entry: &Entry<Held>) -> Resu
         (before ++ spaced (entry_fields homed_form (listed_entry generation entry.now)) [])) }
 {
     match entry {
-        Entry::Dir(mode) => put_mode(out, b"d ", *mode),
-        Entry::Opaque(mode) => put_mode(out, b"o ", *mode),
-        Entry::File(mode, held) => put_file(out, *mode, listed_file(generation, held)),
-        Entry::Link(target) => put_link(out, target.bytes()),
+        Entry::Dir(attributes) => put_directory(out, b"d ", attributes),
+        Entry::Opaque(attributes) => put_directory(out, b"o ", attributes),
+        Entry::File(attributes, held) => put_file(out, attributes, listed_file(generation, held)),
+        Entry::Link(owner, target) => put_link(out, *owner, target.bytes()),
         Entry::Hide => out.put(b"w "),
     }
 }
 
-// Prints a kind with its space, a mode and a space.
-fn put_mode<O: Out>(out: &mut O, kind: &[u8], mode: Mode) -> Result<(), O::Refused>
-    ensures { (before : List ℕ) → O.holds out.old before → OnOk result (O.holds out.new (before ++ (kind.now ++ (octal mode ++ 32 ∷ [])))) }
+// Prints a kind with its space, the attributes of a directory and a space.
+fn put_directory<O: Out>(
+    out: &mut O,
+    kind: &[u8],
+    attributes: &Attributes,
+) -> Result<(), O::Refused>
+    ensures { (before : List ℕ) → O.holds out.old before → OnOk result (O.holds out.new
+        (before ++ (kind.now ++ (attributes_text attributes.now ++ 32 ∷ [])))) }
 {
     out.put(kind)?;
-    put_octal(out, u32::from(mode.bits()))?;
+    put_octal(out, u32::from(attributes.mode.bits()))?;
+    put_owner(out, attributes.owner)?;
     out.put_byte(b' ')
+}
+
+// Prints the kind of a file with its space, its attributes and a space.
+fn put_file_attributes<O: Out>(out: &mut O, file: &FileAttributes) -> Result<(), O::Refused>
+    ensures { (before : List ℕ) → O.holds out.old before → OnOk result (O.holds out.new
+        (before ++ (102 ∷ 32 ∷ (file_attributes_text file.now ++ 32 ∷ [])))) }
+{
+    let attributes = file.attributes();
+    let capability = file.capability();
+    out.put(b"f ")?;
+    put_octal(out, u32::from(attributes.mode.bits()))?;
+    put_marks(out, attributes.owner, &capability)?;
+    out.put_byte(b' ')
+}
+
+// Prints what is to be told of an owner and a capability.
+fn put_marks<O: Out>(
+    out: &mut O,
+    owner: Owner,
+    capability: &Option<Capability>,
+) -> Result<(), O::Refused>
+    ensures { (before : List ℕ) → O.holds out.old before → OnOk result (O.holds out.new (before ++ marks_text owner capability.now)) }
+{
+    match capability {
+        None => put_owner(out, owner),
+        Some(capability) => put_both(out, owner, capability),
+    }
+}
+
+// Prints an owner, where it is another than root.
+fn put_owner<O: Out>(out: &mut O, owner: Owner) -> Result<(), O::Refused>
+    ensures { (before : List ℕ) → O.holds out.old before → OnOk result (O.holds out.new (before ++ marks_text owner None)) }
+{
+    if owner.is_root() {
+        return Ok(());
+    }
+    put_number_after_colon(out, u64::from(owner.user))?;
+    put_number_after_colon(out, u64::from(owner.group))
+}
+
+// Prints an owner and a capability.
+fn put_both<O: Out>(out: &mut O, owner: Owner, capability: &Capability) -> Result<(), O::Refused>
+    ensures { (before : List ℕ) → O.holds out.old before → OnOk result (O.holds out.new
+        (before ++ marks_text owner (Some capability.now))) }
+{
+    put_number_after_colon(out, u64::from(owner.user))?;
+    put_number_after_colon(out, u64::from(owner.group))?;
+    put_capability(out, capability)
+}
+
+// Prints a colon and a capability.
+fn put_capability<O: Out>(out: &mut O, capability: &Capability) -> Result<(), O::Refused>
+    ensures { (before : List ℕ) → O.holds out.old before → OnOk result (O.holds out.new (before ++ 58 ∷ capability_text capability.now)) }
+{
+    put_number_after_colon(out, flag_of(capability.effective))?;
+    put_number_after_colon(out, capability.permitted)?;
+    put_number_after_colon(out, capability.inheritable)?;
+    put_number_after_colon(out, u64::from(capability.root))
+}
+
+// A flag as a number.
+fn flag_of(set: bool) -> u64
+    ensures { result ≡ flag set }
+{
+    if set { 1 } else { 0 }
+}
+
+// Prints a colon and the decimal digits of a number.
+fn put_number_after_colon<O: Out>(out: &mut O, number: u64) -> Result<(), O::Refused>
+    ensures { (before : List ℕ) → O.holds out.old before → OnOk result (O.holds out.new (before ++ 58 ∷ decimal number)) }
+{
+    let mut buffer = Buffer::new();
+    out.put_byte(b':')?;
+    out.put(buffer.format(number).as_bytes())
 }
 
 // Prints the octal digits of a number.
@@ -190,11 +272,11 @@ fn put_octal<O: Out>(out: &mut O, number: u32) -> Result<(), O::Refused>
 }
 
 // Prints the fields of a file.
-fn put_file<O: Out>(out: &mut O, mode: Mode, homed: Homed) -> Result<(), O::Refused>
+fn put_file<O: Out>(out: &mut O, file: &FileAttributes, homed: Homed) -> Result<(), O::Refused>
     ensures { (before : List ℕ) → O.holds out.old before → OnOk result (O.holds out.new
-        (before ++ (102 ∷ 32 ∷ (octal mode ++ 32 ∷ spaced (homed_fields homed) [])))) }
+        (before ++ (102 ∷ 32 ∷ (file_attributes_text file.now ++ 32 ∷ spaced (homed_fields homed) [])))) }
 {
-    put_mode(out, b"f ", mode)?;
+    put_file_attributes(out, file)?;
     put_stamp(out, &homed.stamp)?;
     put_home(out, homed.home)
 }
@@ -218,13 +300,24 @@ fn put_home<O: Out>(out: &mut O, home: Home) -> Result<(), O::Refused>
 }
 
 // Prints the fields of a link.
-fn put_link<O: Out>(out: &mut O, target: &[u8]) -> Result<(), O::Refused>
+fn put_link<O: Out>(out: &mut O, owner: Owner, target: &[u8]) -> Result<(), O::Refused>
     ensures { (before : List ℕ) → O.holds out.old before → OnOk result (O.holds out.new
-        (before ++ (108 ∷ 32 ∷ spaced (decimal (length target.now) ∷ target.now ∷ []) []))) }
+        (before ++ (108 ∷ 32 ∷ spaced (owned_number (length target.now) owner ∷ target.now ∷ []) []))) }
 {
     out.put(b"l ")?;
-    put_decimal(out, target.len() as u64)?;
+    put_owned(out, target.len() as u64, owner)?;
     out.put(target)?;
+    out.put_byte(b' ')
+}
+
+// Prints the decimal digits of a number, its owner and a space.
+fn put_owned<O: Out>(out: &mut O, number: u64, owner: Owner) -> Result<(), O::Refused>
+    ensures { (before : List ℕ) → O.holds out.old before → OnOk result (O.holds out.new
+        (before ++ (owned_number number owner ++ 32 ∷ []))) }
+{
+    let mut buffer = Buffer::new();
+    out.put(buffer.format(number).as_bytes())?;
+    put_owner(out, owner)?;
     out.put_byte(b' ')
 }
 

@@ -3,6 +3,7 @@ use Rattle.std.proofs.Common.{◌≡◌, ℕ, List, [], ◌∷◌, Some, sym, �
 use Rattle.std.specs.Prelude.{map}
 use Rattle.std.proofs.lemmas.List.Elements.{All-contains, All-from_recursion}
 use Rattle.std.specs.List.{AllByRecursion}
+use Rattle.ext_attributes.specs.Attributes.{OfFile}
 use Rattle.ext_tree.specs.Tree.{Entries}
 use Rattle.ext_tree.specs.declared.entry.Entry.{Entry}
 use Rattle.ext_tree.specs.declared.entry.Entry.TheVariants.{Dir, Opaque, File, Link, Hide}
@@ -34,17 +35,17 @@ abbrev pub TreesHaveLines : List (List Row) → Type 0
 TreesHaveLines trees = AllByRecursion (AllByRecursion HasHomedLine) trees
 
 abbrev KeptEntry : ℕ → Entry HeldFile → Type 0
-KeptEntry g (Dir mode) = Unit {0}
-KeptEntry g (Opaque mode) = Unit {0}
-KeptEntry g (File mode held) = IsKeptUpTo g held.body
-KeptEntry g (Link target) = Unit {0}
+KeptEntry g (Dir attributes) = Unit {0}
+KeptEntry g (Opaque attributes) = Unit {0}
+KeptEntry g (File attributes held) = IsKeptUpTo g held.body
+KeptEntry g (Link owner target) = Unit {0}
 KeptEntry g Hide = Unit {0}
 
 kept_row : (g : ℕ) (e : Entry Homed) → IsWritable homed_form e → IsUpTo g e → KeptEntry g (kept_entry e)
-kept_row g (Dir mode) is up_to = tt
-kept_row g (Opaque mode) is up_to = tt
-kept_row g (File mode file) is up_to = record { first = is.1.home.first; last = up_to; file = is.1.home.file }
-kept_row g (Link target) is up_to = tt
+kept_row g (Dir attributes) is up_to = tt
+kept_row g (Opaque attributes) is up_to = tt
+kept_row g (File attributes file) is up_to = record { first = is.1.home.first; last = up_to; file = is.1.home.file }
+kept_row g (Link owner target) is up_to = tt
 kept_row g Hide is up_to = tt
 
 kept_rows : (g : ℕ) (stamps : Stamps) (xs : List Row) → AllByRecursion HasHomedLine xs → AllAgree g stamps xs → AllByRecursion (λ x. KeptEntry g x.1) (rows_of xs)
@@ -56,17 +57,17 @@ kept_trees g stamps [] lines agree = tt
 kept_trees g stamps (xs ∷ trees) lines agree = (kept_rows g stamps xs lines.0 agree.0, kept_trees g (noted_all stamps xs) trees lines.1 agree.1)
 
 abbrev HasItsStamp : Stamps → Entry HeldFile → Type 0
-HasItsStamp stamps (Dir mode) = Unit {0}
-HasItsStamp stamps (Opaque mode) = Unit {0}
-HasItsStamp stamps (File mode held) = (home : Home) → held.body ≡ Kept home → stamp_at stamps home ≡ Some held.stamp
-HasItsStamp stamps (Link target) = Unit {0}
+HasItsStamp stamps (Dir attributes) = Unit {0}
+HasItsStamp stamps (Opaque attributes) = Unit {0}
+HasItsStamp stamps (File attributes held) = (home : Home) → held.body ≡ Kept home → stamp_at stamps home ≡ Some held.stamp
+HasItsStamp stamps (Link owner target) = Unit {0}
 HasItsStamp stamps Hide = Unit {0}
 
 entry_keeps : (stamps : Stamps) (e : Entry Homed) (home : Home) (stamp : Stamp) → Agrees stamps e → stamp_at stamps home ≡ Some stamp → stamp_at (noted stamps e) home ≡ Some stamp
-entry_keeps stamps (Dir mode) home stamp agrees has = has
-entry_keeps stamps (Opaque mode) home stamp agrees has = has
-entry_keeps stamps (File mode file) home stamp agrees has = noted_keeps stamps file home stamp agrees has
-entry_keeps stamps (Link target) home stamp agrees has = has
+entry_keeps stamps (Dir attributes) home stamp agrees has = has
+entry_keeps stamps (Opaque attributes) home stamp agrees has = has
+entry_keeps stamps (File attributes file) home stamp agrees has = noted_keeps stamps file home stamp agrees has
+entry_keeps stamps (Link owner target) home stamp agrees has = has
 entry_keeps stamps Hide home stamp agrees has = has
 
 rows_keep : (g : ℕ) (stamps : Stamps) (xs : List Row) (home : Home) (stamp : Stamp) → AllAgree g stamps xs → stamp_at stamps home ≡ Some stamp → stamp_at (noted_all stamps xs) home ≡ Some stamp
@@ -79,11 +80,11 @@ trees_keep g stamps (xs ∷ trees) home stamp agree has = trees_keep g (noted_al
 
 -- what keeps the stamps that a home has, keeps that of an entry
 its_stamp : (stamps later : Stamps) (e : Entry Homed) → ((home : Home) (stamp : Stamp) → stamp_at (noted stamps e) home ≡ Some stamp → stamp_at later home ≡ Some stamp) → HasItsStamp later (kept_entry e)
-its_stamp stamps later (Dir mode) keeps = tt
-its_stamp stamps later (Opaque mode) keeps = tt
-its_stamp stamps later (File mode file) keeps =
+its_stamp stamps later (Dir attributes) keeps = tt
+its_stamp stamps later (Opaque attributes) keeps = tt
+its_stamp stamps later (File attributes file) keeps =
     λ home is. let same : file.home ≡ home = cc in subst (λ h. stamp_at later h ≡ Some file.stamp) same (keeps file.home file.stamp (noted_same stamps file))
-its_stamp stamps later (Link target) keeps = tt
+its_stamp stamps later (Link owner target) keeps = tt
 its_stamp stamps later Hide keeps = tt
 
 rows_have : (g : ℕ) (stamps later : Stamps) (xs : List Row) → AllAgree g stamps xs → ((home : Home) (stamp : Stamp) → stamp_at (noted_all stamps xs) home ≡ Some stamp → stamp_at later home ≡ Some stamp) → AllByRecursion (λ x. HasItsStamp later x.1) (rows_of xs)
@@ -98,11 +99,11 @@ trees_have g stamps later (xs ∷ trees) agree keeps =
     (rows_have g stamps later xs agree.0 (λ home stamp has. keeps home stamp (trees_keep g (noted_all stamps xs) trees home stamp agree.1 has)), trees_have g (noted_all stamps xs) later trees agree.1 keeps)
 
 -- what holds of each entry holds of each file
-of_file : (P : Entry HeldFile → Type 0) (trees : List (Entries HeldFile)) → AllByRecursion (λ (es : Entries HeldFile). AllByRecursion (λ x. P x.1) es) trees → (held : HeldFile) → IsFileOf trees held → (mode : ℕ) × P (File mode held)
+of_file : (P : Entry HeldFile → Type 0) (trees : List (Entries HeldFile)) → AllByRecursion (λ (es : Entries HeldFile). AllByRecursion (λ x. P x.1) es) trees → (held : HeldFile) → IsFileOf trees held → (attributes : OfFile) × P (File attributes held)
 of_file P trees all held is =
     let Each : Entries HeldFile → Type 0 = λ es. AllByRecursion (λ x. P x.1) es in
     let there = All-contains Each trees is.tree (All-from_recursion Each trees all) is.among in
-    (is.file.mode, all_found (λ path e. P e) is.tree is.file.path (File is.file.mode held) there is.file.stands)
+    (is.file.attributes, all_found (λ path e. P e) is.tree is.file.path (File is.file.attributes held) there is.file.stands)
 
 pub files_are_kept : (g : ℕ) (trees : List (List Row)) → TreesHaveLines trees → TreesAgree g [] trees → (held : HeldFile) → IsFileOf (map rows_of trees) held → IsKeptUpTo g held.body
 files_are_kept g trees lines agree held is = (of_file (KeptEntry g) (map rows_of trees) (kept_trees g [] trees lines agree) held is).1

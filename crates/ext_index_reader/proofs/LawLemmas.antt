@@ -85,7 +85,7 @@ one_reading g bytes s t last p q =
 pub one_said : (g : ℕ) (bytes : List ℕ) (a b : Said) → g ≤ 4294967295 → IsSaid g bytes a → IsSaid g bytes b → a ≡ b
 one_said g bytes a b last one other =
     let same = one_reading g bytes one.so_far other.so_far last one.through other.through in
-    λ i. record { host = (one.host ∙ ap host_of same ∙ sym other.host) i; two = (one.two ∙ ap (λ (s : SoFar). s.two) same ∙ sym other.two) i }
+    λ i. record { host = (one.host ∙ ap host_of same ∙ sym other.host) i; text = (one.number ∙ ap (λ (s : SoFar). s.text) same ∙ sym other.number) i }
 
 -- lines that run through stop nowhere
 pub no_stop : (g : ℕ) (bytes : List ℕ) (s : SoFar) (line : ℕ) → g ≤ 4294967295 → RunsThrough g bytes s → ¬ StopsAtLine g bytes line

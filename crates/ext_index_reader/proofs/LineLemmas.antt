@@ -6,7 +6,7 @@ use Rattle.ext_index_lines.specs.Homed.{HasHomedLine, homed_line}
 use Rattle.ext_index_lines.specs.declared.homed.Homed.{Homed}
 use Rattle.ext_index_reader.specs.Homes.{Agrees}
 use Rattle.ext_text.specs.Digest.{IsDigest}
-use Rattle.ext_index_lines.specs.Lines.{IsLinePath, item_line, manifest_line, number_line, path_line}
+use Rattle.ext_index_lines.specs.Lines.{IsLinePath, item_line, manifest_line, may_tell, number_line, path_line}
 use Rattle.ext_index_reader.specs.Reading.{LeadsTo}
 use Rattle.ext_index_reader.specs.State.{at_part}
 use Rattle.ext_index_reader.specs.Step.{HasRoom, IsUpTo, MayBePast, MayEnter, StepsAt, GivesHierarchy, GivesMerged, most_count}
@@ -23,10 +23,10 @@ pub fails : (P : Type 0) (test : Bool) → (IsTrue test ↔ P) → test ≡ fals
 fails P test tells out = λ p. absurd (false≢true (sym out ∙ tells.1 p))
 
 -- the entry of a line may not come, and so none of that line may enter
-pub entry_not_come : (g : ℕ) (s : SoFar) (line : List ℕ) (x : List (List ℕ) × Entry Homed) (test : Bool) → HasHomedLine x → line ≡ homed_line x → (IsTrue test ↔ (IsUpTo g x.1 × HasRoom s x.1)) → test ≡ false
+pub entry_not_come : (g : ℕ) (s : SoFar) (line : List ℕ) (x : List (List ℕ) × Entry Homed) (test : Bool) → HasHomedLine x → line ≡ homed_line x → (IsTrue test ↔ (IsTrue (may_tell s.text x.1) × IsUpTo g x.1 × HasRoom s x.1)) → test ≡ false
     → (y : List (List ℕ) × Entry Homed) → HasHomedLine y → line ≡ homed_line y → ¬ MayEnter g s y.1
 entry_not_come g s line x test has is tells out =
-    refused HasHomedLine homed_line entry_once (λ z. MayEnter g s z.1) line x has is (λ may. fails _ test tells out (may.up_to, may.room))
+    refused HasHomedLine homed_line entry_once (λ z. MayEnter g s z.1) line x has is (λ may. fails _ test tells out (may.told, may.up_to, may.room))
 
 -- its file has another stamp than its home
 pub entry_not_agrees : (g : ℕ) (s : SoFar) (line : List ℕ) (x : List (List ℕ) × Entry Homed) → HasHomedLine x → line ≡ homed_line x → ¬ Agrees s.homes x.1

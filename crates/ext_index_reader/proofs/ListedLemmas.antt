@@ -1,5 +1,5 @@
 -- The text of a listed host says that host.
-use Rattle.std.proofs.Common.{◌≡◌, ℕ, zero, suc, ◌+◌, ◌≤◌, Bool, true, false, List, [], ◌∷◌, ◌++◌, length, refl, sym, ap, subst, arith, codes, length-append}
+use Rattle.std.proofs.Common.{◌≡◌, ℕ, zero, suc, ◌+◌, ◌≤◌, Bool, List, [], ◌∷◌, ◌++◌, length, refl, sym, ap, subst, arith, codes, length-append}
 use Rattle.std.specs.Prelude.{Contains}
 use Rattle.std.specs.List.{AllByRecursion, flat_map}
 use Rattle.ext_tree.specs.Tree.{Entries}
@@ -9,9 +9,11 @@ use Rattle.ext_host.specs.Host.{hierarchies_in, past_tree, present}
 use Rattle.ext_host.specs.declared.host.Host.{Host}
 use Rattle.ext_host.specs.declared.past.Past.{Past}
 use Rattle.ext_index_lines.specs.Lines.{number_line}
+use Rattle.ext_index_lines.specs.declared.text_number.TextNumber.{TextNumber}
+use Rattle.ext_index_lines.specs.declared.text_number.TextNumber.TheVariants.{One, Later}
 use Rattle.ext_index_reader.specs.Index.{index_lines, index_text, lines_1, lines_2, machine_lines, past_lines, section_lines}
 use Rattle.ext_index_reader.specs.Laws.{IsListing}
-use Rattle.ext_index_reader.specs.Listed.{IsListedHost, IsListedTree, IsOfText1, IsWellFormed, IsWellFormedTree}
+use Rattle.ext_index_reader.specs.Listed.{IsListedHost, IsListedTree, IsOfText1, IsToldHost, IsToldTree, IsWellFormed, IsWellFormedTree}
 use Rattle.ext_index_reader.specs.Reading.{IsSaid}
 use Rattle.ext_index_reader.specs.State.{at, at_part, hierarchies_so_far, host_done, host_of, start, then_hierarchies, then_past, with_defaults}
 use Rattle.ext_index_reader.specs.declared.said.Said.{Said}
@@ -21,7 +23,7 @@ use Rattle.ext_index_reader.specs.declared.state.Stage.TheVariants as stages
 use Rattle.ext_index_reader.proofs.ClassRunLemmas.{classes_run}
 use Rattle.ext_index_reader.proofs.FewLemmas.{few_of_lines, few_of_pasts, lines_below_bytes}
 use Rattle.ext_index_reader.proofs.HierarchyLemmas.{with_classes}
-use Rattle.ext_index_reader.proofs.ListedPartLemmas.{AreKeptIn, ArePastsIn, IsListedIn, after_pasts, after_tree, host_after_pasts, pasts_run, tree_leads, two_after_pasts}
+use Rattle.ext_index_reader.proofs.ListedPartLemmas.{AreKeptIn, ArePastsIn, IsListedIn, after_pasts, after_tree, host_after_pasts, pasts_run, tree_leads, text_after_pasts}
 use Rattle.ext_index_reader.proofs.ListedRowLemmas.{none_noted}
 use Rattle.ext_index_reader.proofs.ListingLemmas.{begun}
 use Rattle.ext_index_reader.proofs.PartsLemmas.{AreFew}
@@ -46,39 +48,40 @@ pasts_among whole (past ∷ pasts) holds =
     )
 
 pasts_listed : (g : ℕ) (trees : List (Entries HeldFile)) (s : SoFar) (pasts : List Past) → AllByRecursion (λ (past : Past). IsWellFormedTree (past_tree past)) pasts → AllByRecursion (λ (past : Past). IsListedTree (hierarchies_so_far s) (past_tree past)) pasts
-    → AllByRecursion (λ (past : Past). AreFew (past_tree past)) pasts → AllByRecursion (λ (past : Past). Contains trees past.root × Contains trees past.lower) pasts → AllByRecursion (λ (past : Past). IsListedIn g trees s (past_tree past)) pasts
-pasts_listed g trees s [] formed listed few among = tt
-pasts_listed g trees s (past ∷ pasts) formed listed few among =
-    (record { formed = formed.0; listed = listed.0; few = few.0; root = among.0.0; lower = among.0.1 }, pasts_listed g trees s pasts formed.1 listed.1 few.1 among.1)
+    → AllByRecursion (λ (past : Past). IsToldTree s.text (past_tree past)) pasts → AllByRecursion (λ (past : Past). AreFew (past_tree past)) pasts → AllByRecursion (λ (past : Past). Contains trees past.root × Contains trees past.lower) pasts → AllByRecursion (λ (past : Past). IsListedIn g trees s (past_tree past)) pasts
+pasts_listed g trees s [] formed listed told few among = tt
+pasts_listed g trees s (past ∷ pasts) formed listed told few among =
+    (record { formed = formed.0; listed = listed.0; told = told.0; few = few.0; root = among.0.0; lower = among.0.1 }, pasts_listed g trees s pasts formed.1 listed.1 told.1 few.1 among.1)
 
-record LinesSay (g : ℕ) (two : Bool) (host : Host) : Type 0 where
+record LinesSay (g : ℕ) (text : TextNumber) (host : Host) : Type 0 where
   so_far : SoFar
-  runs : ToEnd g so_far start (index_lines two g host)
+  runs : ToEnd g so_far start (index_lines text g host)
   is : host_of so_far ≡ host
-  number : so_far.two ≡ two
+  number : so_far.text ≡ text
 
-short_2 : (g : ℕ) (host : Host) → length (lines_2 g host) ≤ 1073741824 → (length (section_lines g (present host)) ≤ 1073741824) × (length (flat_map (past_lines g) host.past) ≤ 1073741824)
-short_2 g host short =
+short_2 : (owners : Bool) (g : ℕ) (host : Host) → length (lines_2 owners g host) ≤ 1073741824 → (length (section_lines g (present host)) ≤ 1073741824) × (length (flat_map (past_lines g) host.past) ≤ 1073741824)
+short_2 owners g host short =
     let pasts = flat_map (past_lines g) host.past in
     let sections = section_lines g (present host) in
-    let one = length-append (machine_lines host) (sections ++ (number_line (codes "past") (length host.past) ∷ (pasts ++ codes "end" ∷ []))) in
+    let one = length-append (machine_lines owners host) (sections ++ (number_line (codes "past") (length host.past) ∷ (pasts ++ codes "end" ∷ []))) in
     let two = length-append sections (number_line (codes "past") (length host.past) ∷ (pasts ++ codes "end" ∷ [])) in
     let three = length-append pasts (codes "end" ∷ []) in
     (omega arith, omega arith)
 
-says_2 : (g : ℕ) (host : Host) → g ≤ 4294967295 → IsWellFormed host → IsListedHost g host → length (lines_2 g host) ≤ 1073741824 → LinesSay g true host
-says_2 g host last formed listed short =
+says_2 : (owners : Bool) (g : ℕ) (host : Host) → g ≤ 4294967295 → IsWellFormed host → IsListedHost g host → IsToldHost (Later owners) host → length (lines_2 owners g host) ≤ 1073741824 → LinesSay g (Later owners) host
+says_2 owners g host last formed listed told short =
     let trees = trees_of host in
-    let s0 = begun true host.arch host.scope in
+    let s0 = begun (Later owners) host.arch host.scope in
     let s1 = with_classes s0 host.sysext_hier host.confext_hier in
     let s2 = host_done (after_tree g s1 (present host)) in
     let e = after_pasts g s2 host.past in
     let kept : AreKeptIn g trees = record { kept = listed.homes.kept; agree = listed.homes.agree } in
-    let lengths = short_2 g host short in
+    let lengths = short_2 owners g host short in
     let rest = flat_map both_trees host.past in
     let now : IsListedIn g trees s1 (present host) = record {
       formed = formed.now;
       listed = listed.now;
+      told = told.now;
       few = few_of_lines g 1073741824 (present host) (omega arith) lengths.0;
       root = first_among host.root (host.lower ∷ rest);
       lower = later_among host.lower host.root (host.lower ∷ rest) (first_among host.lower rest);
@@ -86,7 +89,7 @@ says_2 g host last formed listed short =
     let leads = tree_leads g trees s1 (present host) last kept (none_noted trees) now in
     let among = pasts_among trees host.past (λ es among. later_among es host.root (host.lower ∷ rest) (later_among es host.lower rest among)) in
     let those : ArePastsIn g trees s2 host.past = record {
-      each = pasts_listed g trees s2 host.past formed.past listed.past (few_of_pasts g 1073741824 host.past (omega arith) lengths.1) among;
+      each = pasts_listed g trees s2 host.past formed.past listed.past told.past (few_of_pasts g 1073741824 host.past (omega arith) lengths.1) among;
       before = listed.past_before;
       few = listed.past_count;
       order = listed.past_order;
@@ -105,8 +108,8 @@ says_2 g host last formed listed short =
     record {
       so_far = e;
       runs = (
-        at (record start.so_far { two = true }) stages.Machine,
-        (true, refl, refl),
+        at (record start.so_far { text = Later owners }) stages.Machine,
+        (Later owners, refl, refl),
         (
           at s0 stages.Hierarchies,
           (host.arch, host.scope, listed.scope, refl, refl),
@@ -114,16 +117,16 @@ says_2 g host last formed listed short =
         ),
       );
       is = host_after_pasts g s2 host.past;
-      number = two_after_pasts g s2 host.past;
+      number = text_after_pasts g s2 host.past;
     }
 
 short_1 : (g : ℕ) (host : Host) → length (lines_1 g host) ≤ 1073741824 → length (section_lines g (present host)) ≤ 1073741824
 short_1 g host short = let one = length-append (section_lines g (present host)) (codes "end" ∷ []) in omega arith
 
-says_1 : (g : ℕ) (host : Host) → g ≤ 4294967295 → IsWellFormed host → IsListedHost g host → IsOfText1 host → length (lines_1 g host) ≤ 1073741824 → LinesSay g false host
-says_1 g host last formed listed of_1 short =
+says_1 : (g : ℕ) (host : Host) → g ≤ 4294967295 → IsWellFormed host → IsListedHost g host → IsToldHost One host → IsOfText1 host → length (lines_1 g host) ≤ 1073741824 → LinesSay g One host
+says_1 g host last formed listed told of_1 short =
     let trees = trees_of host in
-    let s1 = with_defaults (begun false host.arch host.scope) in
+    let s1 = with_defaults (begun One host.arch host.scope) in
     let e = host_done (after_tree g s1 (present host)) in
     let kept : AreKeptIn g trees = record { kept = listed.homes.kept; agree = listed.homes.agree } in
     let rest = flat_map both_trees host.past in
@@ -131,6 +134,7 @@ says_1 g host last formed listed of_1 short =
     let now : IsListedIn g trees s1 (present host) = record {
       formed = formed.now;
       listed = subst (λ h. IsListedTree h (present host)) hierarchies listed.now;
+      told = told.now;
       few = few_of_lines g 1073741824 (present host) (omega arith) (short_1 g host short);
       root = first_among host.root (host.lower ∷ rest);
       lower = later_among host.lower host.root (host.lower ∷ rest) (first_among host.lower rest);
@@ -140,28 +144,28 @@ says_1 g host last formed listed of_1 short =
     record {
       so_far = e;
       runs = (
-        at (record start.so_far { two = false }) stages.Machine,
-        (false, refl, refl),
+        at (record start.so_far { text = One }) stages.Machine,
+        (One, refl, refl),
         (at_part s1 parts.Sysext, (host.arch, host.scope, listed.scope, refl, refl), sections),
       );
       is = λ i. record host { sysext_hier = sym of_1.sysext_hier i; confext_hier = sym of_1.confext_hier i; past = sym of_1.past i };
       number = refl;
     }
 
-says : (g : ℕ) (two : Bool) (host : Host) → g ≤ 4294967295 → IsWellFormed host → IsListedHost g host → (two ≡ false → IsOfText1 host) → length (index_lines two g host) ≤ 1073741824 → LinesSay g two host
-says g true host last formed listed of_1 short = says_2 g host last formed listed short
-says g false host last formed listed of_1 short = says_1 g host last formed listed (of_1 refl) short
+says : (g : ℕ) (text : TextNumber) (host : Host) → g ≤ 4294967295 → IsWellFormed host → IsListedHost g host → IsToldHost text host → (text ≡ One → IsOfText1 host) → length (index_lines text g host) ≤ 1073741824 → LinesSay g text host
+says g One host last formed listed told of_1 short = says_1 g host last formed listed told (of_1 refl) short
+says g (Later owners) host last formed listed told of_1 short = says_2 owners g host last formed listed told short
 
 -- what lines list is what they say
 pub listed_is_said : (g : ℕ) (bytes : List ℕ) (said : Said) → g ≤ 4294967295 → length bytes ≤ 1073741824 → IsListing g bytes said → IsSaid g bytes said
 listed_is_said g bytes said last short listing =
-    let lines = index_lines said.two g said.host in
-    let long : length bytes ≡ length (index_text said.two g said.host) = ap length listing.text in
+    let lines = index_lines said.text g said.host in
+    let long : length bytes ≡ length (index_text said.text g said.host) = ap length listing.text in
     let fewer = lines_below_bytes lines in
-    let say = says g said.two said.host last listing.formed listing.listed listing.text_1 (omega arith) in
+    let say = says g said.text said.host last listing.formed listing.listed listing.told listing.text_1 (omega arith) in
     record {
       so_far = say.so_far;
       through = record { lines = lines; text = listing.text; runs = say.runs };
       host = sym say.is;
-      two = sym say.number;
+      number = sym say.number;
     }

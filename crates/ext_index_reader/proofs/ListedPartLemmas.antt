@@ -9,8 +9,9 @@ use Rattle.ext_host.specs.Held.{HeldFile}
 use Rattle.ext_host.specs.Host.{HostTree, past_tree}
 use Rattle.ext_host.specs.Valid.{AreAscending, all_bytes, most_past}
 use Rattle.ext_host.specs.declared.past.Past.{Past}
+use Rattle.ext_index_lines.specs.declared.text_number.TextNumber.{TextNumber}
 use Rattle.ext_index_reader.specs.Index.{past_lines, section_lines}
-use Rattle.ext_index_reader.specs.Listed.{IsKeptUpTo, IsListedTree, IsWellFormedTree}
+use Rattle.ext_index_reader.specs.Listed.{IsKeptUpTo, IsListedTree, IsToldTree, IsWellFormedTree}
 use Rattle.ext_index_reader.specs.State.{after_parts, at, at_part, hierarchies_so_far, host_of, no_parts, past_done, then_past}
 use Rattle.ext_index_reader.specs.declared.state.PartStage.TheVariants as parts
 use Rattle.ext_index_reader.specs.declared.state.SoFar.{SoFar}
@@ -48,6 +49,7 @@ pub record AreKeptIn (g : ℕ) (trees : List (Entries HeldFile)) : Type 0 where
 pub record IsListedIn (g : ℕ) (trees : List (Entries HeldFile)) (s : SoFar) (tree : HostTree) : Type 0 where
   pub formed : IsWellFormedTree tree
   pub listed : IsListedTree (hierarchies_so_far s) tree
+  pub told : IsToldTree s.text tree
   pub few : AreFew tree
   pub root : Contains trees tree.root
   pub lower : Contains trees tree.lower
@@ -87,6 +89,7 @@ tree_leads g trees s tree last kept of is =
       lower_lines = rows_have_lines g trees tree.lower last is.formed.lower lower_files is.listed.limits.lower;
       root_agree = first.0;
       lower_agree = second.0;
+      told = subst (IsToldTree s.text) (sym same) is.told;
     } in
     record {
       of = second.1;
@@ -110,9 +113,9 @@ host_after_pasts g s [] = λ i. record (host_of s) { past = sym (append-nil s.pa
 host_after_pasts g s (past ∷ pasts) =
     host_after_pasts g (after_one g s (length pasts) past) pasts ∙ (λ i. record (host_of s) { past = append_assoc s.past (past ∷ []) pasts i })
 
-pub two_after_pasts : (g : ℕ) (s : SoFar) (pasts : List Past) → (after_pasts g s pasts).two ≡ s.two
-two_after_pasts g s [] = refl
-two_after_pasts g s (past ∷ pasts) = two_after_pasts g (after_one g s (length pasts) past) pasts
+pub text_after_pasts : (g : ℕ) (s : SoFar) (pasts : List Past) → (after_pasts g s pasts).text ≡ s.text
+text_after_pasts g s [] = refl
+text_after_pasts g s (past ∷ pasts) = text_after_pasts g (after_one g s (length pasts) past) pasts
 
 -- past trees that an index lists after those that were read
 pub record ArePastsIn (g : ℕ) (trees : List (Entries HeldFile)) (s : SoFar) (pasts : List Past) : Type 0 where
@@ -121,11 +124,18 @@ pub record ArePastsIn (g : ℕ) (trees : List (Entries HeldFile)) (s : SoFar) (p
   pub few : length (s.past ++ pasts) ≤ most_past
   pub order : AreAscending nat_cmp (map generation_of (s.past ++ pasts))
 
-same_hierarchies : (g : ℕ) (trees : List (Entries HeldFile)) (s t : SoFar) (pasts : List Past) → hierarchies_so_far s ≡ hierarchies_so_far t → AllByRecursion (λ (past : Past). IsListedIn g trees s (past_tree past)) pasts → AllByRecursion (λ (past : Past). IsListedIn g trees t (past_tree past)) pasts
-same_hierarchies g trees s t [] same each = tt
-same_hierarchies g trees s t (past ∷ pasts) same each = (
-  record { formed = each.0.formed; listed = subst (λ h. IsListedTree h (past_tree past)) same each.0.listed; few = each.0.few; root = each.0.root; lower = each.0.lower },
-  same_hierarchies g trees s t pasts same each.1,
+same_hierarchies : (g : ℕ) (trees : List (Entries HeldFile)) (s t : SoFar) (pasts : List Past) → hierarchies_so_far s ≡ hierarchies_so_far t → s.text ≡ t.text → AllByRecursion (λ (past : Past). IsListedIn g trees s (past_tree past)) pasts → AllByRecursion (λ (past : Past). IsListedIn g trees t (past_tree past)) pasts
+same_hierarchies g trees s t [] same number each = tt
+same_hierarchies g trees s t (past ∷ pasts) same number each = (
+  record {
+    formed = each.0.formed;
+    listed = subst (λ h. IsListedTree h (past_tree past)) same each.0.listed;
+    told = subst (λ (text : TextNumber). IsToldTree text (past_tree past)) number each.0.told;
+    few = each.0.few;
+    root = each.0.root;
+    lower = each.0.lower;
+  },
+  same_hierarchies g trees s t pasts same number each.1,
 )
 
 pub pasts_run : (g : ℕ) (e : SoFar) (trees : List (Entries HeldFile)) (s : SoFar) (pasts : List Past) (rest : List (List ℕ)) → g ≤ 4294967295 → AreKeptIn g trees → AreOfFiles trees s.homes → ArePastsIn g trees s pasts → ToEnd g e (at (after_pasts g s pasts) stages.End) rest
@@ -138,10 +148,10 @@ pasts_run g e trees s (past ∷ pasts) rest last kept of are run =
     let shape = append_assoc s.past (past ∷ []) pasts in
     let long = length-append s.past (past ∷ pasts) in
     let few = are.few in
-    let here : IsListedIn g trees t (past_tree past) = record { formed = are.each.0.formed; listed = are.each.0.listed; few = are.each.0.few; root = are.each.0.root; lower = are.each.0.lower } in
+    let here : IsListedIn g trees t (past_tree past) = record { formed = are.each.0.formed; listed = are.each.0.listed; told = are.each.0.told; few = are.each.0.few; root = are.each.0.root; lower = are.each.0.lower } in
     let leads = tree_leads g trees t (past_tree past) last kept of here in
     let those : ArePastsIn g trees next pasts = record {
-      each = same_hierarchies g trees s next pasts refl are.each.1;
+      each = same_hierarchies g trees s next pasts refl refl are.each.1;
       before = are.before.1;
       few = subst (λ (ps : List Past). length ps ≤ most_past) (sym shape) are.few;
       order = subst (λ (ps : List Past). AreAscending nat_cmp (map generation_of ps)) (sym shape) are.order;

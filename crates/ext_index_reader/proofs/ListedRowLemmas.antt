@@ -36,10 +36,10 @@ listed_rows g es = map (listed_row g) es
 
 -- an entry's file is one of these trees, and kept up to this generation
 abbrev pub FileIn : ℕ → List (Entries HeldFile) → Entry HeldFile → Type 0
-FileIn g trees (Dir mode) = Unit {0}
-FileIn g trees (Opaque mode) = Unit {0}
-FileIn g trees (File mode held) = IsKeptUpTo g held.body × IsFileOf trees held
-FileIn g trees (Link target) = Unit {0}
+FileIn g trees (Dir attributes) = Unit {0}
+FileIn g trees (Opaque attributes) = Unit {0}
+FileIn g trees (File attributes held) = IsKeptUpTo g held.body × IsFileOf trees held
+FileIn g trees (Link owner target) = Unit {0}
 FileIn g trees Hide = Unit {0}
 
 kept_body : (g : ℕ) (body : Body) → IsKeptUpTo g body → Kept (home_of g body) ≡ body
@@ -54,10 +54,10 @@ kept_home g (Depot path) kept = absurd kept
 
 -- as its line has it, it is the entry again
 row_back : (g : ℕ) (trees : List (Entries HeldFile)) (e : Entry HeldFile) → FileIn g trees e → kept_entry (listed_entry g e) ≡ e
-row_back g trees (Dir mode) is = refl
-row_back g trees (Opaque mode) is = refl
-row_back g trees (File mode held) is = λ i. File mode (record { stamp = held.stamp; body = kept_body g held.body is.0 i })
-row_back g trees (Link target) is = refl
+row_back g trees (Dir attributes) is = refl
+row_back g trees (Opaque attributes) is = refl
+row_back g trees (File attributes held) is = λ i. File attributes (record { stamp = held.stamp; body = kept_body g held.body is.0 i })
+row_back g trees (Link owner target) is = refl
 row_back g trees Hide is = refl
 
 pub rows_back : (g : ℕ) (trees : List (Entries HeldFile)) (es : Entries HeldFile) → AllByRecursion (λ x. FileIn g trees x.1) es → rows_of (listed_rows g es) ≡ es
@@ -65,20 +65,20 @@ rows_back g trees [] all = refl
 rows_back g trees (x ∷ es) all = λ i. (x.0, row_back g trees x.1 all.0 i) ∷ rows_back g trees es all.1 i
 
 writable_back : (g : ℕ) (trees : List (Entries HeldFile)) (e : Entry HeldFile) → g ≤ 4294967295 → FileIn g trees e → IsWritable held_form e → IsWritable homed_form (listed_entry g e)
-writable_back g trees (Dir mode) last is writable = writable
-writable_back g trees (Opaque mode) last is writable = writable
-writable_back g trees (File mode held) last is writable =
+writable_back g trees (Dir attributes) last is writable = writable
+writable_back g trees (Opaque attributes) last is writable = writable
+writable_back g trees (File attributes held) last is writable =
     let home = kept_home g held.body is.0 in
     let until = home.last in
     (writable.0, record { stamp = writable.1; home = record { first = home.first; last = omega arith; file = home.file } })
-writable_back g trees (Link target) last is writable = writable
+writable_back g trees (Link owner target) last is writable = writable
 writable_back g trees Hide last is writable = tt
 
 up_to_back : (g : ℕ) (trees : List (Entries HeldFile)) (e : Entry HeldFile) → FileIn g trees e → IsUpTo g (listed_entry g e)
-up_to_back g trees (Dir mode) is = tt
-up_to_back g trees (Opaque mode) is = tt
-up_to_back g trees (File mode held) is = (kept_home g held.body is.0).last
-up_to_back g trees (Link target) is = tt
+up_to_back g trees (Dir attributes) is = tt
+up_to_back g trees (Opaque attributes) is = tt
+up_to_back g trees (File attributes held) is = (kept_home g held.body is.0).last
+up_to_back g trees (Link owner target) is = tt
 up_to_back g trees Hide is = tt
 
 -- what a tree says of each of its entries
@@ -111,12 +111,12 @@ rows_have_lines g trees es last tree all range = lines_back g trees es es last (
 
 -- each file of one of the trees is one of theirs
 file_in : (g : ℕ) (trees : List (Entries HeldFile)) (es : Entries HeldFile) (path : List (List ℕ)) (e : Entry HeldFile) → ((held : HeldFile) → IsFileOf trees held → IsKeptUpTo g held.body) → Contains trees es → lookup es path ≡ Some e → FileIn g trees e
-file_in g trees es path (Dir mode) kept among stands = tt
-file_in g trees es path (Opaque mode) kept among stands = tt
-file_in g trees es path (File mode held) kept among stands =
-    let is : IsFileOf trees held = record { tree = es; among = among; file = record { path = path; mode = mode; stands = stands } } in
+file_in g trees es path (Dir attributes) kept among stands = tt
+file_in g trees es path (Opaque attributes) kept among stands = tt
+file_in g trees es path (File attributes held) kept among stands =
+    let is : IsFileOf trees held = record { tree = es; among = among; file = record { path = path; attributes = attributes; stands = stands } } in
     (kept held is, is)
-file_in g trees es path (Link target) kept among stands = tt
+file_in g trees es path (Link owner target) kept among stands = tt
 file_in g trees es path Hide kept among stands = tt
 
 files_each : (g : ℕ) (trees : List (Entries HeldFile)) (whole es : Entries HeldFile) → ((held : HeldFile) → IsFileOf trees held → IsKeptUpTo g held.body) → Contains trees whole → AllByRecursion (StandsIn whole) es → AllByRecursion (λ x. FileIn g trees x.1) es
@@ -157,12 +157,12 @@ module _ (g : ℕ) (trees : List (Entries HeldFile)) (agree : AgreeIn trees) whe
       (λ there. of home stamp (sym (noted_other stamps file home there) ∙ found))
 
   entry_agrees : (stamps : Stamps) (e : Entry HeldFile) → AreOfFiles trees stamps → FileIn g trees e → Agrees stamps (listed_entry g e) × AreOfFiles trees (noted stamps (listed_entry g e))
-  entry_agrees stamps (Dir mode) of is = (tt, of)
-  entry_agrees stamps (Opaque mode) of is = (tt, of)
-  entry_agrees stamps (File mode held) of is =
+  entry_agrees stamps (Dir attributes) of is = (tt, of)
+  entry_agrees stamps (Opaque attributes) of is = (tt, of)
+  entry_agrees stamps (File attributes held) of is =
       let body = sym (kept_body g held.body is.0) in
       (file_agrees stamps held (home_of g held.body) of is.1 body, file_noted stamps (listed_file g held) held of is.1 body refl)
-  entry_agrees stamps (Link target) of is = (tt, of)
+  entry_agrees stamps (Link owner target) of is = (tt, of)
   entry_agrees stamps Hide of is = (tt, of)
 
   -- the rows of a tree agree with what is noted, and may be noted

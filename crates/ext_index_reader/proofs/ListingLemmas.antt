@@ -1,7 +1,6 @@
 -- Lines that run through are the text of a host that an index lists.
-use Rattle.std.proofs.Common.{◌≡◌, ◌≢◌, ℕ, ◌+◌, ◌<◌, ◌≤◌, Bool, true, false, List, [], ◌∷◌, ◌++◌, length, refl, sym, ap, ◌∙◌, subst, arith, codes}
+use Rattle.std.proofs.Common.{◌≡◌, ◌≢◌, ℕ, ◌+◌, ◌<◌, ◌≤◌, Bool, List, [], ◌∷◌, ◌++◌, length, refl, sym, ap, ◌∙◌, subst, arith, codes}
 use Rattle.std.specs.Prelude.{map}
-use Rattle.std.proofs.lemmas.Bool.{true≢false}
 use Rattle.std.specs.List.{flat_map}
 use Rattle.ext_lines.specs.Lines.{lines_text}
 use Rattle.ext_text.specs.declared.arch.Arch.{Arch}
@@ -14,9 +13,11 @@ use Rattle.ext_host.specs.Valid.{AreOfClasses}
 use Rattle.ext_host.specs.declared.host.Host.{Host}
 use Rattle.ext_host.specs.declared.past.Past.{Past}
 use Rattle.ext_index_lines.specs.Lines.{header_line, host_line, number_line}
+use Rattle.ext_index_lines.specs.declared.text_number.TextNumber.{TextNumber}
+use Rattle.ext_index_lines.specs.declared.text_number.TextNumber.TheVariants.{One, Later}
 use Rattle.ext_index_reader.specs.Index.{index_lines, index_text, lines_2, past_lines, section_lines}
 use Rattle.ext_index_reader.specs.Laws.{IsListing}
-use Rattle.ext_index_reader.specs.Listed.{AreKeptUpTo, IsListedHost, IsOfText1, IsWellFormed}
+use Rattle.ext_index_reader.specs.Listed.{AreKeptUpTo, IsListedHost, IsOfText1, IsToldHost, IsWellFormed}
 use Rattle.ext_index_reader.specs.Reading.{IsSaid}
 use Rattle.ext_index_reader.specs.State.{at, at_part, host_done, host_of, start, then_machine, with_defaults}
 use Rattle.ext_index_reader.specs.declared.said.Said.{Said}
@@ -60,15 +61,19 @@ host_with arch scope sysext confext tree roots lowers past = record {
   past = past;
 }
 
+later_not_one : (owners : Bool) → Later owners ≡ One → ⊥
+later_not_one owners same = cc
+
 -- what the lines say of it
-record IsHostRead (g : ℕ) (e : SoFar) (two : Bool) (lines : List (List ℕ)) : Type 0 where
+record IsHostRead (g : ℕ) (e : SoFar) (text : TextNumber) (lines : List (List ℕ)) : Type 0 where
   host : Host
   is : host_of e ≡ host
-  number : e.two ≡ two
+  number : e.text ≡ text
   formed : IsWellFormed host
   listed : IsListedHost g host
-  text_1 : two ≡ false → IsOfText1 host
-  text : lines ≡ index_lines two g host
+  told : IsToldHost text host
+  text_1 : text ≡ One → IsOfText1 host
+  whole : lines ≡ index_lines text g host
 
 -- where its files are kept
 homes_of : (g : ℕ) (host : Host) (rows : List (List Row)) → trees_of host ≡ map rows_of rows → TreesHaveLines rows → TreesAgree g [] rows → AreKeptUpTo g host
@@ -86,11 +91,11 @@ classes_of s are some other = record {
 }
 
 -- what has been read after the line of the machine
-abbrev pub begun : Bool → Arch → Scope → SoFar
-begun two arch scope = record start.so_far { two = two; arch = arch; scope = scope }
+abbrev pub begun : TextNumber → Arch → Scope → SoFar
+begun text arch scope = record start.so_far { text = text; arch = arch; scope = scope }
 
-no_classes : (two : Bool) (arch : Arch) (scope : Scope) → AreClasses (begun two arch scope)
-no_classes two arch scope = record {
+no_classes : (text : TextNumber) (arch : Arch) (scope : Scope) → AreClasses (begun text arch scope)
+no_classes text arch scope = record {
   sysext_names = tt;
   confext_names = tt;
   sysext_order = tt;
@@ -100,22 +105,23 @@ no_classes two arch scope = record {
   apart = tt;
 }
 
-text_2 : (g : ℕ) (host : Host) (lines : List (List ℕ)) (l3 : List ℕ) (r3 r4 r5 : List (List ℕ)) (l6 : List ℕ) (r6 r7 : List (List ℕ)) (n m : ℕ)
+text_2 : (owners : Bool) (g : ℕ) (host : Host) (lines : List (List ℕ)) (l3 : List ℕ) (r3 r4 r5 : List (List ℕ)) (l6 : List ℕ) (r6 r7 : List (List ℕ)) (n m : ℕ)
     → lines ≡ l3 ∷ r3 → l3 ≡ number_line (codes "hierarchies") n → length host.sysext_hier + length host.confext_hier ≡ n → r3 ≡ class_lines host.sysext_hier host.confext_hier ++ r4 → r4 ≡ section_lines g (present host) ++ r5
-    → r5 ≡ l6 ∷ r6 → l6 ≡ number_line (codes "past") m → length host.past ≡ m → r6 ≡ flat_map (past_lines g) host.past ++ r7 → r7 ≡ codes "end" ∷ [] → header_line true ∷ host_line host.arch host.scope ∷ lines ≡ lines_2 g host
-text_2 g host lines l3 r3 r4 r5 l6 r6 r7 n m t3 is3 count3 t4 t5 t6 is6 count6 t7 t8 =
+    → r5 ≡ l6 ∷ r6 → l6 ≡ number_line (codes "past") m → length host.past ≡ m → r6 ≡ flat_map (past_lines g) host.past ++ r7 → r7 ≡ codes "end" ∷ [] → header_line (Later owners) ∷ host_line host.arch host.scope ∷ lines ≡ lines_2 owners g host
+text_2 owners g host lines l3 r3 r4 r5 l6 r6 r7 n m t3 is3 count3 t4 t5 t6 is6 count6 t7 t8 =
     let classes = class_lines host.sysext_hier host.confext_hier in
     let sections = section_lines g (present host) in
     let tail : r5 ≡ number_line (codes "past") (length host.past) ∷ (flat_map (past_lines g) host.past ++ codes "end" ∷ []) =
     t6 ∙ (λ i. is6 i ∷ t7 i) ∙ (λ i. number_line (codes "past") (sym count6 i) ∷ (flat_map (past_lines g) host.past ++ t8 i)) in
-    ap (λ ls. header_line true ∷ host_line host.arch host.scope ∷ ls) (t3 ∙ (λ i. is3 i ∷ t4 i) ∙ (λ i. number_line (codes "hierarchies") (sym count3 i) ∷ (classes ++ t5 i)) ∙ ap (λ r. number_line (codes "hierarchies") (length host.sysext_hier + length host.confext_hier) ∷ (classes ++ (sections ++ r))) tail)
+    ap (λ ls. header_line (Later owners) ∷ host_line host.arch host.scope ∷ ls) (t3 ∙ (λ i. is3 i ∷ t4 i) ∙ (λ i. number_line (codes "hierarchies") (sym count3 i) ∷ (classes ++ t5 i)) ∙ ap (λ r. number_line (codes "hierarchies") (length host.sysext_hier + length host.confext_hier) ∷ (classes ++ (sections ++ r))) tail)
 
-read_2 : (g : ℕ) (e : SoFar) (arch : Arch) (scope : Scope) (lines : List (List ℕ)) → scope ≢ Portable → ToEnd g e (at (begun true arch scope) stages.Hierarchies) lines → IsHostRead g e true (header_line true ∷ host_line arch scope ∷ lines)
-read_2 g e arch scope lines other run =
-    let s = begun true arch scope in
+read_2 : (owners : Bool) (g : ℕ) (e : SoFar) (arch : Arch) (scope : Scope) (lines : List (List ℕ)) → scope ≢ Portable → ToEnd g e (at (begun (Later owners) arch scope) stages.Hierarchies) lines
+    → IsHostRead g e (Later owners) (header_line (Later owners) ∷ host_line arch scope ∷ lines)
+read_2 owners g e arch scope lines other run =
+    let s = begun (Later owners) arch scope in
     let three = first_line_of g e (at s stages.Hierarchies) lines (λ z. cc) run in
     let n = three.step.0 in
-    let classes = classes_read g e n s three.rest (no_classes true arch scope) (subst (λ r. ToEnd g e r three.rest) three.step.4 three.run) in
+    let classes = classes_read g e n s three.rest (no_classes (Later owners) arch scope) (subst (λ r. ToEnd g e r three.rest) three.step.4 three.run) in
     let many = three.step.1 in
     let some = classes.some (omega arith) in
     let s4 = with_classes s classes.sysext classes.confext in
@@ -128,7 +134,7 @@ read_2 g e arch scope lines other run =
     record {
       host = host;
       is = ap host_of (sym end.1) ∙ past.host;
-      number = ap (λ (z : SoFar). z.two) (sym end.1) ∙ past.two;
+      number = ap (λ (z : SoFar). z.text) (sym end.1) ∙ past.number;
       formed = record { sysext_hier = classes.are.sysext_names; confext_hier = classes.are.confext_names; now = now.are.formed; past = past.formed };
       listed = record {
         scope = other;
@@ -140,14 +146,15 @@ read_2 g e arch scope lines other run =
         past_before = past.before;
         homes = homes_of g host (now.roots ∷ now.lowers ∷ past.rows) (λ i. rows_of now.roots ∷ rows_of now.lowers ∷ past.trees i) (now.are.root_lines, (now.are.lower_lines, past.have_lines)) (now.are.root_agree, (now.are.lower_agree, past.agree));
       };
-      text_1 = λ wrong. absurd (true≢false wrong);
-      text = text_2 g host lines three.line three.rest classes.rest now.rest six.line six.rest past.rest n six.step.0 three.text three.step.3 classes.count classes.text now.text six.text six.step.2 past.count past.text end.0;
+      told = record { now = now.are.told; past = past.told };
+      text_1 = λ wrong. absurd (later_not_one owners wrong);
+      whole = text_2 owners g host lines three.line three.rest classes.rest now.rest six.line six.rest past.rest n six.step.0 three.text three.step.3 classes.count classes.text now.text six.text six.step.2 past.count past.text end.0;
     }
 
-read_1 : (g : ℕ) (e : SoFar) (arch : Arch) (scope : Scope) (lines : List (List ℕ)) → scope ≢ Portable → ToEnd g e (at_part (with_defaults (begun false arch scope)) parts.Sysext) lines → IsHostRead g e false (header_line false ∷ host_line arch scope ∷ lines)
+read_1 : (g : ℕ) (e : SoFar) (arch : Arch) (scope : Scope) (lines : List (List ℕ)) → scope ≢ Portable → ToEnd g e (at_part (with_defaults (begun One arch scope)) parts.Sysext) lines → IsHostRead g e One (header_line One ∷ host_line arch scope ∷ lines)
 read_1 g e arch scope lines other run =
-    let s = with_defaults (begun false arch scope) in
-    let classes = defaults_are_classes (begun false arch scope) in
+    let s = with_defaults (begun One arch scope) in
+    let classes = defaults_are_classes (begun One arch scope) in
     let now = parts_read g e s lines run in
     let s5 = host_done (so_far_after s now.tree now.roots now.lowers) in
     let end = end_read g e s5 now.rest now.run in
@@ -155,7 +162,7 @@ read_1 g e arch scope lines other run =
     record {
       host = host;
       is = ap host_of (sym end.1);
-      number = ap (λ (z : SoFar). z.two) (sym end.1);
+      number = ap (λ (z : SoFar). z.text) (sym end.1);
       formed = record { sysext_hier = classes.sysext_names; confext_hier = classes.confext_names; now = now.are.formed; past = tt };
       listed = record {
         scope = other;
@@ -167,30 +174,31 @@ read_1 g e arch scope lines other run =
         past_before = tt;
         homes = homes_of g host (now.roots ∷ now.lowers ∷ []) refl (now.are.root_lines, (now.are.lower_lines, tt)) (now.are.root_agree, (now.are.lower_agree, tt));
       };
+      told = record { now = now.are.told; past = tt };
       text_1 = λ _. record { sysext_hier = refl; confext_hier = refl; past = refl };
-      text = ap (λ ls. header_line false ∷ host_line arch scope ∷ ls) (now.text ∙ ap (λ r. section_lines g (present host) ++ r) end.0);
+      whole = ap (λ ls. header_line One ∷ host_line arch scope ∷ ls) (now.text ∙ ap (λ r. section_lines g (present host) ++ r) end.0);
     }
 
-read_machine : (g : ℕ) (e : SoFar) (two : Bool) (arch : Arch) (scope : Scope) (lines : List (List ℕ)) → scope ≢ Portable → ToEnd g e (then_machine (begun two arch scope)) lines → IsHostRead g e two (header_line two ∷ host_line arch scope ∷ lines)
-read_machine g e true arch scope lines other run = read_2 g e arch scope lines other run
-read_machine g e false arch scope lines other run = read_1 g e arch scope lines other run
+read_machine : (g : ℕ) (e : SoFar) (text : TextNumber) (arch : Arch) (scope : Scope) (lines : List (List ℕ)) → scope ≢ Portable → ToEnd g e (then_machine (begun text arch scope)) lines → IsHostRead g e text (header_line text ∷ host_line arch scope ∷ lines)
+read_machine g e One arch scope lines other run = read_1 g e arch scope lines other run
+read_machine g e (Later owners) arch scope lines other run = read_2 owners g e arch scope lines other run
 
 -- what the lines say, and as the text of which number
 record IsWholeRead (g : ℕ) (e : SoFar) (lines : List (List ℕ)) : Type 0 where
-  two : Bool
-  read : IsHostRead g e two lines
+  text : TextNumber
+  read : IsHostRead g e text lines
 
 read_whole : (g : ℕ) (e : SoFar) (lines : List (List ℕ)) → ToEnd g e start lines → IsWholeRead g e lines
 read_whole g e lines run =
     let one = first_line_of g e start lines (λ z. cc) run in
-    let two = one.step.0 in
-    let s1 = record start.so_far { two = two } in
+    let text = one.step.0 in
+    let s1 = record start.so_far { text = text } in
     let second = first_line_of g e (at s1 stages.Machine) one.rest (λ z. cc) (subst (λ r. ToEnd g e r one.rest) one.step.2 one.run) in
     let arch = second.step.0 in
     let scope = second.step.1 in
-    let read = read_machine g e two arch scope second.rest second.step.2 (subst (λ r. ToEnd g e r second.rest) second.step.4 second.run) in
-    let same : header_line two ∷ host_line arch scope ∷ second.rest ≡ lines = sym (one.text ∙ (λ i. one.step.1 i ∷ second.text i) ∙ (λ i. header_line two ∷ second.step.3 i ∷ second.rest)) in
-    record { two = two; read = subst (IsHostRead g e two) same read }
+    let read = read_machine g e text arch scope second.rest second.step.2 (subst (λ r. ToEnd g e r second.rest) second.step.4 second.run) in
+    let same : header_line text ∷ host_line arch scope ∷ second.rest ≡ lines = sym (one.text ∙ (λ i. one.step.1 i ∷ second.text i) ∙ (λ i. header_line text ∷ second.step.3 i ∷ second.rest)) in
+    record { text = text; read = subst (IsHostRead g e text) same read }
 
 -- what lines say is what they list
 pub said_is_listed : (g : ℕ) (bytes : List ℕ) (said : Said) → g ≤ 4294967295 → IsSaid g bytes said → IsListing g bytes said
@@ -198,10 +206,11 @@ said_is_listed g bytes said last is =
     let whole = read_whole g is.so_far is.through.lines is.through.runs in
     let read = whole.read in
     let host : read.host ≡ said.host = sym (is.host ∙ read.is) in
-    let two : whole.two ≡ said.two = sym (is.two ∙ read.number) in
+    let text : whole.text ≡ said.text = sym (is.number ∙ read.number) in
     record {
       formed = subst IsWellFormed host read.formed;
       listed = subst (IsListedHost g) host read.listed;
-      text_1 = λ one. subst IsOfText1 host (read.text_1 (two ∙ one));
-      text = is.through.text ∙ ap lines_text read.text ∙ (λ i. index_text (two i) g (host i));
+      told = subst (λ (t : TextNumber). IsToldHost t said.host) text (subst (IsToldHost whole.text) host read.told);
+      text_1 = λ one. subst IsOfText1 host (read.text_1 (text ∙ one));
+      text = is.through.text ∙ ap lines_text read.whole ∙ (λ i. index_text (text i) g (host i));
     }

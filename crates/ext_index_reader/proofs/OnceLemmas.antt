@@ -19,6 +19,8 @@ use Rattle.ext_tree.specs.declared.entry.Entry.{Entry}
 use Rattle.ext_tree.proofs.ForCallers.{digest_once, line_injective, number_once}
 use Rattle.ext_index_lines.specs.Homed.{HasHomedLine, homed_form, homed_line}
 use Rattle.ext_index_lines.specs.Lines.{IsLinePath, attachment_line, header_line, hierarchy_line, host_line, item_line, manifest_line, number_line, path_line, worded}
+use Rattle.ext_index_lines.specs.declared.text_number.TextNumber.{TextNumber}
+use Rattle.ext_index_lines.specs.declared.text_number.TextNumber.TheVariants.{One, Later}
 use Rattle.ext_index_lines.specs.declared.homed.Homed.{Homed}
 use Rattle.ext_index_lines.proofs.ForCallers.{after_once, arch_lacks, homed_once}
 
@@ -101,11 +103,16 @@ host_once a b s t e =
     let parts = split_once 32 (arch_name a) (arch_name b) (scope_name s) (scope_name t) (arch_lacks a) (arch_lacks b) (after_once (codes "host") _ _ e) in
     (sym (arch_same a) ∙ ap arch_back parts.0 ∙ arch_same b, sym (scope_same s) ∙ ap scope_back parts.1 ∙ scope_same t)
 
-pub header_once : (x y : Bool) → header_line x ≡ header_line y → x ≡ y
-header_once true true e = refl
-header_once true false e = absurd (let h : 50 ∷ [] ≡ 49 ∷ [] = ap (drop 14) e in other_first 50 49 [] [] (λ z. omega arith) h)
-header_once false true e = absurd (let h : 49 ∷ [] ≡ 50 ∷ [] = ap (drop 14) e in other_first 49 50 [] [] (λ z. omega arith) h)
-header_once false false e = refl
+pub header_once : (x y : TextNumber) → header_line x ≡ header_line y → x ≡ y
+header_once One One e = refl
+header_once One (Later false) e = absurd (let h : 49 ∷ [] ≡ 50 ∷ [] = ap (drop 14) e in other_first 49 50 [] [] (λ z. omega arith) h)
+header_once One (Later true) e = absurd (let h : 49 ∷ [] ≡ 51 ∷ [] = ap (drop 14) e in other_first 49 51 [] [] (λ z. omega arith) h)
+header_once (Later false) One e = absurd (let h : 50 ∷ [] ≡ 49 ∷ [] = ap (drop 14) e in other_first 50 49 [] [] (λ z. omega arith) h)
+header_once (Later false) (Later false) e = refl
+header_once (Later false) (Later true) e = absurd (let h : 50 ∷ [] ≡ 51 ∷ [] = ap (drop 14) e in other_first 50 51 [] [] (λ z. omega arith) h)
+header_once (Later true) One e = absurd (let h : 51 ∷ [] ≡ 49 ∷ [] = ap (drop 14) e in other_first 51 49 [] [] (λ z. omega arith) h)
+header_once (Later true) (Later false) e = absurd (let h : 51 ∷ [] ≡ 50 ∷ [] = ap (drop 14) e in other_first 51 50 [] [] (λ z. omega arith) h)
+header_once (Later true) (Later true) e = refl
 
 pub where_once : (x y : Bool) (m n : ℕ) → m ≤ 4294967295 → n ≤ 4294967295 → attachment_line x m ≡ attachment_line y n → (x ≡ y) × (m ≡ n)
 where_once true true m n p q e = (refl, number_same (codes "run") m n p q (after_once (codes "a") _ _ e))

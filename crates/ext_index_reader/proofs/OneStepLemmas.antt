@@ -18,6 +18,8 @@ use Rattle.ext_text.specs.declared.scope.Scope.TheVariants as scopes
 use Rattle.ext_tree.specs.declared.entry.Entry.{Entry}
 use Rattle.ext_index_lines.specs.Homed.{homed_form}
 use Rattle.ext_index_lines.specs.Lines.{IsLinePath, attachment_line, header_line, number_line, path_line, worded}
+use Rattle.ext_index_lines.specs.declared.text_number.TextNumber.{TextNumber}
+use Rattle.ext_index_lines.specs.declared.text_number.TextNumber.TheVariants.{One, Later}
 use Rattle.ext_index_lines.specs.declared.homed.Homed.{Homed}
 use Rattle.ext_index_reader.specs.State.{at, at_part, then_added, then_attached, then_confext, then_hierarchies, then_items, then_kept, then_lower, then_machine, then_past, then_root, then_sysext, with_confext_hier, with_lower, with_root, with_sysext_hier}
 use Rattle.ext_index_reader.specs.Step.{AttachedAt, ConfextAt, PartStepsAt, StepsThrough, Steps, StepsAt, SysextAt}
@@ -89,7 +91,7 @@ part_once g s parts.Lower line t u p q = number_step (codes "lower") line (then_
 part_once g s (parts.LowerEntry more) line t u p q = p.6 ∙ ap (λ (x : List (List ℕ) × Entry Homed). then_lower (with_lower s x) more) (entry_once p.0 q.0 p.1 q.1 (sym p.5 ∙ q.5)) ∙ sym q.6
 
 one_step_at : (g : ℕ) (s : SoFar) (stage : Stage) (line : List ℕ) (t u : Reading) → g ≤ 4294967295 → StepsAt g s stage line t → StepsAt g s stage line u → t ≡ u
-one_step_at g s stages.Header line t u last p q = p.2 ∙ ap (λ two. at (record s { two = two }) stages.Machine) (header_once p.0 q.0 (sym p.1 ∙ q.1)) ∙ sym q.2
+one_step_at g s stages.Header line t u last p q = p.2 ∙ ap (λ (text : TextNumber). at (record s { text = text }) stages.Machine) (header_once p.0 q.0 (sym p.1 ∙ q.1)) ∙ sym q.2
 one_step_at g s stages.Machine line t u last p q =
     let same = host_once p.0 q.0 p.1 q.1 (sym p.3 ∙ q.3) in
     p.4 ∙ (λ i. then_machine (record s { arch = same.0 i; scope = same.1 i })) ∙ sym q.4
@@ -135,9 +137,10 @@ scope_plain scopes.System = lacks_by 10 (scope_name scopes.System) refl
 scope_plain scopes.Initrd = lacks_by 10 (scope_name scopes.Initrd) refl
 scope_plain scopes.Portable = lacks_by 10 (scope_name scopes.Portable) refl
 
-header_plain : (two : Bool) → Lacks 10 (header_line two)
-header_plain true = lacks_by 10 (header_line true) refl
-header_plain false = lacks_by 10 (header_line false) refl
+header_plain : (text : TextNumber) → Lacks 10 (header_line text)
+header_plain One = lacks_by 10 (header_line One) refl
+header_plain (Later false) = lacks_by 10 (header_line (Later false)) refl
+header_plain (Later true) = lacks_by 10 (header_line (Later true)) refl
 
 where_plain : (runtime : Bool) (n : ℕ) → n ≤ 4294967295 → Lacks 10 (attachment_line runtime n)
 where_plain true n few = word_lacks (codes "a") (number_line (codes "run") n) (lacks_by 10 (codes "a") refl) (number_lacks (codes "run") n (lacks_by 10 (codes "run") refl) few)

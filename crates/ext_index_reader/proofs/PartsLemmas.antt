@@ -1,6 +1,6 @@
 -- The parts of a host, or of a past tree, read and printed.
 use Rattle.std.proofs.Common.{◌≡◌, ℕ, ◌+◌, ◌≤◌, true, false, cond, List, [], ◌∷◌, ◌++◌, length, Option, Some, None, IfSome, IsTrue, is_some, refl, sym, ap, ◌∙◌, subst, arith, codes, append_assoc}
-use Rattle.std.specs.Prelude.{map}
+use Rattle.std.specs.Prelude.{◌||◌, map}
 use Rattle.std.proofs.lemmas.Bool.{false≢true}
 use Rattle.std.specs.List.{AllByRecursion}
 use Rattle.std.specs.Ordering.{eq_by_cmp}
@@ -8,7 +8,7 @@ use Rattle.ext_text.specs.Digest.{IsDigest}
 use Rattle.ext_text.specs.Path.{IsPath, path_cmp}
 use Rattle.ext_text.proofs.ForCallers.{all_weaker, same_path}
 use Rattle.ext_tree.specs.EntryLine.{IsWritable}
-use Rattle.ext_tree.specs.Tree.{Entries, IsTree, lookup}
+use Rattle.ext_tree.specs.Tree.{Entries, IsTree, is_plain_entry, lookup}
 use Rattle.ext_tree.specs.declared.entry.Entry.{Entry}
 use Rattle.ext_tree.specs.declared.entry.Entry.TheVariants.{Dir, Opaque, File, Link, Hide}
 use Rattle.ext_text.specs.Order.{paths_total}
@@ -21,9 +21,11 @@ use Rattle.ext_host.specs.declared.manifest.Item.{Item}
 use Rattle.ext_host.specs.declared.manifest.Manifest.{Manifest}
 use Rattle.ext_index_lines.specs.Homed.{HasHomedLine, homed_form}
 use Rattle.ext_index_lines.specs.Homes.{kept_entry}
+use Rattle.ext_index_lines.specs.Lines.{may_tell, tells_owners}
 use Rattle.ext_index_lines.specs.declared.homed.Homed.{Homed}
+use Rattle.ext_index_lines.specs.declared.text_number.TextNumber.{TextNumber}
 use Rattle.ext_index_reader.specs.Index.{merged_lines, section_lines, listed_tree_lines}
-use Rattle.ext_index_reader.specs.Listed.{IsListedTree, IsWellFormedManifest, IsWellFormedTree}
+use Rattle.ext_index_reader.specs.Listed.{AreTold, IsListedTree, IsToldTree, IsWellFormedManifest, IsWellFormedTree}
 use Rattle.ext_index_reader.specs.State.{after_parts, at_part, hierarchies_so_far, no_parts, row_of}
 use Rattle.ext_index_reader.specs.Step.{most_count}
 use Rattle.ext_index_reader.specs.declared.state.PartStage.TheVariants as parts
@@ -64,14 +66,33 @@ all_unmap P f (x ∷ xs) all = (all.0, all_unmap P f xs all.1)
 
 -- an entry that has a line is in range
 in_range : (e : Entry Homed) → IsWritable homed_form e → IsWritable held_form (kept_entry e)
-in_range (Dir mode) is = is
-in_range (Opaque mode) is = is
-in_range (File mode file) is = (is.0, is.1.stamp)
-in_range (Link target) is = is
+in_range (Dir attributes) is = is
+in_range (Opaque attributes) is = is
+in_range (File attributes file) is = (is.0, is.1.stamp)
+in_range (Link owner target) is = is
 in_range Hide is = tt
 
 rows_in_range : (xs : List Row) → AllByRecursion HasHomedLine xs → AreInRange (rows_of xs)
 rows_in_range xs lines = all_map (λ e. IsWritable held_form e.1) row_of xs (all_weaker HasHomedLine (λ (x : Row). IsWritable held_form (kept_entry x.1)) (λ x has. in_range x.1 has.writable) xs lines)
+
+-- as the host has it, an entry tells what its line tells
+plain_kept : (e : Entry Homed) → is_plain_entry (kept_entry e) ≡ is_plain_entry e
+plain_kept (Dir attributes) = refl
+plain_kept (Opaque attributes) = refl
+plain_kept (File attributes file) = refl
+plain_kept (Link owner target) = refl
+plain_kept Hide = refl
+
+told_kept : (text : TextNumber) (e : Entry Homed) → may_tell text (kept_entry e) ≡ may_tell text e
+told_kept text e = ap (λ b. b || tells_owners text) (plain_kept e)
+
+rows_told : (text : TextNumber) (xs : List Row) → AllByRecursion (λ (x : Row). IsTrue (may_tell text x.1)) xs → AreTold text (rows_of xs)
+rows_told text [] told = tt
+rows_told text (x ∷ xs) told = (told_kept text x.1 ∙ told.0, rows_told text xs told.1)
+
+told_rows : (text : TextNumber) (xs : List Row) → AreTold text (rows_of xs) → AllByRecursion (λ (x : Row). IsTrue (may_tell text x.1)) xs
+told_rows text [] told = tt
+told_rows text (x ∷ xs) told = (sym (told_kept text x.1) ∙ told.0, told_rows text xs told.1)
 
 regrouped : (a b c d f h rest : List (List ℕ)) → a ++ (b ++ (c ++ (d ++ (f ++ (h ++ rest))))) ≡ (a ++ (b ++ ((c ++ d) ++ (f ++ h)))) ++ rest
 regrouped a b c d f h rest = sym (simp append_assoc)
@@ -103,6 +124,7 @@ pub record IsPartsOf (g : ℕ) (s : SoFar) (tree : HostTree) (roots lowers : Lis
   pub lower_lines : AllByRecursion HasHomedLine lowers
   pub root_agree : AllAgree g s.homes roots
   pub lower_agree : AllAgree g (noted_all s.homes roots) lowers
+  pub told : IsToldTree s.text (tree_with tree roots lowers)
 
 pub record PartsRead (g : ℕ) (e s : SoFar) (lines : List (List ℕ)) : Type 0 where
   pub tree : HostTree
@@ -166,6 +188,7 @@ parts_read g e s lines run =
         lower_lines = six.facts.lines;
         root_agree = five.facts.agree;
         lower_agree = six.facts.agree;
+        told = record { root = rows_told s.text five.items five.facts.told; lower = rows_told s.text six.items six.facts.told };
       };
     }
   where
@@ -208,13 +231,14 @@ parts_run g e s tree roots lowers rest are few run =
     let limits = listed.limits in
     let entries = limits.entries in
     let bytes = limits.bytes in
-    let root_facts : RootFacts g e s4 roots = record { tree = formed.root; entries = omega arith; bytes = omega arith; lines = are.root_lines; agree = are.root_agree } in
+    let root_facts : RootFacts g e s4 roots = record { tree = formed.root; entries = omega arith; bytes = omega arith; lines = are.root_lines; agree = are.root_agree; told = told_rows s.text roots are.told.root } in
     let lower_facts : LowerFacts g e (with_roots g e s4 roots) lowers = record {
       tree = formed.lower;
       entries = omega arith;
       bytes = omega arith;
       lines = are.lower_lines;
       agree = are.lower_agree;
+      told = told_rows s.text lowers are.told.lower;
       within = all_unmap (λ x. IsTrue (is_in (merged_hierarchies (hierarchies_so_far s) tree) x.0)) row_of lowers (each_there (rows_of lowers) formed.lower listed.lower);
     } in
     let six = lower_run g e (with_roots g e s4 roots) lowers rest lower_facts run in

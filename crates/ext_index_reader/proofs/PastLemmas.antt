@@ -11,7 +11,7 @@ use Rattle.ext_host.specs.Valid.{AreAscending, most_past}
 use Rattle.ext_host.specs.declared.past.Past.{Past}
 use Rattle.ext_index_lines.specs.Lines.{number_line}
 use Rattle.ext_index_reader.specs.Index.{past_lines, section_lines}
-use Rattle.ext_index_reader.specs.Listed.{IsListedTree, IsWellFormedTree}
+use Rattle.ext_index_reader.specs.Listed.{IsListedTree, IsToldTree, IsWellFormedTree}
 use Rattle.ext_index_reader.specs.State.{at, hierarchies_so_far, host_of, no_parts, past_done, then_past}
 use Rattle.ext_index_reader.specs.declared.state.SoFar.{SoFar}
 use Rattle.ext_index_reader.specs.declared.state.Stage.TheVariants as stages
@@ -48,12 +48,13 @@ module _ (g : ℕ) (e : SoFar) where
     pub text : lines ≡ flat_map (past_lines g) items ++ rest
     pub run : ToEnd g e (at next stages.End) rest
     pub host : host_of next ≡ record (host_of s) { past = s.past ++ items }
-    pub two : next.two ≡ s.two
+    pub number : next.text ≡ s.text
     pub trees : flat_map trees_in items ≡ map rows_of rows
     pub have_lines : TreesHaveLines rows
     pub agree : TreesAgree g s.homes rows
     pub formed : AllByRecursion (λ (past : Past). IsWellFormedTree (past_tree past)) items
     pub listed : AllByRecursion (λ (past : Past). IsListedTree (hierarchies_so_far s) (past_tree past)) items
+    pub told : AllByRecursion (λ (past : Past). IsToldTree s.text (past_tree past)) items
     pub before : AllByRecursion (λ (past : Past). (0 < past.generation) × (past.generation < g)) items
     pub few : length (s.past ++ items) ≤ most_past
     pub order : AreAscending nat_cmp (map generation_of (s.past ++ items))
@@ -68,12 +69,13 @@ module _ (g : ℕ) (e : SoFar) where
     text = refl;
     run = run;
     host = λ i. record (host_of s) { past = sym (append-nil s.past) i };
-    two = refl;
+    number = refl;
     trees = refl;
     have_lines = tt;
     agree = tt;
     formed = tt;
     listed = tt;
+    told = tt;
     before = tt;
     few = subst (λ (ps : List Past). length ps ≤ most_past) (sym (append-nil s.past)) few;
     order = subst (λ (ps : List Past). AreAscending nat_cmp (map generation_of ps)) (sym (append-nil s.past)) order;
@@ -97,12 +99,13 @@ module _ (g : ℕ) (e : SoFar) where
         text = text_of lines first.line first.rest p.rest next.rest n p.tree p.roots p.lowers next.items first.text first.step.4 p.text next.text;
         run = next.run;
         host = next.host ∙ (λ i. record (host_of s) { past = shape i });
-        two = next.two;
+        number = next.number;
         trees = (λ i. rows_of p.roots ∷ rows_of p.lowers ∷ next.trees i);
         have_lines = (p.are.root_lines, (p.are.lower_lines, next.have_lines));
         agree = (p.are.root_agree, (p.are.lower_agree, next.agree));
         formed = (p.are.formed, next.formed);
         listed = (p.are.listed, next.listed);
+        told = (p.are.told, next.told);
         before = ((first.step.1, first.step.2), next.before);
         few = subst (λ (ps : List Past). length ps ≤ most_past) shape next.few;
         order = subst (λ (ps : List Past). AreAscending nat_cmp (map generation_of ps)) shape next.order;

@@ -13,7 +13,7 @@ use Rattle.ext_host.specs.Host.{is_in}
 use Rattle.ext_host.specs.Valid.{all_bytes, bytes_of, most_bytes}
 use Rattle.ext_index_lines.specs.Homed.{HasHomedLine, homed_line}
 use Rattle.ext_index_lines.specs.Homes.{kept_entry, line_of_entry, listed_entry}
-use Rattle.ext_index_lines.specs.Lines.{number_line}
+use Rattle.ext_index_lines.specs.Lines.{may_tell, number_line}
 use Rattle.ext_index_lines.specs.declared.homed.Homed.{Homed}
 use Rattle.ext_index_reader.specs.Index.{listed_tree_lines}
 use Rattle.ext_index_reader.specs.Homes.{Agrees, Stamps, noted}
@@ -48,10 +48,10 @@ tree_prefix es (x ∷ more) tree = pop_tree es x.0 x.1 (tree_prefix (es ++ x ∷
 
 -- an entry that was read is listed as it was
 listed_kept : (g : ℕ) (e : Entry Homed) → listed_entry g (kept_entry e) ≡ e
-listed_kept g (Dir mode) = refl
-listed_kept g (Opaque mode) = refl
-listed_kept g (File mode file) = refl
-listed_kept g (Link target) = refl
+listed_kept g (Dir attributes) = refl
+listed_kept g (Opaque attributes) = refl
+listed_kept g (File attributes file) = refl
+listed_kept g (Link owner target) = refl
 listed_kept g Hide = refl
 
 pub lines_of_rows : (g : ℕ) (xs : List Row) → map homed_line xs ≡ map (line_of_entry g) (rows_of xs)
@@ -102,6 +102,7 @@ module _ (g : ℕ) (e : SoFar) where
     pub bytes : s.parts.bytes + all_bytes (rows_of xs) ≤ most_bytes
     pub lines : AllByRecursion HasHomedLine xs
     pub agree : AllAgree g s.homes xs
+    pub told : AllByRecursion (λ (x : Row). IsTrue (may_tell s.text x.1)) xs
 
   root_facts : (s : SoFar) (xs : List Row) → IsTree s.parts.root → length s.parts.root + length s.parts.lower ≤ most_entries → s.parts.bytes ≤ most_bytes → AllMay with_root MayRoot s xs → RootFacts s xs
   root_facts s [] tree entries bytes may = record {
@@ -110,6 +111,7 @@ module _ (g : ℕ) (e : SoFar) where
     bytes = omega arith;
     lines = tt;
     agree = tt;
+    told = tt;
   }
   root_facts s (x ∷ xs) tree entries bytes may =
       let room = may.0.1.room in
@@ -121,6 +123,7 @@ module _ (g : ℕ) (e : SoFar) where
         bytes = omega (arith, rest.bytes, bytes_cons x xs);
         lines = (may.0.0, rest.lines);
         agree = ((may.0.1.up_to, may.0.1.agrees), rest.agree);
+        told = (may.0.1.told, rest.told);
       }
 
   -- of what that holds they may be read
@@ -133,13 +136,14 @@ module _ (g : ℕ) (e : SoFar) where
       let entries = facts.entries in
       let bytes = facts.bytes in
       let sum = bytes_cons x xs in (
-        (facts.lines.0, record { up_to = facts.agree.0.0; agrees = facts.agree.0.1; room = record { entries = omega arith; bytes = omega arith } }, tree_prefix (s.parts.root ++ row_of x ∷ []) (rows_of xs) tree),
+        (facts.lines.0, record { told = facts.told.0; up_to = facts.agree.0.0; agrees = facts.agree.0.1; room = record { entries = omega arith; bytes = omega arith } }, tree_prefix (s.parts.root ++ row_of x ∷ []) (rows_of xs) tree),
         root_may (with_root s x) xs (record {
           tree = tree;
           entries = subst (λ (es : Entries HeldFile). length es + length s.parts.lower ≤ most_entries) (sym shape) facts.entries;
           bytes = omega arith;
           lines = facts.lines.1;
           agree = facts.agree.1;
+          told = facts.told.1;
         }),
       )
 
@@ -215,6 +219,7 @@ module _ (g : ℕ) (e : SoFar) where
     pub bytes : s.parts.bytes + all_bytes (rows_of xs) ≤ most_bytes
     pub lines : AllByRecursion HasHomedLine xs
     pub agree : AllAgree g s.homes xs
+    pub told : AllByRecursion (λ (x : Row). IsTrue (may_tell s.text x.1)) xs
     pub within : AllByRecursion (λ (x : Row). IsTrue (is_in (merged_so_far s) x.0)) xs
 
   lower_facts : (s : SoFar) (xs : List Row) → IsTree s.parts.lower → length s.parts.lower + length s.parts.root ≤ most_entries → s.parts.bytes ≤ most_bytes → AllMay with_lower MayLower s xs → LowerFacts s xs
@@ -224,6 +229,7 @@ module _ (g : ℕ) (e : SoFar) where
     bytes = omega arith;
     lines = tt;
     agree = tt;
+    told = tt;
     within = tt;
   }
   lower_facts s (x ∷ xs) tree entries bytes may =
@@ -236,6 +242,7 @@ module _ (g : ℕ) (e : SoFar) where
         bytes = omega (arith, rest.bytes, bytes_cons x xs);
         lines = (may.0.0, rest.lines);
         agree = ((may.0.1.up_to, may.0.1.agrees), rest.agree);
+        told = (may.0.1.told, rest.told);
         within = (may.0.3, rest.within);
       }
 
@@ -249,13 +256,14 @@ module _ (g : ℕ) (e : SoFar) where
       let entries = facts.entries in
       let bytes = facts.bytes in
       let sum = bytes_cons x xs in (
-        (facts.lines.0, record { up_to = facts.agree.0.0; agrees = facts.agree.0.1; room = record { entries = omega arith; bytes = omega arith } }, tree_prefix (s.parts.lower ++ row_of x ∷ []) (rows_of xs) tree, facts.within.0),
+        (facts.lines.0, record { told = facts.told.0; up_to = facts.agree.0.0; agrees = facts.agree.0.1; room = record { entries = omega arith; bytes = omega arith } }, tree_prefix (s.parts.lower ++ row_of x ∷ []) (rows_of xs) tree, facts.within.0),
         lower_may (with_lower s x) xs (record {
           tree = tree;
           entries = subst (λ (es : Entries HeldFile). length es + length s.parts.root ≤ most_entries) (sym shape) facts.entries;
           bytes = omega arith;
           lines = facts.lines.1;
           agree = facts.agree.1;
+          told = facts.told.1;
           within = facts.within.1;
         }),
       )

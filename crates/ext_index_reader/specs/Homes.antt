@@ -46,16 +46,16 @@ noted_file stamps file = insert_entry home_cmp stamps (key_of file.home) file.st
 
 -- an entry's file has the stamp of its home, if there is one
 abbrev pub Agrees : Stamps → Entry Homed → Type 0
-Agrees stamps (Dir mode) = Unit {0}
-Agrees stamps (Opaque mode) = Unit {0}
-Agrees stamps (File mode file) = FileAgrees stamps file
-Agrees stamps (Link target) = Unit {0}
+Agrees stamps (Dir attributes) = Unit {0}
+Agrees stamps (Opaque attributes) = Unit {0}
+Agrees stamps (File attributes file) = FileAgrees stamps file
+Agrees stamps (Link owner target) = Unit {0}
 Agrees stamps Hide = Unit {0}
 
 -- with the home of an entry's file
 abbrev pub noted : Stamps → Entry Homed → Stamps
-noted stamps (Dir mode) = stamps
-noted stamps (Opaque mode) = stamps
-noted stamps (File mode file) = noted_file stamps file
-noted stamps (Link target) = stamps
+noted stamps (Dir attributes) = stamps
+noted stamps (Opaque attributes) = stamps
+noted stamps (File attributes file) = noted_file stamps file
+noted stamps (Link owner target) = stamps
 noted stamps Hide = stamps

@@ -27,8 +27,9 @@
 --     root K              then K lines of entries
 --     lower K             then K lines of entries
 --
--- Text 1 has no hierarchies and no past trees: its sections follow the line `host`, and `end` follows them.
-use Rattle.std.specs.Prelude.{ℕ, ◌+◌, Bool, true, false, if◌then◌else◌, List, [], ◌∷◌, ◌++◌, length, map, codes, Option, Some, None}
+-- Text 3 begins with `hostext-store 3` and is else text 2; lines of entries that tell an owner or a capability stand in it
+-- alone. Text 1 has no hierarchies and no past trees: its sections follow the line `host`, and `end` follows them.
+use Rattle.std.specs.Prelude.{ℕ, ◌+◌, Bool, List, [], ◌∷◌, ◌++◌, length, map, codes, Option, Some, None}
 use Rattle.std.specs.List.{flat_map}
 use Rattle.ext_lines.specs.Lines.{lines_text}
 use Rattle.ext_text.specs.declared.extension.Extension.TheVariants.{Sysext, Confext}
@@ -41,6 +42,8 @@ use Rattle.ext_host.specs.declared.manifest.Manifest.{Manifest}
 use Rattle.ext_host.specs.declared.past.Past.{Past}
 use Rattle.ext_host.specs.declared.host.Host.{Host}
 use Rattle.ext_index_lines.specs.Homes.{line_of_entry}
+use Rattle.ext_index_lines.specs.declared.text_number.TextNumber.{TextNumber}
+use Rattle.ext_index_lines.specs.declared.text_number.TextNumber.TheVariants.{One, Later}
 use Rattle.ext_index_lines.specs.Lines.{attachment_line, header_line, hierarchy_line, host_line, item_line, manifest_line, number_line, path_line, worded}
 
 -- the merged names of a class, or nothing
@@ -91,24 +94,25 @@ abbrev pub past_lines : ℕ → Past → List (List ℕ)
 past_lines generation past = number_line (codes "g") past.generation ∷ section_lines generation (past_tree past)
 
 -- the first line, and those of the machine
-abbrev pub machine_lines : Host → List (List ℕ)
-machine_lines host = header_line true ∷ host_line host.arch host.scope ∷ hierarchy_lines host
+abbrev pub machine_lines : Bool → Host → List (List ℕ)
+machine_lines owners host = header_line (Later owners) ∷ host_line host.arch host.scope ∷ hierarchy_lines host
 
--- the lines of each text
+-- the lines of text 1
 abbrev pub lines_1 : ℕ → Host → List (List ℕ)
-lines_1 generation host = header_line false ∷ host_line host.arch host.scope ∷ (section_lines generation (present host) ++ codes "end" ∷ [])
+lines_1 generation host = header_line One ∷ host_line host.arch host.scope ∷ (section_lines generation (present host) ++ codes "end" ∷ [])
 
--- the lines of text 2
-abbrev pub lines_2 : ℕ → Host → List (List ℕ)
-lines_2 generation host =
-    machine_lines host
+-- the lines of text 2, or of text 3
+abbrev pub lines_2 : Bool → ℕ → Host → List (List ℕ)
+lines_2 owners generation host =
+    machine_lines owners host
     ++ (section_lines generation (present host)
     ++ (number_line (codes "past") (length host.past) ∷ (flat_map (past_lines generation) host.past ++ codes "end" ∷ [])))
 
--- the lines of an index, as text 1 or 2
-abbrev pub index_lines : Bool → ℕ → Host → List (List ℕ)
-index_lines two generation host = if two then lines_2 generation host else lines_1 generation host
+-- the lines of an index, as one of the texts
+abbrev pub index_lines : TextNumber → ℕ → Host → List (List ℕ)
+index_lines One generation host = lines_1 generation host
+index_lines (Later owners) generation host = lines_2 owners generation host
 
--- the index of a host in a generation, as text 1 or 2
-abbrev pub index_text : Bool → ℕ → Host → List ℕ
-index_text two generation host = lines_text (index_lines two generation host)
+-- the index of a host in a generation, as one of the texts
+abbrev pub index_text : TextNumber → ℕ → Host → List ℕ
+index_text text generation host = lines_text (index_lines text generation host)

@@ -1,7 +1,8 @@
 -- The laws of reading the lines of an index, in the generations that there are.
-use Rattle.std.specs.Prelude.{◌≡◌, ℕ, ◌≤◌, false, List, length}
+use Rattle.std.specs.Prelude.{◌≡◌, ℕ, ◌≤◌, List, length}
+use Rattle.ext_index_lines.specs.declared.text_number.TextNumber.TheVariants.{One}
 use Rattle.ext_index_reader.specs.Index.{index_text}
-use Rattle.ext_index_reader.specs.Listed.{IsListedHost, IsOfText1, IsWellFormed}
+use Rattle.ext_index_reader.specs.Listed.{IsListedHost, IsOfText1, IsToldHost, IsWellFormed}
 use Rattle.ext_index_reader.specs.Reading.{IsSaid, RunsThrough, StopsAtLine}
 use Rattle.ext_index_reader.specs.declared.said.Said.{Said}
 use Rattle.ext_index_reader.specs.declared.state.SoFar.{SoFar}
@@ -23,8 +24,9 @@ OneStop = (g : ℕ) (bytes : List ℕ) (line other : ℕ) → g ≤ last_generat
 pub record IsListing (g : ℕ) (bytes : List ℕ) (said : Said) : Type 0 where
   pub formed : IsWellFormed said.host
   pub listed : IsListedHost g said.host
-  pub text_1 : said.two ≡ false → IsOfText1 said.host
-  pub text : bytes ≡ index_text said.two g said.host
+  pub told : IsToldHost said.text said.host
+  pub text_1 : said.text ≡ One → IsOfText1 said.host
+  pub text : bytes ≡ index_text said.text g said.host
 
 -- what lines say that run through is such a text of it
 abbrev pub SaidIsListed : Type 0

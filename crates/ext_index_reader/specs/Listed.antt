@@ -7,7 +7,7 @@ use Rattle.ext_text.specs.Name.{IsName}
 use Rattle.ext_text.specs.Path.{IsPath, path_cmp}
 use Rattle.ext_text.specs.declared.extension.Extension.TheVariants.{Sysext, Confext}
 use Rattle.ext_text.specs.declared.scope.Scope.TheVariants.{Portable}
-use Rattle.ext_tree.specs.Tree.{IsTree, lookup}
+use Rattle.ext_tree.specs.Tree.{Entries, IsTree, lookup}
 use Rattle.ext_host.specs.Drawn.{IsFileOf, trees_of}
 use Rattle.ext_host.specs.Held.{HeldFile}
 use Rattle.ext_host.specs.Host.{Hierarchies, HostTree, default_hierarchies, hierarchies_in, is_in, merged_hierarchies, past_tree, present}
@@ -20,6 +20,8 @@ use Rattle.ext_host.specs.declared.host.Host.{Host}
 use Rattle.ext_host.specs.declared.manifest.Item.{Item}
 use Rattle.ext_host.specs.declared.manifest.Manifest.{Manifest}
 use Rattle.ext_host.specs.declared.past.Past.{Past}
+use Rattle.ext_index_lines.specs.Lines.{may_tell}
+use Rattle.ext_index_lines.specs.declared.text_number.TextNumber.{TextNumber}
 
 -- its name is a name, and its paths are paths
 pub record IsWellFormedAttachment (attachment : Attachment) : Type 0 where
@@ -95,3 +97,17 @@ pub record IsOfText1 (host : Host) : Type 0 where
   pub sysext_hier : host.sysext_hier ≡ default_hierarchies Sysext
   pub confext_hier : host.confext_hier ≡ default_hierarchies Confext
   pub past : host.past ≡ []
+
+-- each entry of a tree has a line in the text
+abbrev pub AreTold : TextNumber → Entries HeldFile → Type 0
+AreTold text es = AllByRecursion (λ x. IsTrue (may_tell text x.1)) es
+
+-- each entry of both trees has
+pub record IsToldTree (text : TextNumber) (tree : HostTree) : Type 0 where
+  pub root : AreTold text tree.root
+  pub lower : AreTold text tree.lower
+
+-- what a text can say of owners and capabilities: texts 1 and 2 nothing
+pub record IsToldHost (text : TextNumber) (host : Host) : Type 0 where
+  pub now : IsToldTree text (present host)
+  pub past : AllByRecursion (λ past. IsToldTree text (past_tree past)) host.past

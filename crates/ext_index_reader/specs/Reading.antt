@@ -57,7 +57,7 @@ pub record IsSaid (g : ℕ) (bytes : List ℕ) (said : Said) : Type 0 where
   pub so_far : SoFar
   pub through : RunsThrough g bytes so_far
   pub host : said.host ≡ host_of so_far
-  pub two : said.two ≡ so_far.two
+  pub number : said.text ≡ so_far.text
 
 -- what was read where no more lines follow: all, at the end, or that the next line is missing
 abbrev pub Finishes : {A : Type 0} → Stage → List ℕ → ℕ → Result A IndexErr → Type 0

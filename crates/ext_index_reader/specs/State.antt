@@ -1,5 +1,5 @@
 -- How far an index has been read: the states between its lines.
-use Rattle.std.specs.Prelude.{ℕ, zero, suc, ◌+◌, false, if◌then◌else◌, List, [], ◌∷◌, ◌++◌, Some, None}
+use Rattle.std.specs.Prelude.{ℕ, zero, suc, ◌+◌, if◌then◌else◌, List, [], ◌∷◌, ◌++◌, Some, None}
 use Rattle.ext_text.specs.declared.arch.Arch.TheVariants.{X86}
 use Rattle.ext_text.specs.declared.extension.Extension.TheVariants.{Sysext, Confext}
 use Rattle.ext_text.specs.declared.scope.Scope.TheVariants.{System}
@@ -12,7 +12,9 @@ use Rattle.ext_host.specs.declared.manifest.Manifest.{Manifest}
 use Rattle.ext_host.specs.declared.past.Past.{Past}
 use Rattle.ext_host.specs.declared.host.Host.{Host}
 use Rattle.ext_index_lines.specs.Homes.{kept_entry}
+use Rattle.ext_index_lines.specs.Lines.{is_later}
 use Rattle.ext_index_lines.specs.declared.homed.Homed.{Homed}
+use Rattle.ext_index_lines.specs.declared.text_number.TextNumber.TheVariants.{One}
 use Rattle.ext_index_reader.specs.Homes.{noted}
 use Rattle.ext_index_reader.specs.declared.state.Parts.{Parts}
 use Rattle.ext_index_reader.specs.declared.state.PartStage.{PartStage}
@@ -38,7 +40,7 @@ at_part s stage = at s (stages.Part stage)
 
 -- before the first line
 abbrev pub start : Reading
-start = at (record { two = false; arch = X86; scope = System; sysext_hier = []; confext_hier = []; homes = []; host = no_parts; past = []; whose = whose.Host; parts = no_parts }) stages.Header
+start = at (record { text = One; arch = X86; scope = System; sysext_hier = []; confext_hier = []; homes = []; host = no_parts; past = []; whose = whose.Host; parts = no_parts }) stages.Header
 
 -- the parts as those of a host
 abbrev pub tree_of : Parts → HostTree
@@ -119,7 +121,7 @@ with_defaults s = record s { sysext_hier = default_hierarchies Sysext; confext_h
 
 -- after the line of the machine
 abbrev pub then_machine : SoFar → Reading
-then_machine s = if s.two then at s stages.Hierarchies else at_part (with_defaults s) parts.Sysext
+then_machine s = if is_later s.text then at s stages.Hierarchies else at_part (with_defaults s) parts.Sysext
 
 -- while so many more hierarchies are to come
 abbrev pub then_hierarchies : SoFar → ℕ → Reading
@@ -176,7 +178,7 @@ past_done s generation = record s { past = s.past ++ past_of generation s.parts 
 
 -- after the parts: of the host's own, or of a past tree
 abbrev pub after_parts : SoFar → Whose → Reading
-after_parts s whose.Host = if s.two then at (host_done s) stages.Past else at (host_done s) stages.End
+after_parts s whose.Host = if is_later s.text then at (host_done s) stages.Past else at (host_done s) stages.End
 after_parts s (whose.Past generation more) = then_past (past_done s generation) more
 
 -- while so many more entries that lie under them are to come

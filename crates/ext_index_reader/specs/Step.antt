@@ -22,8 +22,9 @@ use Rattle.ext_host.specs.declared.attachment.Attachment.{Attachment}
 use Rattle.ext_host.specs.declared.past.Past.{Past}
 use Rattle.ext_index_lines.specs.Homed.{HasHomedLine, homed_line}
 use Rattle.ext_index_lines.specs.Homes.{kept_entry}
-use Rattle.ext_index_lines.specs.Lines.{IsLinePath, attachment_line, header_line, hierarchy_line, host_line, item_line, manifest_line, number_line, path_line, worded}
+use Rattle.ext_index_lines.specs.Lines.{IsLinePath, attachment_line, header_line, hierarchy_line, host_line, item_line, manifest_line, may_tell, number_line, path_line, worded}
 use Rattle.ext_index_lines.specs.declared.homed.Homed.{Homed}
+use Rattle.ext_index_lines.specs.declared.text_number.TextNumber.{TextNumber}
 use Rattle.ext_index_reader.specs.Following.{may_follow, may_follow_apart}
 use Rattle.ext_index_reader.specs.Homes.{Agrees}
 use Rattle.ext_index_reader.specs.State.{at, at_part, counted, merged_so_far, row_of, then_added, then_attached, then_confext, then_hierarchies, then_items, then_kept, then_lower, then_machine, then_past, then_root, then_sysext, with_confext_hier, with_lower, with_root, with_sysext_hier}
@@ -74,10 +75,10 @@ OneMoreConfext s t more name (Some stage) = MayConfext s more name × (at t stag
 
 -- the file, if it is one, is kept in this generation or in one before
 abbrev pub IsUpTo : ℕ → Entry Homed → Type 0
-IsUpTo g (Dir mode) = Unit {0}
-IsUpTo g (Opaque mode) = Unit {0}
-IsUpTo g (File mode file) = file.home.generation ≤ g
-IsUpTo g (Link target) = Unit {0}
+IsUpTo g (Dir attributes) = Unit {0}
+IsUpTo g (Opaque attributes) = Unit {0}
+IsUpTo g (File attributes file) = file.home.generation ≤ g
+IsUpTo g (Link owner target) = Unit {0}
 IsUpTo g Hide = Unit {0}
 
 -- there is room for one more entry in both trees together
@@ -87,6 +88,7 @@ pub record HasRoom (s : SoFar) (e : Entry Homed) : Type 0 where
 
 -- an entry of either tree
 pub record MayEnter (g : ℕ) (s : SoFar) (e : Entry Homed) : Type 0 where
+  pub told : IsTrue (may_tell s.text e)
   pub up_to : IsUpTo g e
   pub agrees : Agrees s.homes e
   pub room : HasRoom s e
@@ -196,7 +198,7 @@ pub record MayBePast (s : SoFar) (n : ℕ) : Type 0 where
 
 -- which line may stand next, and what is read then
 abbrev pub StepsAt : ℕ → SoFar → Stage → List ℕ → Reading → Type 0
-StepsAt g s stages.Header line t = (two : Bool) × (line ≡ header_line two) × (t ≡ at (record s { two = two }) stages.Machine)
+StepsAt g s stages.Header line t = (text : TextNumber) × (line ≡ header_line text) × (t ≡ at (record s { text = text }) stages.Machine)
 StepsAt g s stages.Machine line t =
     (arch : Arch) × (scope : Scope) × (scope ≢ scopes.Portable) × (line ≡ host_line arch scope) × (t ≡ then_machine (record s { arch = arch; scope = scope }))
 StepsAt g s stages.Hierarchies line t =

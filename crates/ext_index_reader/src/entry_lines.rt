@@ -3,6 +3,7 @@ ghost use Rattle.std.specs.Prelude.{◌≡◌, ◌+◌, ◌<◌, ◌≤◌, ◌�
 ghost use Rattle.ext_tree.specs.Tree.{most_entries};
 ghost use Rattle.ext_host.specs.Valid.{bytes_of, most_bytes};
 ghost use Rattle.ext_index_lines.specs.Homes.{kept_entry};
+ghost use Rattle.ext_index_lines.specs.Lines.{may_tell};
 ghost use Rattle.ext_index_reader.specs.Step.{CountsEntry, EntersLine, HasRoom, IsUpTo};
 
 use crate::state::SoFar;
@@ -54,9 +55,9 @@ fn count(so_far: &mut SoFar, entry: &Entry<Homed>) -> Result<bool, OutOfMemory>
 
 // Whether an entry may come, whatever stamp its home has.
 fn may_come(generation: u32, so_far: &SoFar, entry: &Entry<Homed>) -> bool
-    ensures { IsTrue result ↔ (IsUpTo generation entry.now × HasRoom so_far.now entry.now) }
+    ensures { IsTrue result ↔ (IsTrue (may_tell so_far.now.text entry.now) × IsUpTo generation entry.now × HasRoom so_far.now entry.now) }
 {
-    is_up_to(generation, entry) && has_room(so_far, entry)
+    so_far.text.may_tell(entry) && is_up_to(generation, entry) && has_room(so_far, entry)
 }
 
 // Whether the file, if it is one, is kept in this generation or in one before.
@@ -65,7 +66,7 @@ fn is_up_to(generation: u32, entry: &Entry<Homed>) -> bool
 {
     match entry {
         Entry::File(_, file) => file.home.generation <= generation,
-        Entry::Dir(_) | Entry::Opaque(_) | Entry::Link(_) | Entry::Hide => true,
+        Entry::Dir(_) | Entry::Opaque(_) | Entry::Link(_, _) | Entry::Hide => true,
     }
 }
 
@@ -97,6 +98,6 @@ fn size_of(entry: &Entry<Homed>) -> u64
 {
     match entry {
         Entry::File(_, file) => file.stamp.size,
-        Entry::Dir(_) | Entry::Opaque(_) | Entry::Link(_) | Entry::Hide => 0,
+        Entry::Dir(_) | Entry::Opaque(_) | Entry::Link(_, _) | Entry::Hide => 0,
     }
 }

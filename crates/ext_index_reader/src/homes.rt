@@ -59,7 +59,7 @@ impl Homes {
     {
         match entry {
             Entry::File(_, file) => self.note_file(file),
-            Entry::Dir(_) | Entry::Opaque(_) | Entry::Link(_) | Entry::Hide => Ok(true),
+            Entry::Dir(_) | Entry::Opaque(_) | Entry::Link(_, _) | Entry::Hide => Ok(true),
         }
     }
 

@@ -13,7 +13,7 @@ use crate::following::follows_as_name;
 use crate::next::{then_hierarchies, then_machine};
 use crate::state::{SoFar, Stage};
 use ext_host::MOST_HIERARCHIES;
-use ext_index_lines::{after_word, host_of, name_after, number_after, version_of};
+use ext_index_lines::{after_word, host_of, name_after, number_after, text_of_header};
 use ext_lines::OutOfMemory;
 use ext_text::{Extension, Name};
 use std::alloc::Global;
@@ -28,10 +28,10 @@ const MOST_OF_BOTH: u64 = 2 * MOST_HIERARCHIES as u64;
 pub(crate) fn header_line(so_far: &mut SoFar, line: &[u8]) -> Option<Stage>
     ensures { (g : ℕ) → LeadsTo g (at so_far.old stages.Header) so_far.new line.now result }
 {
-    match version_of(line) {
+    match text_of_header(line) {
         None => None,
-        Some(two) => {
-            so_far.two = two;
+        Some(text) => {
+            so_far.text = text;
             Some(Stage::Machine)
         }
     }

@@ -16,7 +16,7 @@ use std::mem;
 pub(crate) fn then_machine(alloc: Global, so_far: &mut SoFar) -> Result<Stage, OutOfMemory>
     ensures { IfOk result (λ stage. at so_far.new stage ≡ then_machine so_far.old) }
 {
-    if so_far.two {
+    if so_far.text.is_later() {
         return Ok(Stage::Hierarchies);
     }
     set_defaults(alloc, so_far)?;
@@ -161,7 +161,7 @@ fn after_parts(alloc: Global, so_far: &mut SoFar) -> Result<Stage, OutOfMemory>
     match so_far.whose {
         Whose::Host => {
             host_done(alloc, so_far);
-            Ok(after_host(so_far.two))
+            Ok(after_host(so_far.text.is_later()))
         }
         Whose::Past { generation, more } => {
             past_done(alloc, so_far, generation)?;
@@ -171,10 +171,10 @@ fn after_parts(alloc: Global, so_far: &mut SoFar) -> Result<Stage, OutOfMemory>
 }
 
 // After those of the host, which are complete.
-fn after_host(two: bool) -> Stage
-    ensures { (s : SoFar) → at s result ≡ (if two then at s stages.Past else at s stages.End) }
+fn after_host(later: bool) -> Stage
+    ensures { (s : SoFar) → at s result ≡ (if later then at s stages.Past else at s stages.End) }
 {
-    if two { Stage::Past } else { Stage::End }
+    if later { Stage::Past } else { Stage::End }
 }
 
 // The parts are the host's.

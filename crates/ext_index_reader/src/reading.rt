@@ -69,7 +69,7 @@ fn finished(stage: &Stage, rest: &[u8], line: u64) -> Result<(), IndexErr>
 // What was read, as a host.
 fn said_of(so_far: SoFar) -> Said
     ensures host { result.host ≡ host_of so_far }
-    ensures two { result.two ≡ so_far.two }
+    ensures number { result.text ≡ so_far.text }
 {
     let host = Host {
         arch: so_far.arch,
@@ -86,6 +86,6 @@ fn said_of(so_far: SoFar) -> Said
     };
     Said {
         host,
-        two: so_far.two,
+        text: so_far.text,
     }
 }

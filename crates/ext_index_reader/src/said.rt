@@ -1,10 +1,11 @@
 use ext_host::Host;
+use ext_index_lines::TextNumber;
 
 /// What the lines of an index say.
 #[derive(Drop)]
 pub struct Said {
     /// The host.
     pub host: Host,
-    /// Whether the number of the text is 2.
-    pub two: bool,
+    /// Which text they are.
+    pub text: TextNumber,
 }

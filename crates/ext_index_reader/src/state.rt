@@ -5,14 +5,15 @@ ghost use Rattle.ext_index_reader.specs.State.{no_parts, start};
 use crate::homes::Homes;
 use crate::rows::Rows;
 use ext_host::{Attachment, Attachments, Manifest, Manifests, Pasts};
+use ext_index_lines::TextNumber;
 use ext_text::{Arch, Name, Names, Scope};
 use std::alloc::Global;
 
 /// What has been read.
 #[derive(Drop)]
 pub(crate) struct SoFar {
-    /// Whether the text has the number 2.
-    pub(crate) two: bool,
+    /// Which text it is.
+    pub(crate) text: TextNumber,
     pub(crate) arch: Arch,
     pub(crate) scope: Scope,
     pub(crate) sysext_hier: Names,
@@ -130,7 +131,7 @@ pub(crate) fn start(alloc: Global) -> Reading
 {
     Reading {
         so_far: SoFar {
-            two: false,
+            text: TextNumber::One,
             arch: Arch::X86,
             scope: Scope::System,
             sysext_hier: Names::new(alloc),

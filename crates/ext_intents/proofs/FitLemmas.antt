@@ -8,6 +8,7 @@ use Rattle.std.proofs.lemmas.Bool.{and_parts, false≢true, true≢false}
 use Rattle.std.proofs.lemmas.List.Sums.{sum_by-cons}
 use Rattle.std.specs.Ordering.{eq_by_cmp}
 use Rattle.ext_lines.specs.ByteOrder.{bytes_cmp}
+use Rattle.ext_attributes.proofs.ForCallers.{mode_in_range}
 use Rattle.ext_text.specs.Path.{are_related, is_prefix, is_proper_prefix, path_cmp}
 use Rattle.ext_text.proofs.ForCallers.{all_weaker, prefix_trans, same_name, tied_name}
 use Rattle.ext_tree.specs.Cut.{IsCut, cut}
@@ -88,7 +89,7 @@ items_move host path root m same apart items =
     base_moves host path root q (same q (unrelated_prefix m.path path q apart below) (unrelated_suffix m.path path q apart below)) in
     record {
       each = all_weaker _ _ (λ item has. (has.0, (has.1.0, has.1.1, moves item.path has.0 ∙ has.1.2, has.1.3))) m.items items.each;
-      whole = λ q mode held below stands. items.whole q mode held below (sym (moves q below) ∙ stands);
+      whole = λ q attributes held below stands. items.whole q attributes held below (sym (moves q below) ∙ stands);
     }
 
 untouched_apart : (path : List (List ℕ)) (kept : List Manifest) → AllByRecursion (λ m. are_related m.path path ≡ false) (untouched path kept)
@@ -214,10 +215,10 @@ cut_is_planned coming host path valid =
 
 -- entries of the depot are in range where those of their tree text are
 in_depot_writable : (path : List (List ℕ)) (e : Entry Stamp) → IsWritable stamp_form e → IsWritable held_form (in_depot path e)
-in_depot_writable path (Dir mode) is = is
-in_depot_writable path (Opaque mode) is = is
-in_depot_writable path (File mode stamp) is = is
-in_depot_writable path (Link target) is = is
+in_depot_writable path (Dir attributes) is = is
+in_depot_writable path (Opaque attributes) is = is
+in_depot_writable path (File attributes stamp) is = is
+in_depot_writable path (Link owner target) is = is
 in_depot_writable path Hide is = is
 
 depot_in_range : (res : List (List ℕ)) (es : Entries Stamp) → AreWritable es → AreInRange (from_depot res es)
@@ -226,17 +227,17 @@ depot_in_range res (x ∷ es) all = (in_depot_writable (res ++ x.0) x.1 all.0, d
 
 -- and none of them is kept
 abbrev NotKept : Entry HeldFile → Type 0
-NotKept (Dir mode) = Unit {0}
-NotKept (Opaque mode) = Unit {0}
-NotKept (File mode held) = (home : Home) → held.body ≢ Kept home
-NotKept (Link target) = Unit {0}
+NotKept (Dir attributes) = Unit {0}
+NotKept (Opaque attributes) = Unit {0}
+NotKept (File attributes held) = (home : Home) → held.body ≢ Kept home
+NotKept (Link owner target) = Unit {0}
 NotKept Hide = Unit {0}
 
 in_depot_not_kept : (path : List (List ℕ)) (e : Entry Stamp) → NotKept (in_depot path e)
-in_depot_not_kept path (Dir mode) = tt
-in_depot_not_kept path (Opaque mode) = tt
-in_depot_not_kept path (File mode stamp) = λ home is. cc
-in_depot_not_kept path (Link target) = tt
+in_depot_not_kept path (Dir attributes) = tt
+in_depot_not_kept path (Opaque attributes) = tt
+in_depot_not_kept path (File attributes stamp) = λ home is. cc
+in_depot_not_kept path (Link owner target) = tt
 in_depot_not_kept path Hide = tt
 
 depot_not_kept : (res : List (List ℕ)) (es : Entries Stamp) → AllByRecursion (λ x. NotKept x.1) (from_depot res es)
@@ -249,8 +250,8 @@ only_tree es tree (suc k, lt, same) = absurd (omega arith)
 
 depot_is_drawn : (old : List (Entries HeldFile)) (res : List (List ℕ)) (es : Entries Stamp) → AreDrawnFrom old (from_depot res es ∷ [])
 depot_is_drawn old res es held home kept file =
-    let there = subst (λ t. lookup t file.file.path ≡ Some (File file.file.mode held)) (only_tree (from_depot res es) file.tree file.among) file.file.stands in
-    absurd (found_of_all NotKept (from_depot res es) file.file.path (File file.file.mode held) (depot_not_kept res es) there home kept)
+    let there = subst (λ t. lookup t file.file.path ≡ Some (File file.file.attributes held)) (only_tree (from_depot res es) file.tree file.among) file.file.stands in
+    absurd (found_of_all NotKept (from_depot res es) file.file.path (File file.file.attributes held) (depot_not_kept res es) there home kept)
 
 graft_apart : (es part new : Entries HeldFile) (path q : List (List ℕ)) → IsGraft es path part new → is_prefix path q ≡ false → is_prefix q path ≡ false → lookup new q ≡ lookup es q
 graft_apart es part new [] q is apart out = absurd (true≢false apart)
@@ -283,7 +284,7 @@ graft_entry P es part new (n ∷ path) q e is makes old hung found =
 graft_in_range : (es part new : Entries HeldFile) (path : List (List ℕ)) → IsGraft es path part new → AreInRange es → AreInRange part → AreInRange new
 graft_in_range es part new path is range part_range =
     all_of_found (IsWritable held_form) new is.tree (λ q e found.
-    graft_entry (IsWritable held_form) es part new path q e is (omega arith)
+    graft_entry (IsWritable held_form) es part new path q e is (mode_in_range 493 (omega arith))
     (λ r f. found_of_all (IsWritable held_form) es r f range) (λ r f. found_of_all (IsWritable held_form) part r f part_range) found)
 
 pub graft_is_planned : (coming : ℕ) (host : Host) (path res : List (List ℕ)) (es : Entries Stamp) (root : Entries HeldFile) → IsValidHost host → AreWritable es

@@ -190,7 +190,7 @@ no_tree tree (suc (suc k), lt, is) = absurd (omega arith)
 
 no_file : (held : HeldFile) → ¬ IsFileOf ([] ∷ [] ∷ []) held
 no_file held file =
-    let there = subst (λ es. lookup es file.file.path ≡ Some (File file.file.mode held)) (no_tree file.tree file.among) file.file.stands in
+    let there = subst (λ es. lookup es file.file.path ≡ Some (File file.file.attributes held)) (no_tree file.tree file.among) file.file.stands in
     false≢true (ap is_some there)
 
 trees_of_parts : (root lower : Entries HeldFile) (past : List Past) → root ≡ [] → lower ≡ [] → past ≡ [] → root ∷ lower ∷ flat_map (λ (p : Past). p.root ∷ p.lower ∷ []) past ≡ [] ∷ [] ∷ []

@@ -47,7 +47,7 @@ use Rattle.ext_cmd.specs.declared.refusal.Refusal.{Refusal}
 use Rattle.ext_cmd.specs.declared.refusal.Refusal.TheVariants as refusals
 use Rattle.ext_intents.specs.Causes.{IsNotGiven, ViewCause}
 use Rattle.ext_intents.specs.Intents.{IsAnswerOrRefusal, IsFit}
-use Rattle.ext_intents.specs.Portable.{AskWants, DetachWants, InspectWants, IsAskFile, NotExtended, PortWants, ServicesWants, TellsOfList, attached_intent, not_attached, not_inspected}
+use Rattle.ext_intents.specs.Portable.{AskWants, DetachWants, InspectWants, IsAskFile, NotExtended, PortWants, TellsOfList, attached_intent, not_attached, not_inspected}
 use Rattle.ext_intents.specs.declared.intent.Intent.{Intent}
 use Rattle.ext_intents.specs.declared.intent.Intent.TheVariants.{Refuses}
 use Rattle.ext_intents.specs.declared.plan_err.PlanErr.{PlanErr}

@@ -101,10 +101,10 @@ text_of_tree_fits coming host (name ∷ path) = entry_fits coming host (name ∷
 
 shown_fits : (coming : ℕ) (host : Host) (path : List (List ℕ)) (entry : Option (Entry HeldFile)) → lookup host.root path ≡ entry → IsFit coming (Some host) (cat_at path entry)
 shown_fits coming host path None is = tt
-shown_fits coming host path (Some (Dir mode)) is = tt
-shown_fits coming host path (Some (Opaque mode)) is = tt
-shown_fits coming host path (Some (File mode held)) is = record { tree = host.root; among = (zero, omega arith, refl); file = record { path = path; mode = mode; stands = is } }
-shown_fits coming host path (Some (Link target)) is = tt
+shown_fits coming host path (Some (Dir attributes)) is = tt
+shown_fits coming host path (Some (Opaque attributes)) is = tt
+shown_fits coming host path (Some (File attributes held)) is = record { tree = host.root; among = (zero, omega arith, refl); file = record { path = path; attributes = attributes; stands = is } }
+shown_fits coming host path (Some (Link owner target)) is = tt
 shown_fits coming host path (Some Hide) is = tt
 
 migrate_fits : (coming : ℕ) (host : Host) (newest : Bool) → IsValidHost host → IsFit coming (Some host) (migrate_intent host newest)

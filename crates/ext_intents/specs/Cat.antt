@@ -12,10 +12,10 @@ use Rattle.ext_intents.specs.declared.intent.Intent.TheVariants.{Refuses, Shows}
 -- by what stands at the path
 abbrev pub cat_at : List (List ℕ) → Option (Entry HeldFile) → Intent
 cat_at path None = Refuses (NoEntry path)
-cat_at path (Some (Dir mode)) = Refuses (NotFile path)
-cat_at path (Some (Opaque mode)) = Refuses (NotFile path)
-cat_at path (Some (File mode held)) = Shows held
-cat_at path (Some (Link target)) = Refuses (NotFile path)
+cat_at path (Some (Dir attributes)) = Refuses (NotFile path)
+cat_at path (Some (Opaque attributes)) = Refuses (NotFile path)
+cat_at path (Some (File attributes held)) = Shows held
+cat_at path (Some (Link owner target)) = Refuses (NotFile path)
 cat_at path (Some Hide) = Refuses (NotFile path)
 
 -- what it wants of a host

@@ -45,10 +45,10 @@ entries_are_of_layers layers es p e layered stands =
 
 -- what is shown as a file is that file
 file_shown : {C : Type 0} (e : Entry C) → is_file (as_shown e) ≡ true → as_shown e ≡ e
-file_shown (Dir mode) h = absurd (false≢true h)
-file_shown (Opaque mode) h = absurd (false≢true h)
-file_shown (File mode content) h = refl
-file_shown (Link target) h = refl
+file_shown (Dir attributes) h = absurd (false≢true h)
+file_shown (Opaque attributes) h = absurd (false≢true h)
+file_shown (File attributes content) h = refl
+file_shown (Link owner target) h = refl
 file_shown Hide h = refl
 
 pub files_are_of_layers : {C : Type 0} → FilesAreOfLayers C
@@ -58,10 +58,10 @@ files_are_of_layers layers es p e layered stands file =
     subst (IsOfLayer layers p) (sym same) x.1
 
 shown_plain : {C : Type 0} (e : Entry C) → not (is_hide e) ≡ true → (not (is_hide (as_shown e)) ≡ true) × (not (is_opaque (as_shown e)) ≡ true)
-shown_plain (Dir mode) h = (refl, refl)
-shown_plain (Opaque mode) h = (refl, refl)
-shown_plain (File mode content) h = (refl, refl)
-shown_plain (Link target) h = (refl, refl)
+shown_plain (Dir attributes) h = (refl, refl)
+shown_plain (Opaque attributes) h = (refl, refl)
+shown_plain (File attributes content) h = (refl, refl)
+shown_plain (Link owner target) h = (refl, refl)
 shown_plain Hide h = absurd (false≢true h)
 
 pub nothing_hides : {C : Type 0} → NothingHides C
@@ -72,10 +72,10 @@ nothing_hides layers es p e layered stands =
 
 -- an entry that has a line has one as it shows
 shown_writable : (e : Entry Stamp) → IsWritable stamp_form e → IsWritable stamp_form (as_shown e)
-shown_writable (Dir mode) h = h
-shown_writable (Opaque mode) h = h
-shown_writable (File mode content) h = h
-shown_writable (Link target) h = h
+shown_writable (Dir attributes) h = h
+shown_writable (Opaque attributes) h = h
+shown_writable (File attributes content) h = h
+shown_writable (Link owner target) h = h
 shown_writable Hide h = h
 
 module _ {C : Type 0} (P : Entry C → Type 0) where

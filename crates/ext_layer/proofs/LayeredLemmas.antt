@@ -46,10 +46,10 @@ module _ {C : Type 0} where
 
   -- what is shown as a directory is one
   directory_shown : (e : Entry C) → is_directory (as_shown e) ≡ is_directory e
-  directory_shown (Dir mode) = refl
-  directory_shown (Opaque mode) = refl
-  directory_shown (File mode content) = refl
-  directory_shown (Link target) = refl
+  directory_shown (Dir attributes) = refl
+  directory_shown (Opaque attributes) = refl
+  directory_shown (File attributes content) = refl
+  directory_shown (Link owner target) = refl
   directory_shown Hide = refl
 
   directory_of : (o : Option (Marked C)) (b : Bool) → is_directory_at (seen_of o) ≡ sees_directory (overlay_of o b)
@@ -64,10 +64,10 @@ module _ {C : Type 0} where
   directory_first : (o : Option (Entry C)) (b : Bool) (w : Overlay C) → is_directory_at o ≡ true → sees_directory (first_of_two (overlay_of (option_map with_mark o) b) w) ≡ true
   unfolding sees_directory
   directory_first None b w h = absurd (false≢true h)
-  directory_first (Some (Dir mode)) b w h = refl
-  directory_first (Some (Opaque mode)) b w h = refl
-  directory_first (Some (File mode content)) b w h = absurd (false≢true h)
-  directory_first (Some (Link target)) b w h = absurd (false≢true h)
+  directory_first (Some (Dir attributes)) b w h = refl
+  directory_first (Some (Opaque attributes)) b w h = refl
+  directory_first (Some (File attributes content)) b w h = absurd (false≢true h)
+  directory_first (Some (Link owner target)) b w h = absurd (false≢true h)
   directory_first (Some Hide) b w h = absurd (false≢true h)
 
   -- a layer with a directory shows a directory
@@ -83,10 +83,10 @@ module _ {C : Type 0} where
   ]
 
   directory_of_open : (e : Entry C) → cuts_below (Some e) ≡ false → is_directory e ≡ true
-  directory_of_open (Dir mode) h = refl
-  directory_of_open (Opaque mode) h = refl
-  directory_of_open (File mode content) h = absurd (false≢true (sym h))
-  directory_of_open (Link target) h = absurd (false≢true (sym h))
+  directory_of_open (Dir attributes) h = refl
+  directory_of_open (Opaque attributes) h = refl
+  directory_of_open (File attributes content) h = absurd (false≢true (sym h))
+  directory_of_open (Link owner target) h = absurd (false≢true (sym h))
   directory_of_open Hide h = absurd (false≢true (sym h))
 
   -- below layers that do not cut off a path, a directory above the path is visible as a directory

@@ -1,7 +1,8 @@
 -- Layers, as systemd-sysext(8) and overlayfs join them, stated of each path by itself. They stand topmost first, and the
--- host is the last of them. A directory that stands in several layers has the mode of the topmost. Where a file, a link or a
--- whiteout stands, nothing below it comes from lower layers, and nothing below an opaque directory does. A whiteout hides
--- what lower layers have at its own path, and is not visible itself; an opaque directory is visible as a directory.
+-- host is the last of them. A directory that stands in several layers has the attributes of the topmost. Where a file, a
+-- link or a whiteout stands, nothing below it comes from lower layers, and nothing below an opaque directory does. A
+-- whiteout hides what lower layers have at its own path, and is not visible itself; an opaque directory is visible as a
+-- directory.
 use Rattle.std.specs.Prelude.{◌≡◌, ℕ, ◌<◌, ◌≤◌, Bool, false, not, ◌||◌, ◌⊎◌, List, ◌∷◌, ◌++◌, length, IsTrue, Option, Some, None, is_some, Result, Ok, Err}
 use Rattle.std.specs.List.{AllByRecursion}
 use Rattle.ext_text.specs.Path.{is_proper_prefix}

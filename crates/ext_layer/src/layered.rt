@@ -155,7 +155,7 @@ fn shown_copy<C: Held1 + Drop>(alloc: Global, entry: &Entry<C>) -> Result<Entry<
     ensures { IfOk result (λ copy. copy ≡ as_shown entry.now) }
 {
     match entry {
-        Entry::Opaque(mode) => Ok(Entry::Dir(*mode)),
-        Entry::Dir(_) | Entry::File(_, _) | Entry::Link(_) | Entry::Hide => entry.copy(alloc),
+        Entry::Opaque(attributes) => Ok(Entry::Dir(*attributes)),
+        Entry::Dir(_) | Entry::File(_, _) | Entry::Link(_, _) | Entry::Hide => entry.copy(alloc),
     }
 }

@@ -3,20 +3,20 @@
 --     image NAME X
 --     base X
 --
--- X is one of these. MODE, SIZE, HEX and TARGET are as the rows of a tree text have them: the mode in octal digits, the size in
--- decimal digits, the digest in lower-case hexadecimal digits, the target as it is.
+-- X is one of these. The fields are as the rows of a tree text have them: the mode in octal digits, the owner where it is not
+-- root, the size in decimal digits, the digest in lower-case hexadecimal digits, the target as it is.
 --
---     d MODE
---     o MODE
---     f MODE SIZE HEX
---     l TARGET
+--     d MODE[:USER:GROUP]
+--     o MODE[:USER:GROUP]
+--     f ATTRIBUTES SIZE HEX
+--     l[:USER:GROUP] TARGET
 --     w
 --     covers /AT
-use Rattle.std.specs.Prelude.{ℕ, List, ◌++◌, codes, decimal}
+use Rattle.std.specs.Prelude.{ℕ, List, ◌++◌, codes, decimal, None}
 use Rattle.std.specs.List.{flat_map}
 use Rattle.hex.specs.Hex.{encode_lower}
-use Rattle.ext_lines.specs.Numbers.{octal}
 use Rattle.ext_text.specs.Absolute.{absolute}
+use Rattle.ext_attributes.specs.Attributes.{attributes_text, file_attributes_text, marks_text}
 use Rattle.ext_tree.specs.declared.entry.Entry.{Entry}
 use Rattle.ext_tree.specs.declared.entry.Entry.TheVariants.{Dir, Opaque, File, Link, Hide}
 use Rattle.ext_tree.specs.declared.stamp.Stamp.{Stamp}
@@ -33,10 +33,10 @@ layer_words Base = codes "base"
 
 -- the words of an entry
 abbrev pub entry_words : Entry Stamp → List ℕ
-entry_words (Dir mode) = codes "d " ++ octal mode
-entry_words (Opaque mode) = codes "o " ++ octal mode
-entry_words (File mode stamp) = codes "f " ++ octal mode ++ codes " " ++ decimal stamp.size ++ codes " " ++ encode_lower stamp.digest.0
-entry_words (Link target) = codes "l " ++ target
+entry_words (Dir attributes) = codes "d " ++ attributes_text attributes
+entry_words (Opaque attributes) = codes "o " ++ attributes_text attributes
+entry_words (File attributes stamp) = codes "f " ++ file_attributes_text attributes ++ codes " " ++ decimal stamp.size ++ codes " " ++ encode_lower stamp.digest.0
+entry_words (Link owner target) = codes "l" ++ marks_text owner None ++ codes " " ++ target
 entry_words Hide = codes "w"
 
 -- the words of what a layer has at the path, or above it

@@ -1,13 +1,16 @@
 // The lines of origins. Where memory runs out, parts of them have been added.
 ghost use Rattle.std.specs.Prelude.{◌≡◌, ◌++◌, IfOk, OnOk};
 ghost use Rattle.std.specs.List.{flat_map};
-ghost use Rattle.ext_lines.specs.Numbers.{octal};
-ghost use Rattle.ext_tree.specs.declared.entry.Entry.TheVariants.{File};
+ghost use Rattle.ext_attributes.specs.Attributes.{attributes_text};
+ghost use Rattle.ext_tree.specs.declared.entry.Entry.TheVariants.{File, Link};
 ghost use Rattle.ext_origin.specs.Lines.{entry_words, finding_words, layer_words, origin_line, origins_text};
 
 use crate::origin::{Finding, Layer, Origin};
-use ext_lines::{append_decimal, append_octal};
-use ext_text::{Mode, OutOfMemory, Text};
+use ext_attributes::{
+    Attributes, FileAttributes, Owner, append_attributes, append_file_attributes, append_owner,
+};
+use ext_lines::append_decimal;
+use ext_text::{OutOfMemory, Text};
 use ext_tree::{Entry, Stamp};
 use std::alloc::Global;
 
@@ -68,30 +71,48 @@ fn append_entry(text: &mut Vec<u8>, entry: &Entry<Stamp>) -> Result<(), OutOfMem
     ensures { OnOk result (text.new.items ≡ text.old.items ++ entry_words entry.now) }
 {
     match entry {
-        Entry::Dir(mode) => append_moded(text, b"d ", *mode),
-        Entry::Opaque(mode) => append_moded(text, b"o ", *mode),
-        Entry::File(mode, stamp) => append_file(text, *mode, stamp),
-        Entry::Link(target) => append_two(text, b"l ", target.bytes()),
+        Entry::Dir(attributes) => append_directory(text, b"d ", attributes),
+        Entry::Opaque(attributes) => append_directory(text, b"o ", attributes),
+        Entry::File(attributes, stamp) => append_file(text, attributes, stamp),
+        Entry::Link(owner, target) => append_link(text, *owner, target),
         Entry::Hide => append_bytes(text, b"w"),
     }
 }
 
-// A kind with its space, and a mode in octal digits.
-fn append_moded(text: &mut Vec<u8>, kind: &[u8], mode: Mode) -> Result<(), OutOfMemory>
-    ensures { OnOk result (text.new.items ≡ text.old.items ++ (kind.now ++ octal mode)) }
+// A kind with its space, and the attributes of a directory.
+fn append_directory(
+    text: &mut Vec<u8>,
+    kind: &[u8],
+    attributes: &Attributes,
+) -> Result<(), OutOfMemory>
+    ensures { OnOk result (text.new.items ≡ text.old.items ++ (kind.now ++ attributes_text attributes.now)) }
 {
     append_bytes(text, kind)?;
-    append_octal(text, u64::from(mode.bits()))
+    append_attributes(text, attributes)
 }
 
-// A file: its mode, its size and its digest.
-fn append_file(text: &mut Vec<u8>, mode: Mode, stamp: &Stamp) -> Result<(), OutOfMemory>
-    ensures { OnOk result (text.new.items ≡ text.old.items ++ entry_words (File mode stamp.now)) }
+// A file: its attributes, its size and its digest.
+fn append_file(
+    text: &mut Vec<u8>,
+    attributes: &FileAttributes,
+    stamp: &Stamp,
+) -> Result<(), OutOfMemory>
+    ensures { OnOk result (text.new.items ≡ text.old.items ++ entry_words (File attributes.now stamp.now)) }
 {
-    append_moded(text, b"f ", mode)?;
+    append_bytes(text, b"f ")?;
+    append_file_attributes(text, attributes)?;
     text.push(b' ')?;
     append_decimal(text, stamp.size)?;
     append_two(text, b" ", &stamp.digest.digits())
+}
+
+// A link: its owner, and its target.
+fn append_link(text: &mut Vec<u8>, owner: Owner, target: &Text) -> Result<(), OutOfMemory>
+    ensures { OnOk result (text.new.items ≡ text.old.items ++ entry_words (Link owner target.now)) }
+{
+    append_bytes(text, b"l")?;
+    append_owner(text, owner)?;
+    append_two(text, b" ", target.bytes())
 }
 
 // Bytes, and other bytes after them.

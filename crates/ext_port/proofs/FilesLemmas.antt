@@ -27,9 +27,9 @@ module _ (host : Host) (base : Entries HeldFile) (is_base : IsBaseTree host base
 
   -- a file is one of the host
   pub base_file : (held : HeldFile) → HasFile base held → IsHostFile host held
-  base_file held file = elim (base_entry file.path (File file.mode held) file.stands) [
-    | inl seen ↦ inl (record { path = file.path; mode = file.mode; stands = seen })
-    | inr under ↦ inr (record { path = file.path; mode = file.mode; stands = under })
+  base_file held file = elim (base_entry file.path (File file.attributes held) file.stands) [
+    | inl seen ↦ inl (record { path = file.path; attributes = file.attributes; stands = seen })
+    | inr under ↦ inr (record { path = file.path; attributes = file.attributes; stands = under })
   ]
 
   -- an entry of the image is one of the base
@@ -40,5 +40,5 @@ module _ (host : Host) (base : Entries HeldFile) (is_base : IsBaseTree host base
   -- so the files of an image are files of the host
   pub tree_files : (place : List (List ℕ)) (tree : Entries HeldFile) → IsTreeOf base place tree → AreFilesOf host tree
   tree_files place tree is held file =
-      let r = part_entry is.directory file.path (File file.mode held) (sym (ap (λ es. lookup es file.path) is.below) ∙ file.stands) in
-      base_file held (record { path = r.0; mode = file.mode; stands = r.1 })
+      let r = part_entry is.directory file.path (File file.attributes held) (sym (ap (λ es. lookup es file.path) is.below) ∙ file.stands) in
+      base_file held (record { path = r.0; attributes = file.attributes; stands = r.1 })

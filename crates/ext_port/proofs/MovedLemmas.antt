@@ -55,7 +55,7 @@ start_host_file : (again : Bool) (image : Image) (host : Host) (held : HeldFile)
 start_host_file false image host held (inl seen) = seen_file host held seen
 start_host_file false image host held (inr under) = under_file host held under
 start_host_file true image host held (inl seen) =
-    seen_file host held (record { path = seen.path; mode = seen.mode; stands = cut_found (paths_without image host) host.root seen.path (File seen.mode held) seen.stands })
+    seen_file host held (record { path = seen.path; attributes = seen.attributes; stands = cut_found (paths_without image host) host.root seen.path (File seen.attributes held) seen.stands })
 start_host_file true image host held (inr under) = under_file host held under
 
 -- so is a file of an image in its base
@@ -66,8 +66,8 @@ start_file again image host base is_base place tree is held file =
 
 -- a release file is a file of the tree
 pub release_file : (tree : Entries HeldFile) (held : HeldFile) → IsReleaseFile tree held → HasFile tree held
-release_file tree held (inl own) = record { path = own.0; mode = own.1; stands = own.3 }
-release_file tree held (inr (none, vendor)) = record { path = vendor.0; mode = vendor.1; stands = vendor.3 }
+release_file tree held (inl own) = record { path = own.0; attributes = own.1; stands = own.3 }
+release_file tree held (inr (none, vendor)) = record { path = vendor.0; attributes = vendor.1; stands = vendor.3 }
 
 -- an image
 

@@ -6,6 +6,8 @@ use Rattle.std.specs.List.Sorted.{IsStrictlySortedBy}
 use Rattle.std.specs.Ordering.{eq_by_cmp}
 use Rattle.std.proofs.lemmas.Bool.{ltb-false, or_parts}
 use Rattle.std.proofs.lemmas.Option.{none-some, same_Some}
+use Rattle.ext_attributes.specs.Attributes.{IsOfFile, IsOwner, OfFile, of_mode}
+use Rattle.ext_attributes.proofs.ForCallers.{mode_in_range, plain_in_range, root_in_range}
 use Rattle.ext_text.specs.Path.{are_related, is_prefix, is_proper_prefix, path_cmp}
 use Rattle.ext_text.specs.SortedPaths.{covers, is_among, meets}
 use Rattle.ext_text.specs.declared.which.Which.TheVariants as limits
@@ -30,7 +32,7 @@ use Rattle.ext_updated.specs.Updated.{IsUpdated}
 use Rattle.ext_updated.specs.declared.piece.Piece.{Piece}
 use Rattle.ext_updated.proofs.ForCallers.{covering}
 use Rattle.ext_attached.proofs.ForCallers.{SameOutside, changed_is_drawn, changed_is_valid, unmet_uncovered}
-use Rattle.ext_added.specs.Added.{file_mode, is_service, pieces_of}
+use Rattle.ext_added.specs.Added.{is_service, made_attributes, pieces_of}
 use Rattle.ext_added.specs.Entries.{IsAddedEntry, IsAddedPiece, IsMadeEntry}
 use Rattle.ext_added.specs.Tops.{FitsAttaching, tops_of}
 use Rattle.ext_added.specs.declared.ask.Ask.{Ask}
@@ -123,23 +125,23 @@ module _ (start : Host) (ask : Ask) (made : Attaching) (image tree root : Entrie
   module _ (size : IsWithinAll (new_bytes made) root start.lower) where
     -- stamps of what is added are in range
     stamp_of_host : (held : HeldFile) → IsHostFile start held → IsStamp held.stamp
-    stamp_of_host held (inl seen) = (found_holds (IsWritable held_form) start.root seen.path (File seen.mode held) valid.present.limits.root seen.stands).1
-    stamp_of_host held (inr under) = (found_holds (IsWritable held_form) start.lower under.path (File under.mode held) valid.present.limits.lower under.stands).1
+    stamp_of_host held (inl seen) = (found_holds (IsWritable held_form) start.root seen.path (File seen.attributes held) valid.present.limits.root seen.stands).1
+    stamp_of_host held (inr under) = (found_holds (IsWritable held_form) start.lower under.path (File under.attributes held) valid.present.limits.lower under.stands).1
 
     own_stamp : list_any is_service made.units ≡ true → IsStamp made.own.stamp
     own_stamp some = record { size = subst (λ b. (if b then made.own.stamp.size else 0) ≤ most_file) some size.file; digest = sound.digest }
 
-    mode_low : (mode : ℕ) → mode ≡ file_mode → mode ≤ 4095
-    mode_low mode is = omega (arith, is)
+    attributes_in_range : (attributes : OfFile) → attributes ≡ made_attributes → IsOfFile attributes
+    attributes_in_range attributes is = subst IsOfFile (sym is) (plain_in_range (of_mode 420) (mode_in_range 420 (omega arith)))
 
     made_range : (e : Entry HeldFile) → IsMadeEntry made image tree e → IsWritable held_form e
-    made_range (Dir mode) is = is
-    made_range (Opaque mode) is = absurd is
-    made_range (File mode held) (mode_is, inl own) = (mode_low mode mode_is, subst (λ (h : HeldFile). IsStamp h.stamp) (sym own.0) (own_stamp own.1))
-    made_range (File mode held) (mode_is, inr (inl profile)) =
-        (mode_low mode mode_is, subst (λ (h : HeldFile). IsStamp h.stamp) (sym profile) (stamp_of_host made.profile.file sound.profile))
-    made_range (File mode held) (mode_is, inr (inr file)) = (mode_low mode mode_is, stamp_of_host held (sound.tree_files held file))
-    made_range (Link target) is = is
+    made_range (Dir attributes) is = is
+    made_range (Opaque attributes) is = absurd is
+    made_range (File attributes held) (made_is, inl own) = (attributes_in_range attributes made_is, subst (λ (h : HeldFile). IsStamp h.stamp) (sym own.0) (own_stamp own.1))
+    made_range (File attributes held) (made_is, inr (inl profile)) =
+        (attributes_in_range attributes made_is, subst (λ (h : HeldFile). IsStamp h.stamp) (sym profile) (stamp_of_host made.profile.file sound.profile))
+    made_range (File attributes held) (made_is, inr (inr file)) = (attributes_in_range attributes made_is, stamp_of_host held (sound.tree_files held file))
+    made_range (Link owner target) is = (subst IsOwner (sym is.0) root_in_range, is.1)
     made_range Hide is = absurd is
 
     added_range : (e : Entry HeldFile) → IsAddedEntry made image tree e → IsWritable held_form e
@@ -149,7 +151,7 @@ module _ (start : Host) (ask : Ask) (made : Attaching) (image tree root : Entrie
     root_range : AreInRange root
     root_range =
         all_hold (IsWritable held_form) root updated.tree.sorted
-        (entry_holds (IsWritable held_form) start.root root (pieces_of made image tree) updated (omega arith)
+        (entry_holds (IsWritable held_form) start.root root (pieces_of made image tree) updated (mode_in_range 493 (omega arith))
         (λ q e found. found_holds (IsWritable held_form) start.root q e valid.present.limits.root found)
         (λ piece at.
         let is = all_contained (IsAddedPiece made image tree) (pieces_of made image tree) piece files_added at in
@@ -157,10 +159,10 @@ module _ (start : Host) (ask : Ask) (made : Attaching) (image tree root : Entrie
 
     -- a file that a store keeps is one of the host's
     abbrev FromHost : Entry HeldFile → Type 0
-    FromHost e = (mode : ℕ) (held : HeldFile) (home : Home) → e ≡ File mode held → held.body ≡ Kept home → IsHostFile start held
+    FromHost e = (attributes : OfFile) (held : HeldFile) (home : Home) → e ≡ File attributes held → held.body ≡ Kept home → IsHostFile start held
 
-    file_from : (mode : ℕ) (held : HeldFile) → ((home : Home) → held.body ≡ Kept home → IsHostFile start held) → FromHost (File mode held)
-    file_from mode held from m h home is kept =
+    file_from : (attributes : OfFile) (held : HeldFile) → ((home : Home) → held.body ≡ Kept home → IsHostFile start held) → FromHost (File attributes held)
+    file_from attributes held from m h home is kept =
         let same : held ≡ h = cc is in
         subst (IsHostFile start) same (from home (ap (λ (x : HeldFile). x.body) same ∙ kept))
 
@@ -168,23 +170,23 @@ module _ (start : Host) (ask : Ask) (made : Attaching) (image tree root : Entrie
     own_not held home own kept = let body = sound.own.body in cc (ap (λ (x : HeldFile). x.body) own, kept, body)
 
     made_from : (e : Entry HeldFile) → IsMadeEntry made image tree e → FromHost e
-    made_from (Dir m) is = λ mode held home same kept. cc same
+    made_from (Dir m) is = λ attributes held home same kept. cc same
     made_from (Opaque m) is = absurd is
-    made_from (File m h) (mode_is, inl own) = file_from m h (λ home kept. absurd (own_not h home own.0 kept))
-    made_from (File m h) (mode_is, inr (inl profile)) = file_from m h (λ home kept. subst (IsHostFile start) (sym profile) sound.profile)
-    made_from (File m h) (mode_is, inr (inr file)) = file_from m h (λ home kept. sound.tree_files h file)
-    made_from (Link t) is = λ mode held home same kept. cc same
+    made_from (File m h) (made_is, inl own) = file_from m h (λ home kept. absurd (own_not h home own.0 kept))
+    made_from (File m h) (made_is, inr (inl profile)) = file_from m h (λ home kept. subst (IsHostFile start) (sym profile) sound.profile)
+    made_from (File m h) (made_is, inr (inr file)) = file_from m h (λ home kept. sound.tree_files h file)
+    made_from (Link owner t) is = λ attributes held home same kept. cc same
     made_from Hide is = absurd is
 
     added_from : (e : Entry HeldFile) → IsAddedEntry made image tree e → FromHost e
     added_from e (inl is) = made_from e is
-    added_from e (inr of_image) = λ mode held home is kept.
-        sound.image_files held (record { path = of_image.0; mode = mode; stands = of_image.1 ∙ ap (λ (x : Entry HeldFile). Some x) is })
+    added_from e (inr of_image) = λ attributes held home is kept.
+        sound.image_files held (record { path = of_image.0; attributes = attributes; stands = of_image.1 ∙ ap (λ (x : Entry HeldFile). Some x) is })
 
     root_from : (q : List (List ℕ)) (e : Entry HeldFile) → lookup root q ≡ Some e → FromHost e
     root_from =
-        entry_holds FromHost start.root root (pieces_of made image tree) updated (λ mode held home is kept. cc is)
-        (λ q e found mode held home is kept. inl (record { path = q; mode = mode; stands = found ∙ ap (λ (x : Entry HeldFile). Some x) is }))
+        entry_holds FromHost start.root root (pieces_of made image tree) updated (λ attributes held home is kept. cc is)
+        (λ q e found attributes held home is kept. inl (record { path = q; attributes = attributes; stands = found ∙ ap (λ (x : Entry HeldFile). Some x) is }))
         (λ piece at.
         let is = all_contained (IsAddedPiece made image tree) (pieces_of made image tree) piece files_added at in
         (added_from piece.top is.top, λ q e found. added_from e (is.part q e found)))
@@ -195,7 +197,7 @@ module _ (start : Host) (ask : Ask) (made : Attaching) (image tree root : Entrie
     root_drawn : AreDrawnFrom (trees_of start) (root ∷ [])
     root_drawn held home kept file =
         let f = subst (λ t. HasFile t held) (only_tree root file.tree file.among) file.file in
-        elim (root_from f.path (File f.mode held) f.stands f.mode held home refl kept) [
+        elim (root_from f.path (File f.attributes held) f.stands f.attributes held home refl kept) [
           | inl seen ↦ record { tree = start.root; among = here start.root (start.lower ∷ flat_map (λ (p : Past). p.root ∷ p.lower ∷ []) start.past); file = seen }
           | inr under ↦ record {
             tree = start.lower;

@@ -8,6 +8,7 @@ use Rattle.std.specs.Ordering.{eq_by_cmp, is_lt}
 use Rattle.std.specs.declared.cmp.Ordering.TheVariants.{Less}
 use Rattle.std.proofs.lemmas.Bool.{and_from}
 use Rattle.std.proofs.lemmas.Float.{T_from_true}
+use Rattle.ext_attributes.specs.Attributes.{OfFile}
 use Rattle.ext_text.specs.Order.{paths_exact, paths_total}
 use Rattle.ext_text.specs.Path.{path_cmp}
 use Rattle.ext_text.specs.SortedPaths.{is_among}
@@ -22,7 +23,7 @@ use Rattle.ext_host.proofs.ForCallers.{one_stamp}
 use Rattle.ext_find.specs.Content.{is_file_at}
 use Rattle.ext_units.specs.declared.body.Body.{Body}
 use Rattle.ext_units.specs.declared.unit_file.UnitFile.{UnitFile}
-use Rattle.ext_added.specs.Attaching.{IsAttaching, directory_mode, is_outside, shown_for}
+use Rattle.ext_added.specs.Attaching.{IsAttaching, directory_attributes, is_outside, shown_for}
 use Rattle.ext_added.specs.DropIn.{IsOwn, own_text}
 use Rattle.ext_added.specs.Profile.{IsProfile, LeadsToProfile, NoProfile, etc_profiles, profile_text, run_profiles, vendor_profiles}
 use Rattle.ext_added.specs.declared.ask.Ask.{Ask}
@@ -72,7 +73,7 @@ one_added tops a b first second = one_order a b first.order second.order (λ q. 
 
 -- the profile
 
-same_file : (m n : ℕ) (a b : HeldFile) → ◌≡◌ {A = Option (Entry HeldFile)} (Some (File m a)) (Some (File n b)) → a ≡ b
+same_file : (m n : OfFile) (a b : HeldFile) → ◌≡◌ {A = Option (Entry HeldFile)} (Some (File m a)) (Some (File n b)) → a ≡ b
 same_file m n a b same = cc
 
 module _ (base : Entries HeldFile) where
@@ -82,7 +83,7 @@ module _ (base : Entries HeldFile) where
   one_led : (names : List (List ℕ)) (a b : Profile) → LeadsToProfile base names a → LeadsToProfile base names b → a ≡ b
   one_led names a b x y =
       let path : a.path ≡ b.path = same_end base names a.path b.path x.leads y.leads in
-      let file : a.file ≡ b.file = same_file x.mode y.mode a.file b.file (sym x.stands ∙ ap (lookup base) path ∙ y.stands) in
+      let file : a.file ≡ b.file = same_file x.attributes y.attributes a.file b.file (sym x.stands ∙ ap (lookup base) path ∙ y.stands) in
       λ i. record { path = path i; file = file i }
 
   module _ (name : List ℕ) where
@@ -129,7 +130,7 @@ one_made base ask body units profile lines a b x y =
     let place : a.place ≡ b.place = x.place ∙ sym y.place in
     let outside : a.outside ≡ b.outside = x.outside ∙ sym y.outside in
     let directory : a.directory ≡ b.directory = same_end base body.place a.directory b.directory x.leads y.leads in
-    let mode : a.mode ≡ b.mode = x.mode ∙ ap (λ d. directory_mode (lookup base d)) directory ∙ sym y.mode in
+    let attributes : a.attributes ≡ b.attributes = x.attributes ∙ ap (λ d. directory_attributes (lookup base d)) directory ∙ sym y.attributes in
     let profile_same : a.profile ≡ b.profile = x.profile_is ∙ sym y.profile_is in
     let own : a.own ≡ b.own = one_own (own_text body.place (shown_for ask.runtime ask.copy (is_outside ask.image) body.place) lines) a.own b.own x.own y.own in
     let units_same : a.units ≡ b.units = x.units_are ∙ sym y.units_are in
@@ -139,7 +140,7 @@ one_made base ask body units profile lines a b x y =
       place = place i;
       outside = outside i;
       directory = directory i;
-      mode = mode i;
+      attributes = attributes i;
       profile = profile_same i;
       own = own i;
       units = units_same i;

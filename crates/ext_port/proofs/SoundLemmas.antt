@@ -1,10 +1,12 @@
 -- What is made of an image of a valid host is made of files of that host alone.
-use Rattle.std.proofs.Common.{◌≡◌, ◌≢◌, ℕ, ◌≤◌, true, List, [], ◌∷◌, ◌++◌, length, Option, Some, None, is_some, inl, inr, refl, sym, ap, ◌∙◌, subst, arith, length-append}
+use Rattle.std.proofs.Common.{◌≡◌, ◌≢◌, ℕ, true, List, [], ◌∷◌, ◌++◌, length, Option, Some, None, is_some, inl, inr, refl, sym, ap, ◌∙◌, subst, arith, length-append}
 use Rattle.std.specs.Prelude.{Contains, IsTrue}
 use Rattle.std.specs.FinMap.{find as find_in, is_sorted}
 use Rattle.std.specs.List.{AllByRecursion}
 use Rattle.std.specs.Option.{option_map}
 use Rattle.std.proofs.lemmas.Option.{slice_get-map, slice_get_read}
+use Rattle.ext_attributes.proofs.ForCallers.{mode_in_range}
+use Rattle.ext_attributes.specs.Attributes.{IsAttributes}
 use Rattle.ext_text.specs.Digest.{IsDigest}
 use Rattle.ext_text.specs.Path.{IsPath}
 use Rattle.ext_text.specs.declared.class.Class.TheVariants as classes
@@ -34,7 +36,7 @@ use Rattle.ext_units.specs.declared.image.Image.{Image}
 use Rattle.ext_units.specs.declared.image.Image.TheVariants.{Named, At}
 use Rattle.ext_units.specs.declared.unit_file.UnitFile.{UnitFile}
 use Rattle.ext_units.proofs.ForCallers.{each_unit}
-use Rattle.ext_added.specs.Attaching.{IsAttaching, directory_mode, is_outside, shown_for}
+use Rattle.ext_added.specs.Attaching.{IsAttaching, directory_attributes, is_outside, shown_for}
 use Rattle.ext_added.specs.DropIn.{own_text}
 use Rattle.ext_added.specs.Entries.{IsWellMade}
 use Rattle.ext_added.specs.Profile.{IsProfile, LeadsToProfile}
@@ -53,14 +55,14 @@ module _ (host : Host) (base : Entries HeldFile) (valid : IsValidHost host) (is_
     | inr under ↦ found_holds (IsWritable held_form) host.lower q e valid.present.limits.lower under
   ]
 
-  -- the mode of a directory is one
-  mode_is : (o : Option (Entry HeldFile)) → ((e : Entry HeldFile) → o ≡ Some e → IsWritable held_form e) → directory_mode o ≤ 4095
-  mode_is None range = omega arith
-  mode_is (Some (Dir mode)) range = range (Dir mode) refl
-  mode_is (Some (Opaque mode)) range = range (Opaque mode) refl
-  mode_is (Some (File mode held)) range = omega arith
-  mode_is (Some (Link target)) range = omega arith
-  mode_is (Some Hide) range = omega arith
+  -- the attributes of a directory are in their ranges
+  attributes_are : (o : Option (Entry HeldFile)) → ((e : Entry HeldFile) → o ≡ Some e → IsWritable held_form e) → IsAttributes (directory_attributes o)
+  attributes_are None range = mode_in_range 493 (omega arith)
+  attributes_are (Some (Dir attributes)) range = range (Dir attributes) refl
+  attributes_are (Some (Opaque attributes)) range = range (Opaque attributes) refl
+  attributes_are (Some (File attributes held)) range = mode_in_range 493 (omega arith)
+  attributes_are (Some (Link owner target)) range = mode_in_range 493 (omega arith)
+  attributes_are (Some Hide) range = mode_in_range 493 (omega arith)
 
   directory_there : (o : Option (Entry HeldFile)) → is_directory_at o ≡ true → is_some o ≡ true
   directory_there None directory = directory
@@ -133,7 +135,7 @@ module _ (host : Host) (base : Entries HeldFile) (valid : IsValidHost host) (is_
       files = each (λ u. IsPath u.file) (λ u unit. is_tree.paths u.file (file_there (lookup tree u.file) unit.is_file));
       profile = subst IsPath (ap (λ (p : Profile). p.path) (sym is.profile_is)) (is_base.tree.paths profile.path (ap is_some leads.1.stands));
       place = subst IsPath (sym is.place) place;
-      mode = subst (λ m. m ≤ 4095) (sym is.mode) (mode_is (lookup base made.directory) (λ e found. base_range made.directory e found));
+      attributes = subst IsAttributes (sym is.attributes) (attributes_are (lookup base made.directory) (λ e found. base_range made.directory e found));
     }
 
     -- so what is made is sound
@@ -144,7 +146,7 @@ module _ (host : Host) (base : Entries HeldFile) (valid : IsValidHost host) (is_
       sorted = ascend tree are.0 made.units (subst (AreUnits tree are.0) (sym is.units_are) are.1);
       unit_names = each (λ u. has_unit_suffix u.name ≡ true) (λ u unit. unit.is_name.suffix);
       unit_files = each (λ u. is_file_at (lookup tree u.file) ≡ true) (λ u unit. unit.is_file);
-      profile = subst (λ (p : Profile). IsHostFile host p.file) (sym is.profile_is) (base_file host base is_base profile.file (record { path = profile.path; mode = leads.1.mode; stands = leads.1.stands }));
+      profile = subst (λ (p : Profile). IsHostFile host p.file) (sym is.profile_is) (base_file host base is_base profile.file (record { path = profile.path; attributes = leads.1.attributes; stands = leads.1.stands }));
       text = own_text body.place (shown_for ask.runtime ask.copy (is_outside ask.image) body.place) lines;
       own = is.own;
       digest = digest;

@@ -32,16 +32,16 @@ arch_start false image host = refl
 pub serves_start : (serves : HeldFile → Bool) (again : Bool) (image : Image) (host : Host) → ServesHost serves host → ServesHost serves (start_host again image host)
 serves_start serves false image host all = all
 serves_start serves true image host all = record {
-  root = λ path mode held found. all.root path mode held (cut_found (paths_without image host) host.root path (File mode held) found);
+  root = λ path attributes held found. all.root path attributes held (cut_found (paths_without image host) host.root path (File attributes held) found);
   lower = all.lower;
 }
 
 -- and its base
 pub base_served : (serves : HeldFile → Bool) (host : Host) (base : Entries HeldFile) → IsBaseTree host base → ServesHost serves host → ServesAll serves base
-base_served serves host base is all path mode held found =
-    elim (is_in (merged_in host) path) as (λ b. (if b then lookup host.lower path else lookup host.root path) ≡ Some (File mode held) → IsTrue (serves held)) [
-      | true ↦ λ under. all.lower path mode held under
-      | false ↦ λ seen. all.root path mode held seen
+base_served serves host base is all path attributes held found =
+    elim (is_in (merged_in host) path) as (λ b. (if b then lookup host.lower path else lookup host.root path) ≡ Some (File attributes held) → IsTrue (serves held)) [
+      | true ↦ λ under. all.lower path attributes held under
+      | false ↦ λ seen. all.root path attributes held seen
     ] (sym (is.is_base path) ∙ found)
 
 -- a host has one base

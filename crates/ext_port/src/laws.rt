@@ -6,7 +6,7 @@ use ext_host::Held;
 use ext_units::laws::{there_is_one_choice_of_units, there_is_one_image};
 
 /// What attaching adds is all at and below the paths that it records: elsewhere stands what stood, and in the ways to these paths a
-/// directory of mode 755 where nothing did.
+/// directory of root's and of mode 755 where nothing did.
 pub fn what_is_added_is_recorded()
     ensures { AddedAtTops }
 {}

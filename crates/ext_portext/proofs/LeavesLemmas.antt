@@ -1,5 +1,5 @@
 -- What attaching with extensions leaves of the host is what attaching leaves of it.
-use Rattle.std.proofs.Common.{◌≡◌, ℕ, Bool, List, Ok, Err, inl, inr, sym, ap, ◌∙◌, subst}
+use Rattle.std.proofs.Common.{◌≡◌, ℕ, Bool, List, Ok, Err, inl, inr, sym, ap, subst}
 use Rattle.std.specs.Prelude.{Result}
 use Rattle.ext_host.specs.Held.{HeldFile}
 use Rattle.ext_host.specs.Shelf.{Told}
@@ -13,7 +13,7 @@ use Rattle.ext_port.specs.declared.attaching.Attach.{Attach}
 use Rattle.ext_port.specs.declared.errors.PortErr.{PortErr}
 use Rattle.ext_port.proofs.ForCallers.{LeavesOthers, body_leaves}
 use Rattle.ext_portext.specs.Lines.{extension_lines}
-use Rattle.ext_portext.specs.Wants.{AttachesExtended, ExtensionsWant, FittingExtensionsWant, UnitTreeWants, as_extended}
+use Rattle.ext_portext.specs.Wants.{AttachesExtended, UnitTreeWants, as_extended}
 use Rattle.ext_portext.specs.declared.errors.PortExtErr.{PortExtErr}
 use Rattle.ext_portext.specs.declared.extending.Extending.{Extending}
 

@@ -44,7 +44,7 @@ use Rattle.ext_portext.specs.declared.extending.Extending.{Extending}
 
 -- the release file of an extension is a file of its tree
 extension_file : (tree : Entries HeldFile) (name : List ℕ) (held : HeldFile) → IsExtensionFile tree name held → HasFile tree held
-extension_file tree name held leads = record { path = leads.0; mode = leads.1; stands = leads.3 }
+extension_file tree name held leads = record { path = leads.0; attributes = leads.1; stands = leads.3 }
 
 -- an extension that fails fails with one of three errors
 fails_as : (Q : PortExtErr → Type 0) (told : HeldFile → Told) (host : Host) (base : Entries HeldFile) (release : FinMap bytes_cmp (List ℕ)) (old new : ℕ) (at : ℕ) (image : Image) (e : PortExtErr)

@@ -6,6 +6,7 @@ use Rattle.std.specs.Option.{option_map, unwrap_or}
 use Rattle.std.proofs.lemmas.Bool.{true≢false}
 use Rattle.std.proofs.lemmas.Option.{none-some, same_Some, slice_get-map, slice_get_read}
 use Rattle.ext_lines.specs.ByteOrder.{bytes_cmp}
+use Rattle.ext_attributes.specs.Attributes.{OfFile}
 use Rattle.ext_text.specs.declared.class.Class.TheVariants as classes
 use Rattle.ext_text.specs.declared.extension.Extension.TheVariants.{Sysext}
 use Rattle.ext_text.specs.declared.scope.Scope.TheVariants as scopes
@@ -123,7 +124,7 @@ tree_once base place t u x y = x.below ∙ ap (λ d. part d base) (same_end base
 
 -- what its release file says
 
-same_file : (m n : ℕ) (a b : HeldFile) → ◌≡◌ {A = Option (Entry HeldFile)} (Some (File m a)) (Some (File n b)) → a ≡ b
+same_file : (m n : OfFile) (a b : HeldFile) → ◌≡◌ {A = Option (Entry HeldFile)} (Some (File m a)) (Some (File n b)) → a ≡ b
 same_file m n a b same = cc
 
 content_once : (es : Entries HeldFile) (names : List (List ℕ)) (a b : HeldFile) → LeadsToContent es names a → LeadsToContent es names b → a ≡ b

@@ -6,6 +6,7 @@ use Rattle.std.specs.List.{AllByRecursion}
 use Rattle.std.proofs.lemmas.Bool.{eqb-true, false≢true, true≢false}
 use Rattle.std.proofs.lemmas.Float.{T_from_true}
 use Rattle.std.proofs.lemmas.List.{map-append}
+use Rattle.ext_attributes.specs.Attributes.{OfFile}
 use Rattle.ext_text.specs.Order.{paths_exact, paths_total}
 use Rattle.ext_text.specs.Path.{path_cmp}
 use Rattle.ext_text.specs.declared.which.Which.TheVariants as limits
@@ -133,12 +134,12 @@ some_extensions extensions some none = true≢false (sym (ap (λ (xs : List Exte
 -- files of the tree of the units
 
 -- a file shows as it is
-shown_file : (mode : ℕ) (held : HeldFile) (stored : Entry HeldFile) → ◌≡◌ {A = Entry HeldFile} (File mode held) (as_shown stored) → stored ≡ File mode held
-shown_file mode held (Dir m) is = cc is
-shown_file mode held (Opaque m) is = cc is
-shown_file mode held (File m h) is = sym is
-shown_file mode held (Link t) is = cc is
-shown_file mode held Hide is = cc is
+shown_file : (attributes : OfFile) (held : HeldFile) (stored : Entry HeldFile) → ◌≡◌ {A = Entry HeldFile} (File attributes held) (as_shown stored) → stored ≡ File attributes held
+shown_file attributes held (Dir m) is = cc is
+shown_file attributes held (Opaque m) is = cc is
+shown_file attributes held (File m h) is = sym is
+shown_file attributes held (Link owner t) is = cc is
+shown_file attributes held Hide is = cc is
 
 module _ (P : HeldFile → Type 0) where
   abbrev HasOnly : Entries HeldFile → Type 0
@@ -151,11 +152,11 @@ module _ (P : HeldFile → Type 0) where
   files_hold names image (x ∷ xs) tree is of_image of_all held file =
       elim (is_in names file.path) as (λ b. is_in names file.path ≡ b → P held) [
         | true ↦ λ in_.
-            let v = is.visible file.path (File file.mode held) in_ file.stands in
+            let v = is.visible file.path (File file.attributes held) in_ file.stands in
             let each = all_append HasOnly (reverse (map tree_of (x ∷ xs))) (image ∷ []) (all_reverse HasOnly (map tree_of (x ∷ xs)) (all_mapped tree_of HasOnly (x ∷ xs) of_all)) (of_image, tt) in
             let rest = (all_split HasOnly v.above (v.layer ∷ v.below) (subst (AllByRecursion HasOnly) v.split each)).1 in
-            rest.0 held (record { path = file.path; mode = file.mode; stands = v.stands ∙ ap (λ (e : Entry HeldFile). Some e) (shown_file file.mode held v.stored v.shown) })
-        | false ↦ λ out. of_image held (record { path = file.path; mode = file.mode; stands = sym (is.elsewhere file.path out) ∙ file.stands })
+            rest.0 held (record { path = file.path; attributes = file.attributes; stands = v.stands ∙ ap (λ (e : Entry HeldFile). Some e) (shown_file file.attributes held v.stored v.shown) })
+        | false ↦ λ out. of_image held (record { path = file.path; attributes = file.attributes; stands = sym (is.elsewhere file.path out) ∙ file.stands })
       ] refl
 
 -- one tree

@@ -125,6 +125,6 @@ fn held_at<'a>(tree: &'a Tree<Held>, names: &PathRef) -> Option<&'a Held>
 {
     match tree.entry_at(names) {
         Some(Entry::File(_, held)) => Some(held),
-        Some(Entry::Dir(_) | Entry::Opaque(_) | Entry::Link(_) | Entry::Hide) | None => None,
+        Some(Entry::Dir(_) | Entry::Opaque(_) | Entry::Link(_, _) | Entry::Hide) | None => None,
     }
 }

@@ -3,6 +3,6 @@
 pub(crate) const HELP: &str = "hostext_publish STORE OUT ABS RES NAME";
 
 /// The version, the kit that the program is proved with, and the licences, as `hostext` has them.
-pub(crate) const VERSION: &str = "hostext_publish 0.2.0
+pub(crate) const VERSION: &str = "hostext_publish 0.3.0
 proved with rattle-kit-13f logic dac8208d650f15bf
 SPDX-License-Identifier: MIT OR Apache-2.0";

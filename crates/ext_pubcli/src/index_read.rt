@@ -71,7 +71,7 @@ fn owners_among(pairs: &[(Path, Entry<Held>)], top: &Path) -> u64 {
 
 fn is_owners(entry: &Entry<Held>) -> bool {
     match entry {
-        Entry::File(mode, _) => mode.bits() & OF_OTHERS == 0,
+        Entry::File(file, _) => file.attributes().mode.bits() & OF_OTHERS == 0,
         _ => false,
     }
 }

@@ -5,7 +5,7 @@ use Rattle.std.proofs.lemmas.Option.{none-some}
 use Rattle.ext_disk.specs.Disk.{Tree, Places, Told, DiskState, BothTold, IsDisk, now}
 use Rattle.ext_disk.specs.Fixed.{IsUnchangedAt}
 use Rattle.ext_disk.specs.Since.{Follows, IsLater, Rests, Since}
-use Rattle.ext_disk.proofs.ForCallers.{follows_then, rests_follow, since_past, unchanged_itself}
+use Rattle.ext_disk.proofs.ForCallers.{since_past, unchanged_itself}
 use Rattle.ext_tree.specs.Tree.{Entries, lookup}
 use Rattle.ext_tree.specs.declared.entry.Entry.TheVariants as entries
 use Rattle.ext_tree.proofs.ForCallers.{lookup_part, root_part}
@@ -48,13 +48,13 @@ use Rattle.ext_publish.proofs.StoreLemmas.{keeps_store, opened_tells}
 
 -- the files that are published are seen on the host
 pub seen_of : (root : Entries HeldFile) (path : List (List ℕ)) (payload : Payload) → GivesPayload root path (Ok payload) → (held : HeldFile) → IsPublishedFileOf payload held → HasFile root held
-seen_of root path (Directory tree) gives held ([], has) = absurd (none-some (entries.File has.mode held) (sym (ap (λ es. lookup es []) gives.1 ∙ root_part path root) ∙ has.stands))
+seen_of root path (Directory tree) gives held ([], has) = absurd (none-some (entries.File has.attributes held) (sym (ap (λ es. lookup es []) gives.1 ∙ root_part path root) ∙ has.stands))
 seen_of root path (Directory tree) gives held (n ∷ below, has) = record {
   path = path ++ n ∷ below;
-  mode = has.mode;
+  attributes = has.attributes;
   stands = sym (ap (λ es. lookup es (n ∷ below)) gives.1 ∙ lookup_part path n below root) ∙ has.stands;
 }
-seen_of root path (File one) gives held same = record { path = path; mode = gives.mode; stands = gives.stands ∙ ap (λ (h : HeldFile). Some (entries.File gives.mode h)) (sym same) }
+seen_of root path (File one) gives held same = record { path = path; attributes = gives.attributes; stands = gives.stands ∙ ap (λ (h : HeldFile). Some (entries.File gives.attributes h)) (sym same) }
 
 pub readable_of : (host : Host) (path : List (List ℕ)) (payload : Payload) → ((held : HeldFile) → HasFile host.root held → is_served held.body ≡ true) → GivesPayload host.root path (Ok payload) → IsReadable payload
 readable_of host path payload served gives = λ held is. served held (seen_of host.root path payload gives held is)

@@ -40,10 +40,10 @@ pub counts_more : (es : Entries HeldFile) (i : ℕ) (x : List (List ℕ) × Entr
 counts_more es i x made more inside is counted with_it = each x.1 refl with_it
   where
     each : (e : Entry HeldFile) → x.1 ≡ e → IsWithEntry made e more → IsMadeOf more (Directory (take (i + 1) es))
-    each (entries.File mode held) same one = counts_file es i x held made more inside is (ap files_of_entry same) one counted
-    each (entries.Dir mode) same one = counts_same es i x made more inside is (ap files_of_entry same) one counted
-    each (entries.Opaque mode) same one = counts_same es i x made more inside is (ap files_of_entry same) one counted
-    each (entries.Link target) same one = counts_same es i x made more inside is (ap files_of_entry same) one counted
+    each (entries.File attributes held) same one = counts_file es i x held made more inside is (ap files_of_entry same) one counted
+    each (entries.Dir attributes) same one = counts_same es i x made more inside is (ap files_of_entry same) one counted
+    each (entries.Opaque attributes) same one = counts_same es i x made more inside is (ap files_of_entry same) one counted
+    each (entries.Link owner target) same one = counts_same es i x made more inside is (ap files_of_entry same) one counted
     each entries.Hide same one = counts_same es i x made more inside is (ap files_of_entry same) one counted
 
 -- all of them

@@ -5,6 +5,7 @@ use Rattle.std.proofs.lemmas.Bool.{false≢true, and_parts, and_from}
 use Rattle.std.proofs.lemmas.Option.{none-some, same_Some}
 use Rattle.std.specs.Option.{is_some}
 use Rattle.std.specs.Ordering.{eq_by_cmp}
+use Rattle.ext_attributes.specs.Attributes.{OfFile}
 use Rattle.ext_text.specs.Name.{bytes_cmp}
 use Rattle.ext_text.specs.Path.{is_prefix, parent}
 use Rattle.ext_text.proofs.ForCallers.{length-parent, parent_prefix, prefix_both, prefix_short, prefix_trans, proper_first, same_name, tied_name}
@@ -61,22 +62,22 @@ path_in dir resource below path name resource_is path_is = path_is ∙ ap (λ r.
 pub names_down : (dir : List (List ℕ)) (name : List ℕ) (below path : List (List ℕ)) → path ≡ dir ++ name ∷ below → drop (length dir) (parent path) ≡ parent (name ∷ below)
 names_down dir name below path path_is = ap (λ p. drop (length dir) (parent p)) path_is ∙ ap (drop (length dir)) (parent_append dir name below) ∙ drop_back dir (parent (name ∷ below))
 
-same_file : (m n : ℕ) (g h : HeldFile) → entries.File m g ≡ entries.File n h → g ≡ h
+same_file : (m n : OfFile) (g h : HeldFile) → entries.File m g ≡ entries.File n h → g ≡ h
 same_file m n g h is = ap (content g) is
   where
     content : HeldFile → Entry HeldFile → HeldFile
-    content other (entries.Dir mode) = other
-    content other (entries.Opaque mode) = other
-    content other (entries.File mode held) = held
-    content other (entries.Link target) = other
+    content other (entries.Dir attributes) = other
+    content other (entries.Opaque attributes) = other
+    content other (entries.File attributes held) = held
+    content other (entries.Link owner target) = other
     content other entries.Hide = other
 
 -- the entry is a file where it has one
-pub held_is : (entry : Entry HeldFile) (held : HeldFile) → held_of entry ≡ Some held → (mode : ℕ) × (entry ≡ entries.File mode held)
-held_is (entries.Dir mode) held is = absurd (none-some held is)
-held_is (entries.Opaque mode) held is = absurd (none-some held is)
-held_is (entries.File mode one) held is = (mode, ap (entries.File mode) (same_Some one held is))
-held_is (entries.Link target) held is = absurd (none-some held is)
+pub held_is : (entry : Entry HeldFile) (held : HeldFile) → held_of entry ≡ Some held → (attributes : OfFile) × (entry ≡ entries.File attributes held)
+held_is (entries.Dir attributes) held is = absurd (none-some held is)
+held_is (entries.Opaque attributes) held is = absurd (none-some held is)
+held_is (entries.File attributes one) held is = (attributes, ap (entries.File attributes) (same_Some one held is))
+held_is (entries.Link owner target) held is = absurd (none-some held is)
 held_is entries.Hide held is = absurd (none-some held is)
 
 -- no file stands above a file of a tree
@@ -84,7 +85,7 @@ no_file_above : (tree : Entries HeldFile) → IsEntryTree tree → (p q : List (
 no_file_above tree is_tree p q one other has above pre short = none q above (prefixes tree is_tree q p (ap is_some has.stands) pre short)
   where
     none : (q : List (List ℕ)) → HasHeldFileAt tree q other → is_directory_or_root tree q ≡ true → ⊥
-    none [] above directory = none-some (entries.File above.mode other) (sym is_tree.root ∙ above.stands)
+    none [] above directory = none-some (entries.File above.attributes other) (sym is_tree.root ∙ above.stands)
     none (n ∷ r) above directory = false≢true (sym (ap is_directory_at above.stands) ∙ directory)
 
 -- a file that was written as a store tells it that rested
@@ -95,17 +96,17 @@ filled_rests store after held path e rests filled = (filled.0, subst (λ told. I
 pub filling_first : (store : DiskState) (dir resource : List (List ℕ)) (tree : Entries HeldFile) (e : Places) → (e dir).node ≡ Some folder → ((p : List (List ℕ)) → is_prefix resource p ≡ true → (e p).node ≡ None) → IsFilling store dir resource tree [] e
 filling_first store dir resource tree e base none = record {
   base = base;
-  files = λ path held has. absurd (none-some (entries.File has.mode held) has.stands);
+  files = λ path held has. absurd (none-some (entries.File has.attributes held) has.stands);
   only = λ path is. absurd (false≢true (sym (ap is_file (none (resource ++ path) (prefix_append resource path))) ∙ is));
   folders = λ path is. absurd (none-some folder (sym (none (resource ++ path) (prefix_append resource path)) ∙ is));
   calm = λ path is. absurd (none-some folder (sym (none (resource ++ path) (prefix_append resource path)) ∙ is));
 }
 
 -- the entry of a tree at an index, which is a file
-module _ (store : DiskState) (dir resource : List (List ℕ)) (name : List ℕ) (tree : Entries HeldFile) (i : ℕ) (x : List (List ℕ) × Entry HeldFile) (mode : ℕ) (held : HeldFile) (resource_is : resource ≡ dir ++ name ∷ [])
-    (is_tree : IsEntryTree tree) (inside : i < length tree) (item : x ≡ get_or tree i x) (file_is : x.1 ≡ entries.File mode held) where
+module _ (store : DiskState) (dir resource : List (List ℕ)) (name : List ℕ) (tree : Entries HeldFile) (i : ℕ) (x : List (List ℕ) × Entry HeldFile) (attributes : OfFile) (held : HeldFile) (resource_is : resource ≡ dir ++ name ∷ [])
+    (is_tree : IsEntryTree tree) (inside : i < length tree) (item : x ≡ get_or tree i x) (file_is : x.1 ≡ entries.File attributes held) where
   here : HasHeldFileAt tree x.0 held
-  here = stands_there tree i x mode held is_tree inside item file_is
+  here = stands_there tree i x attributes held is_tree inside item file_is
 
   way_free : (d : Places) → IsFilling store dir resource tree (take i tree) d → (q : List (List ℕ)) → is_prefix q (parent (name ∷ x.0)) ≡ true → q ≢ [] → is_file (d (dir ++ q)).node ≡ false
   way_free d filling [] pre some = absurd (some refl)
@@ -133,7 +134,7 @@ module _ (store : DiskState) (dir resource : List (List ℕ)) (name : List ℕ) 
       absurd (no_file_above tree is_tree above.0 x.0 above.1 held above.2 here (and_parts (is_prefix x.0 above.0) (not (is_prefix above.0 x.0)) above.3).0 ((proper_first x.0 above.0).0 above.3).1)
   place_free d filling (Some (file bytes)) is =
       let before = filling.only x.0 (ap is_file is) in
-      absurd (none-some (entries.File before.1.mode before.0) (sym (not_before tree i x is_tree inside item) ∙ before.1.stands))
+      absurd (none-some (entries.File before.1.attributes before.0) (sym (not_before tree i x is_tree inside item) ∙ before.1.stands))
 
   -- the file may be written
   pub may_write : (d : Places) → IsFilling store dir resource tree (take i tree) d → MayWriteOne dir (resource ++ x.0) d
@@ -144,13 +145,13 @@ module _ (store : DiskState) (dir resource : List (List ℕ)) (name : List ℕ) 
     free = place_free d filling (d (resource ++ x.0)).node refl;
   }
 
-  next_files : (d e : Places) → IsFilling store dir resource tree (take i tree) d → IsOneMore store held (resource ++ x.0) d e → (path : List (List ℕ)) (one : HeldFile) → HasHeldFileAt (take i tree) path one ⊎ ((path ≡ x.0) × ((mode : ℕ) × (x.1 ≡ entries.File mode one)))
+  next_files : (d e : Places) → IsFilling store dir resource tree (take i tree) d → IsOneMore store held (resource ++ x.0) d e → (path : List (List ℕ)) (one : HeldFile) → HasHeldFileAt (take i tree) path one ⊎ ((path ≡ x.0) × ((attributes : OfFile) × (x.1 ≡ entries.File attributes one)))
       → IsFilledWith store one (resource ++ path) e
   next_files d e filling more path one (inl before) =
       let was = filling.files path one before in
       (was.0, was.1, was.2, record { node = more.keeps (resource ++ path) (ap is_some was.3.node) ∙ was.3.node; hard = more.hard (resource ++ path) (ap is_file was.3.node) was.3.hard })
   next_files d e filling more path one (inr now_) =
-      subst (λ h. IsFilledWith store h (resource ++ path) e) (same_file mode now_.1.0 held one (sym file_is ∙ now_.1.1)) (subst (λ q. IsFilledWith store held (resource ++ q) e) (sym now_.0) more.there)
+      subst (λ h. IsFilledWith store h (resource ++ path) e) (same_file attributes now_.1.0 held one (sym file_is ∙ now_.1.1)) (subst (λ q. IsFilledWith store held (resource ++ q) e) (sym now_.0) more.there)
 
   next_only : (d : Places) → IsFilling store dir resource tree (take i tree) d → (path : List (List ℕ)) → (is_file (d (resource ++ path)).node ≡ true) ⊎ (resource ++ path ≡ resource ++ x.0)
       → (one : HeldFile) × HasHeldFileAt (take (i + 1) tree) path one
@@ -158,7 +159,7 @@ module _ (store : DiskState) (dir resource : List (List ℕ)) (name : List ℕ) 
       let before = filling.only path was in
       (before.0, has_more tree i x path before.0 inside item before.1)
   next_only d filling path (inr same) =
-      (held, subst (λ q. HasHeldFileAt (take (i + 1) tree) q held) (sym (same_rest resource path x.0 same)) (stands_now tree i x mode held is_tree inside item file_is))
+      (held, subst (λ q. HasHeldFileAt (take (i + 1) tree) q held) (sym (same_rest resource path x.0 same)) (stands_now tree i x attributes held is_tree inside item file_is))
 
   next_folders : (d e : Places) → IsFilling store dir resource tree (take i tree) d → IsOneMore store held (resource ++ x.0) d e → (path : List (List ℕ)) → (e (resource ++ path)).node ≡ Some folder → (o : Option Node) → (d (resource ++ path)).node ≡ o
       → IsAboveFile tree path
@@ -198,7 +199,7 @@ filling_still store dir resource tree i x e inside item none filling = record {
   calm = filling.calm;
 }
   where
-    before : (path : List (List ℕ)) (held : HeldFile) → HasHeldFileAt (take i tree) path held ⊎ ((path ≡ x.0) × ((mode : ℕ) × (x.1 ≡ entries.File mode held))) → IsFilledWith store held (resource ++ path) e
+    before : (path : List (List ℕ)) (held : HeldFile) → HasHeldFileAt (take i tree) path held ⊎ ((path ≡ x.0) × ((attributes : OfFile) × (x.1 ≡ entries.File attributes held))) → IsFilledWith store held (resource ++ path) e
     before path held (inl has) = filling.files path held has
     before path held (inr here) = absurd (none-some held (sym none ∙ ap held_of here.1.1))
 

@@ -5,6 +5,7 @@ use Rattle.std.proofs.lemmas.Bool.{false≢true, or_left}
 use Rattle.std.proofs.lemmas.Option.{none-some}
 use Rattle.std.specs.Option.{is_some}
 use Rattle.std.specs.Result.{is_ok}
+use Rattle.ext_attributes.specs.Attributes.{OfFile}
 use Rattle.ext_text.specs.Path.{parent}
 use Rattle.ext_disk.specs.Disk.{Node, Place, Places, Told, DiskState, BothTold, IsDisk, is_file, is_folder, is_synced, is_taken}
 use Rattle.ext_disk.specs.Calls.{Does, MayCall, sync_dir}
@@ -81,14 +82,14 @@ module _ (tree : Entries HeldFile) (resource : List (List ℕ)) (i : ℕ) (x : L
   named_file : (e : Places) → AreNamed resource (take i tree) e → is_synced (e (resource ++ x.0)) ≡ true → AreNamed resource (take (i + 1) tree) e
   named_file e named here path held has = side (has_split tree i x path held inside item has)
     where
-      side : HasHeldFileAt (take i tree) path held ⊎ ((path ≡ x.0) × ((mode : ℕ) × (x.1 ≡ entries.File mode held))) → is_synced (e (resource ++ path)) ≡ true
+      side : HasHeldFileAt (take i tree) path held ⊎ ((path ≡ x.0) × ((attributes : OfFile) × (x.1 ≡ entries.File attributes held))) → is_synced (e (resource ++ path)) ≡ true
       side (inl before) = named path held before
       side (inr now) = ap (λ q. is_synced (e (resource ++ q))) now.0 ∙ here
 
   named_other : (e : Places) → held_of x.1 ≡ None → AreNamed resource (take i tree) e → AreNamed resource (take (i + 1) tree) e
   named_other e none named path held has = side (has_split tree i x path held inside item has)
     where
-      side : HasHeldFileAt (take i tree) path held ⊎ ((path ≡ x.0) × ((mode : ℕ) × (x.1 ≡ entries.File mode held))) → is_synced (e (resource ++ path)) ≡ true
+      side : HasHeldFileAt (take i tree) path held ⊎ ((path ≡ x.0) × ((attributes : OfFile) × (x.1 ≡ entries.File attributes held))) → is_synced (e (resource ++ path)) ≡ true
       side (inl before) = named path held before
       side (inr now) = absurd (none-some held (sym none ∙ ap held_of now.1.1))
 
@@ -109,4 +110,4 @@ module _ (tree : Entries HeldFile) (resource : List (List ℕ)) (i : ℕ) (x : L
 -- none is to be synced at first
 pub named_none : (resource : List (List ℕ)) (x : Option Told) → IfSome x (λ d. AreNamed resource [] d.places)
 named_none resource None = tt
-named_none resource (Some d) = λ path held has. absurd (none-some (entries.File has.mode held) has.stands)
+named_none resource (Some d) = λ path held has. absurd (none-some (entries.File has.attributes held) has.stands)

@@ -67,10 +67,10 @@ pub record IsMadeOf (made : Made) (payload : Payload) : Type 0 where
 
 -- with an entry more: a file counts, with its bytes
 abbrev pub IsWithEntry : Made → Entry HeldFile → Made → Type 0
-IsWithEntry made (entries.File mode held) more = (more.files ≡ made.files + 1) × (more.bytes ≡ made.bytes + held.stamp.size)
-IsWithEntry made (entries.Dir mode) more = more ≡ made
-IsWithEntry made (entries.Opaque mode) more = more ≡ made
-IsWithEntry made (entries.Link target) more = more ≡ made
+IsWithEntry made (entries.File attributes held) more = (more.files ≡ made.files + 1) × (more.bytes ≡ made.bytes + held.stamp.size)
+IsWithEntry made (entries.Dir attributes) more = more ≡ made
+IsWithEntry made (entries.Opaque attributes) more = more ≡ made
+IsWithEntry made (entries.Link owner target) more = more ≡ made
 IsWithEntry made entries.Hide more = more ≡ made
 
 -- how it ends

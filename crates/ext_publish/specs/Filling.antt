@@ -77,10 +77,10 @@ pub record IsOneMore (store : DiskState) (held : HeldFile) (path : List (List â„
 
 -- the file of an entry, where it is one
 abbrev pub held_of : Entry HeldFile â†’ Option HeldFile
-held_of (entries.Dir mode) = None
-held_of (entries.Opaque mode) = None
-held_of (entries.File mode held) = Some held
-held_of (entries.Link target) = None
+held_of (entries.Dir attributes) = None
+held_of (entries.Opaque attributes) = None
+held_of (entries.File attributes held) = Some held
+held_of (entries.Link owner target) = None
 held_of entries.Hide = None
 
 -- an entry was written, where it is a file; what is told stays else

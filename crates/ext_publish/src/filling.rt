@@ -194,7 +194,7 @@ fn held_of(entry: &Entry<Held>) -> Option<&Held>
         Entry::File(_, held) => Some(held),
         Entry::Dir(_) => None,
         Entry::Opaque(_) => None,
-        Entry::Link(_) => None,
+        Entry::Link(_, _) => None,
         Entry::Hide => None,
     }
 }

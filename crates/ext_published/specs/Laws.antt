@@ -1,6 +1,7 @@
 -- What holds of every published resource, and of every manifest to which one is added.
 use Rattle.std.specs.Prelude.{◌≡◌, ℕ, List, [], ◌∷◌, ◌++◌, Some, None, true}
 use Rattle.std.specs.FinMap.{put}
+use Rattle.ext_attributes.specs.Attributes.{OfFile}
 use Rattle.ext_lines.specs.ByteOrder.{bytes_cmp}
 use Rattle.ext_lines.specs.Lines.{text_lines}
 use Rattle.ext_text.specs.Digest.{IsDigest}
@@ -33,7 +34,7 @@ ListingAdds = (old digest name : List ℕ) (before : listing.Entries) → IsDige
 abbrev pub FilesHaveListedStamps : Type 0
 FilesHaveListedStamps = (c : Files) (asked : AskedOf) (tree : Entries HeldFile) (bytes_of : HeldFile → List ℕ) → IsPublishedTree c asked tree bytes_of
     → ((path : List (List ℕ)) (held : HeldFile) → HasHeldFileAt tree path held → IsStampOf (bytes_of held) held.stamp)
-    → (path : List (List ℕ)) (mode : ℕ) (stamp : Stamp) → lookup (stamps tree) path ≡ Some (File mode stamp)
+    → (path : List (List ℕ)) (attributes : OfFile) (stamp : Stamp) → lookup (stamps tree) path ≡ Some (File attributes stamp)
     → (bytes : List ℕ) × (c (published_resource_path asked ++ path) ≡ Some bytes) × IsStampOf bytes stamp
 
 -- words have one first fault

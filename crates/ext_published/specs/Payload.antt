@@ -1,6 +1,7 @@
 -- What is published: a directory of the host with all below it, or a file. This project's own.
 use Rattle.std.specs.Prelude.{◌≡◌, ℕ, true, false, List, [], ◌∷◌, Some, None, Result, Ok, Err}
 use Rattle.std.specs.List.{flat_map, sum_by}
+use Rattle.ext_attributes.specs.Attributes.{OfFile}
 use Rattle.ext_tree.specs.Part.{part}
 use Rattle.ext_tree.specs.Tree.{Entries, is_directory, is_directory_or_root, is_file, lookup}
 use Rattle.ext_tree.specs.declared.entry.Entry.{Entry}
@@ -14,8 +15,8 @@ use Rattle.ext_published.specs.declared.payload.PayloadErr.TheVariants.{OutOfMem
 
 -- a file stands at the path of the tree
 pub record HasHeldFileAt (es : Entries HeldFile) (path : List (List ℕ)) (held : HeldFile) : Type 0 where
-  pub mode : ℕ
-  pub stands : lookup es path ≡ Some (entries.File mode held)
+  pub attributes : OfFile
+  pub stands : lookup es path ≡ Some (entries.File attributes held)
 
 -- what stands at the path is neither a directory nor a file
 pub record HasOtherAt (es : Entries HeldFile) (path : List (List ℕ)) : Type 0 where
@@ -43,10 +44,10 @@ GivesPayload es path (Err NotFile) = HasOtherAt es path
 
 -- the files of an entry
 abbrev pub files_of_entry : Entry HeldFile → List HeldFile
-files_of_entry (entries.Dir mode) = []
-files_of_entry (entries.Opaque mode) = []
-files_of_entry (entries.File mode held) = held ∷ []
-files_of_entry (entries.Link target) = []
+files_of_entry (entries.Dir attributes) = []
+files_of_entry (entries.Opaque attributes) = []
+files_of_entry (entries.File attributes held) = held ∷ []
+files_of_entry (entries.Link owner target) = []
 files_of_entry entries.Hide = []
 
 -- the files of a tree, in path order

@@ -71,7 +71,7 @@ fn entry_at(
 {
     match entry {
         Entry::File(_, held) => Ok(Payload::File(held.copy(alloc)?)),
-        Entry::Link(_) => Err(PayloadErr::NotFile),
+        Entry::Link(_, _) => Err(PayloadErr::NotFile),
         Entry::Hide => Err(PayloadErr::NotFile),
         Entry::Dir(_) => directory_at(root, path),
         Entry::Opaque(_) => directory_at(root, path),

@@ -1,47 +1,40 @@
 -- What is published, as an import and an update read it.
-use Rattle.std.proofs.Common.{◌≡◌, ◌≢◌, ◌⊎◌, ℕ, ◌≤◌, true, false, List, [], ◌∷◌, ◌++◌, length, Option, Some, None, Result, Ok, Err, refl, sym, ap, ◌∙◌, subst, inl, inr, codes}
+use Rattle.std.proofs.Common.{◌≡◌, ◌≢◌, ℕ, ◌≤◌, true, false, List, [], ◌∷◌, ◌++◌, length, Option, Some, None, Result, refl, sym, ap, ◌∙◌, subst, inl, inr}
 use Rattle.std.specs.Prelude.{nat_le}
 use Rattle.std.specs.Option.{is_some}
 use Rattle.std.proofs.lemmas.Bool.{cond-true, le-leb}
-use Rattle.std.proofs.lemmas.Option.{none-some, same_Some}
-use Rattle.std.proofs.lemmas.Cmp.{eq_by_cmp_equiv}
+use Rattle.std.proofs.lemmas.Option.{none-some}
+use Rattle.ext_attributes.specs.Attributes.{OfFile}
 use Rattle.ext_text.specs.Name.{bytes_cmp}
-use Rattle.ext_tree.specs.FirstFault.{IsFirstFault, IsOne}
 use Rattle.ext_tree.specs.Tree.{Entries, lookup}
-use Rattle.ext_tree.specs.TreeText.{HasText, IsTreeText}
+use Rattle.ext_tree.specs.TreeText.{IsTreeText}
 use Rattle.ext_tree.specs.declared.entry.Entry.{Entry}
 use Rattle.ext_tree.specs.declared.entry.Entry.TheVariants as entries
 use Rattle.ext_tree.specs.declared.stamp.Stamp.{Stamp}
 use Rattle.ext_tree.proofs.ForCallers.{tree_law, no_fault_in_text}
 use Rattle.ext_depot.specs.Depot.{Files}
 use Rattle.ext_depot.specs.DepotText.{text_of}
-use Rattle.ext_depot.specs.declared.depot_text.DepotText.{DepotText}
-use Rattle.ext_depot.specs.declared.depot_text.DepotText.TheVariants.{Absent, TooLong, Whole}
-use Rattle.ext_host.specs.DepotBodies.{from_depot, in_depot, pair_in_depot}
-use Rattle.ext_host.specs.Drawn.{HasFile}
+use Rattle.ext_depot.specs.declared.depot_text.DepotText.TheVariants.{TooLong, Whole}
+use Rattle.ext_host.specs.DepotBodies.{in_depot}
 use Rattle.ext_host.specs.Held.{HeldFile, IsStampOf}
 use Rattle.ext_host.specs.Stamped.{stamps}
 use Rattle.ext_host.specs.declared.body.Body.TheVariants.{Depot}
-use Rattle.ext_host.specs.declared.host.Host.{Host}
 use Rattle.ext_host.proofs.ForCallers.{lookup_changed}
 use Rattle.ext_sums.specs.Manifest.{IsManifest}
 use Rattle.ext_sums.specs.Sums as listing
 use Rattle.ext_sums.proofs.ForCallers.{no_fault_in_manifest, one_manifest}
 use Rattle.ext_transfer.specs.declared.transfer.Transfer.{Transfer}
-use Rattle.ext_available.specs.Available.{IsOffered}
-use Rattle.ext_available.specs.Offers.{find_offer}
-use Rattle.ext_available.specs.Reading.{IsTold, TellsOffers, manifest_path}
-use Rattle.ext_available.specs.Resource.{Has, IsCandidate, IsListed, listed_name}
+use Rattle.ext_available.specs.Reading.{TellsOffers}
+use Rattle.ext_available.specs.Resource.{Has, listed_name}
 use Rattle.ext_available.specs.declared.offer.Offer.{Offer}
 use Rattle.ext_available.specs.declared.offers_err.OffersErr.{OffersErr}
 use Rattle.ext_cmd.specs.Resource.{tree_path}
-use Rattle.ext_intents.specs.Import.{ImportWants, TextWants, TreeWants}
-use Rattle.ext_intents.specs.declared.intent.Intent.{Intent}
+use Rattle.ext_intents.specs.Import.{TextWants, TreeWants}
 use Rattle.ext_published.specs.Asked.{AskedOf, IsPublishAsk}
 use Rattle.ext_published.specs.Names.{manifest_name, tree_text_name}
-use Rattle.ext_published.specs.Payload.{HasHeldFileAt, listing_name}
+use Rattle.ext_published.specs.Payload.{listing_name}
 use Rattle.ext_published.specs.Places.{published_manifest_path, published_resource_path, tree_text_path}
-use Rattle.ext_published.specs.Published.{IsListedThere, IsPublished, IsPublishedTree, published_text}
+use Rattle.ext_published.specs.Published.{IsListedThere, IsPublished, published_text}
 use Rattle.ext_published.specs.declared.payload.Payload.{Payload}
 use Rattle.ext_published.specs.declared.payload.Payload.TheVariants.{Directory, File}
 use Rattle.ext_published.proofs.ForCallers.{files_have_listed_stamps}
@@ -72,23 +65,23 @@ import_takes c asked from at tree bytes_of valid is gives published host path in
     text (inr faulty) = absurd (no_fault_in_text (published_text tree) (stamps tree) faulty.0 printed faulty.1)
 
 -- a file in the depot by a tree
-file_in_depot : (at : List (List ℕ)) (e : Option (Entry Stamp)) (path : List (List ℕ)) (mode : ℕ) (held : HeldFile) → Rattle.std.specs.Option.option_map (in_depot at) e ≡ Some (entries.File mode held)
-    → (stamp : Stamp) × (e ≡ Some (entries.File mode stamp)) × (held.stamp ≡ stamp) × (held.body ≡ Depot at)
-file_in_depot at None path mode held is = absurd (none-some (entries.File mode held) is)
-file_in_depot at (Some (entries.Dir m)) path mode held is = absurd (cc is)
-file_in_depot at (Some (entries.Opaque m)) path mode held is = absurd (cc is)
-file_in_depot at (Some (entries.File m stamp)) path mode held is =
-    let modes : m ≡ mode = cc in
+file_in_depot : (at : List (List ℕ)) (e : Option (Entry Stamp)) (path : List (List ℕ)) (attributes : OfFile) (held : HeldFile) → Rattle.std.specs.Option.option_map (in_depot at) e ≡ Some (entries.File attributes held)
+    → (stamp : Stamp) × (e ≡ Some (entries.File attributes stamp)) × (held.stamp ≡ stamp) × (held.body ≡ Depot at)
+file_in_depot at None path attributes held is = absurd (none-some (entries.File attributes held) is)
+file_in_depot at (Some (entries.Dir m)) path attributes held is = absurd (cc is)
+file_in_depot at (Some (entries.Opaque m)) path attributes held is = absurd (cc is)
+file_in_depot at (Some (entries.File m stamp)) path attributes held is =
+    let same_attributes : m ≡ attributes = cc in
     let made : record { stamp = stamp; body = Depot at } ≡ held = cc in
-    (stamp, ap (λ (n : ℕ). Some (entries.File n stamp)) modes, ap (λ (h : HeldFile). h.stamp) (sym made), ap (λ (h : HeldFile). h.body) (sym made))
-file_in_depot at (Some (entries.Link target)) path mode held is = absurd (cc is)
-file_in_depot at (Some entries.Hide) path mode held is = absurd (cc is)
+    (stamp, ap (λ (a : OfFile). Some (entries.File a stamp)) same_attributes, ap (λ (h : HeldFile). h.stamp) (sym made), ap (λ (h : HeldFile). h.body) (sym made))
+file_in_depot at (Some (entries.Link owner target)) path attributes held is = absurd (cc is)
+file_in_depot at (Some entries.Hide) path attributes held is = absurd (cc is)
 
 pub imported_files_stand : ImportedFilesStand
 imported_files_stand c asked tree bytes_of published stamped held file =
     let resource = published_resource_path asked in
-    let one = file_in_depot (resource ++ file.path) (lookup (stamps tree) file.path) file.path file.mode held (sym (lookup_changed (λ p e. in_depot (resource ++ p) e) file.path (stamps tree)) ∙ file.stands) in
-    let there = files_have_listed_stamps c asked tree bytes_of published stamped file.path file.mode one.0 one.1 in
+    let one = file_in_depot (resource ++ file.path) (lookup (stamps tree) file.path) file.path file.attributes held (sym (lookup_changed (λ p e. in_depot (resource ++ p) e) file.path (stamps tree)) ∙ file.stands) in
+    let there = files_have_listed_stamps c asked tree bytes_of published stamped file.path file.attributes one.0 one.1 in
     (resource ++ file.path, there.0, one.3, there.1, subst (IsStampOf there.0) (sym one.2) there.2)
 
 -- the listing of what is published

@@ -1,28 +1,25 @@
 -- A directory of a valid host, with all below it, has a text.
-use Rattle.std.proofs.Common.{◌≡◌, ℕ, Bool, true, false, if◌then◌else◌, List, [], ◌∷◌, map, Ok, sym, refl, subst, arith}
+use Rattle.std.proofs.Common.{◌≡◌, ℕ, Bool, true, false, if◌then◌else◌, List, [], ◌∷◌, map, sym, refl, subst, arith}
 use Rattle.std.specs.FinMap.Entries.{where_key}
 use Rattle.ext_text.specs.Path.{is_proper_prefix, path_cmp}
 use Rattle.ext_tree.specs.EntryLine.{IsWritable}
 use Rattle.ext_tree.specs.Part.{part, seen_from}
-use Rattle.ext_tree.specs.Tree.{Entries, IsTree, IsTreeWithin, is_directory}
+use Rattle.ext_tree.specs.Tree.{Entries, IsTreeWithin, is_directory}
 use Rattle.ext_tree.specs.TreeText.{AreWritable, HasText, stamp_form}
 use Rattle.ext_tree.specs.declared.entry.Entry.{Entry}
 use Rattle.ext_tree.specs.declared.entry.Entry.TheVariants.{Dir, Opaque, File, Link, Hide}
 use Rattle.ext_tree.proofs.ForCallers.{tree_part_within}
 use Rattle.ext_host.specs.Held.{HeldFile}
 use Rattle.ext_host.specs.Stamped.{stamped_entry, stamps}
-use Rattle.ext_host.specs.Valid.{AreInRange, IsValidHost, held_form}
-use Rattle.ext_host.specs.declared.host.Host.{Host}
+use Rattle.ext_host.specs.Valid.{AreInRange, held_form}
 use Rattle.ext_host.proofs.ForCallers.{tree_changed_within}
-use Rattle.ext_published.specs.Payload.{GivesPayload}
-use Rattle.ext_published.specs.declared.payload.Payload.TheVariants.{Directory}
 use Rattle.ext_pubtaken.specs.Taken.{PublishedHasText}
 
 stamped_range : (e : Entry HeldFile) → IsWritable held_form e → IsWritable stamp_form (stamped_entry e)
-stamped_range (Dir mode) range = range
-stamped_range (Opaque mode) range = range
-stamped_range (File mode held) range = range
-stamped_range (Link target) range = range
+stamped_range (Dir attributes) range = range
+stamped_range (Opaque attributes) range = range
+stamped_range (File attributes held) range = range
+stamped_range (Link owner target) range = range
 stamped_range Hide range = range
 
 stamped_all : (es : Entries HeldFile) → AreInRange es → AreWritable (stamps es)
@@ -45,10 +42,10 @@ part_all : (p : List (List ℕ)) (es : Entries HeldFile) → AreInRange es → A
 part_all p es all = seen_all p (where_key path_cmp (is_proper_prefix p) es) (where_all (is_proper_prefix p) es all)
 
 keeps_directories : (p : List (List ℕ)) (e : Entry HeldFile) → is_directory (stamped_entry e) ≡ is_directory e
-keeps_directories p (Dir mode) = refl
-keeps_directories p (Opaque mode) = refl
-keeps_directories p (File mode held) = refl
-keeps_directories p (Link target) = refl
+keeps_directories p (Dir attributes) = refl
+keeps_directories p (Opaque attributes) = refl
+keeps_directories p (File attributes held) = refl
+keeps_directories p (Link owner target) = refl
 keeps_directories p Hide = refl
 
 pub published_has_text : PublishedHasText

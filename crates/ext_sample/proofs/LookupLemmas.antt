@@ -11,6 +11,7 @@ use Rattle.std.specs.declared.cmp.Ordering.TheVariants.{Less, Equal, Greater}
 use Rattle.std.proofs.lemmas.Bool.{and_from, and_parts, false≢true, lt-ltb, ltb-true}
 use Rattle.std.proofs.lemmas.List.{length-take-le, map-append}
 use Rattle.std.proofs.lemmas.List.Folds.{list_any-append}
+use Rattle.ext_attributes.specs.Attributes.{of_mode}
 use Rattle.ext_text.specs.Order.{paths_total}
 use Rattle.ext_text.specs.Path.{path_cmp, is_proper_prefix}
 use Rattle.ext_text.proofs.ForCallers.{proper_first, same_path, tied_path}
@@ -84,11 +85,11 @@ or_none true = refl
 or_none false = refl
 
 -- one file more has its directories
-pub directories_put : (files : List MadeFile) (i : ℕ) (file : MadeFile) (start old new : Entries Stamp) → take (i + 1) files ≡ take i files ++ file ∷ [] → ((q : List (List ℕ)) → entry_at old q ≡ cond (has_made (take i files) q) (Some (Dir 493)) (entry_at start q))
-    → PutsAbove old new file.0 → (q : List (List ℕ)) → entry_at new q ≡ cond (has_made (take (i + 1) files) q) (Some (Dir 493)) (entry_at start q)
+pub directories_put : (files : List MadeFile) (i : ℕ) (file : MadeFile) (start old new : Entries Stamp) → take (i + 1) files ≡ take i files ++ file ∷ [] → ((q : List (List ℕ)) → entry_at old q ≡ cond (has_made (take i files) q) (Some (Dir (of_mode 493))) (entry_at start q))
+    → PutsAbove old new file.0 → (q : List (List ℕ)) → entry_at new q ≡ cond (has_made (take (i + 1) files) q) (Some (Dir (of_mode 493))) (entry_at start q)
 directories_put files i file start old new more before puts q =
-    puts.each q ∙ ap (cond (is_above q file.0) (Some (Dir 493))) (before q) ∙ either (has_made (take i files) q) (is_above q file.0) (Some (Dir 493)) (entry_at start q)
-    ∙ ap (λ b. cond b (Some (Dir 493)) (entry_at start q)) (
+    puts.each q ∙ ap (cond (is_above q file.0) (Some (Dir (of_mode 493)))) (before q) ∙ either (has_made (take i files) q) (is_above q file.0) (Some (Dir (of_mode 493))) (entry_at start q)
+    ∙ ap (λ b. cond b (Some (Dir (of_mode 493))) (entry_at start q)) (
     ap (λ b. has_made (take i files) q || b) (sym (or_none (is_above q file.0)))
     ∙ sym (list_any-append (λ (f : MadeFile). is_above q f.0) (take i files) (file ∷ [])) ∙ ap (λ fs. has_made fs q) (sym more))
 
@@ -160,9 +161,9 @@ above_more path q k some within = both_ways _ _ there back
         ] refl
 
 -- the directory of so many names is put
-pub above_put : (path q : List (List ℕ)) (k : ℕ) (start old new : Entries Stamp) → 0 < k → k < length path → PutsAt old new (take k path) (Dir 493)
-    → entry_at old q ≡ cond (above_to path k q) (Some (Dir 493)) (entry_at start q) → entry_at new q ≡ cond (above_to path (k + 1) q) (Some (Dir 493)) (entry_at start q)
+pub above_put : (path q : List (List ℕ)) (k : ℕ) (start old new : Entries Stamp) → 0 < k → k < length path → PutsAt old new (take k path) (Dir (of_mode 493))
+    → entry_at old q ≡ cond (above_to path k q) (Some (Dir (of_mode 493))) (entry_at start q) → entry_at new q ≡ cond (above_to path (k + 1) q) (Some (Dir (of_mode 493))) (entry_at start q)
 above_put path q k start old new some within puts before =
-    puts.each q ∙ ap (cond (is_at (path_cmp q) (take k path)) (Some (Dir 493))) before
-    ∙ either (above_to path k q) (is_at (path_cmp q) (take k path)) (Some (Dir 493)) (entry_at start q)
-    ∙ ap (λ b. cond b (Some (Dir 493)) (entry_at start q)) (above_more path q k some within)
+    puts.each q ∙ ap (cond (is_at (path_cmp q) (take k path)) (Some (Dir (of_mode 493)))) before
+    ∙ either (above_to path k q) (is_at (path_cmp q) (take k path)) (Some (Dir (of_mode 493))) (entry_at start q)
+    ∙ ap (λ b. cond b (Some (Dir (of_mode 493))) (entry_at start q)) (above_more path q k some within)

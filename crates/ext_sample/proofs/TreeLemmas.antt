@@ -17,6 +17,8 @@ use Rattle.std.proofs.lemmas.Map.Keys.{IsDistinct-from_sorted}
 use Rattle.std.proofs.lemmas.Map.Views.{All-values_from_lookup}
 use Rattle.sha2.specs.Sha256.{digest_bytes, sha256}
 use Rattle.sha2.proofs.Facts256.{length-sha256}
+use Rattle.ext_attributes.specs.Attributes.{of_mode}
+use Rattle.ext_attributes.proofs.ForCallers.{mode_in_range, plain_in_range}
 use Rattle.ext_text.specs.Digest.{IsDigest}
 use Rattle.ext_text.specs.Order.{paths_total}
 use Rattle.ext_text.specs.Path.{IsPath, path_cmp, is_prefix, parent}
@@ -94,7 +96,7 @@ some_mapped g (Some x) is = refl
 
 made_reaches : (files : List MadeFile) (q : List (List ℕ)) → is_some (made_entry files q) ≡ true → reaches files q ≡ true
 made_reaches files q is =
-    elim (has_made files q) as (λ b. has_made files q ≡ b → is_some (cond b (Some (Dir 493)) (option_map made_file (made_bytes files q))) ≡ true → reaches files q ≡ true) [
+    elim (has_made files q) as (λ b. has_made files q ≡ b → is_some (cond b (Some (Dir (of_mode 493))) (option_map made_file (made_bytes files q))) ≡ true → reaches files q ≡ true) [
       | true ↦ λ above _. above_reaches files q above
       | false ↦ λ _ found. found_reaches files q (some_mapped made_file (made_bytes files q) found)
     ] refl is
@@ -129,21 +131,21 @@ none_at_root (file ∷ files) small = ap (λ b. cond b (Some file.1) (made_bytes
 
 none_made_root : (files : List MadeFile) → AllByRecursion IsSmallFile files → made_entry files [] ≡ None
 none_made_root files small =
-    ap (λ b. cond b (Some (Dir 493)) (option_map made_file (made_bytes files []))) (none_above_root files) ∙ ap (option_map made_file) (none_at_root files small)
+    ap (λ b. cond b (Some (Dir (of_mode 493))) (option_map made_file (made_bytes files []))) (none_above_root files) ∙ ap (option_map made_file) (none_at_root files small)
 
 -- each entry has a line
 file_writable : (files : List MadeFile) (q : List (List ℕ)) → AllByRecursion IsSmallFile files → IfSome (option_map made_file (made_bytes files q)) (IsWritable stamp_form)
 file_writable [] q small = tt
 file_writable (file ∷ files) q small =
     elim (is_at (path_cmp q) file.0) as (λ b. IfSome (option_map made_file (cond b (Some file.1) (made_bytes files q))) (IsWritable stamp_form)) [
-      | true ↦ (omega arith, record { size = omega (arith, small.0.size); digest = digest_is file.1 })
+      | true ↦ (plain_in_range (of_mode 420) (mode_in_range 420 (omega arith)), record { size = omega (arith, small.0.size); digest = digest_is file.1 })
       | false ↦ file_writable files q small.1
     ]
 
 made_writable : (files : List MadeFile) (q : List (List ℕ)) → AllByRecursion IsSmallFile files → IfSome (made_entry files q) (IsWritable stamp_form)
 made_writable files q small =
-    elim (has_made files q) as (λ b. IfSome (cond b (Some (Dir 493)) (option_map made_file (made_bytes files q))) (IsWritable stamp_form)) [
-      | true ↦ omega arith
+    elim (has_made files q) as (λ b. IfSome (cond b (Some (Dir (of_mode 493))) (option_map made_file (made_bytes files q))) (IsWritable stamp_form)) [
+      | true ↦ mode_in_range 493 (omega arith)
       | false ↦ file_writable files q small
     ]
 
@@ -155,7 +157,7 @@ or_nothing : {X : Type 0} (o : Option X) → option_or o None ≡ o
 or_nothing None = refl
 or_nothing (Some x) = refl
 
-stands_at : (es : trees.Entries Stamp) (r : List (List ℕ)) → (0 < length r → trees.lookup es r ≡ Some (Dir 493)) → trees.is_directory_or_root es r ≡ true
+stands_at : (es : trees.Entries Stamp) (r : List (List ℕ)) → (0 < length r → trees.lookup es r ≡ Some (Dir (of_mode 493))) → trees.is_directory_or_root es r ≡ true
 stands_at es [] is = refl
 stands_at es (n ∷ r) is = ap trees.is_directory_at (is (omega arith))
 
@@ -170,7 +172,7 @@ module _ (files : List MadeFile) (es : trees.Entries Stamp) (small : AllByRecurs
     root = each [] ∙ none_made_root files small;
     paths = λ q is. reached_path files q small (made_reaches files q (ap is_some (sym (each q)) ∙ is));
     parents = λ q is. stands_at es (parent q) (λ upper.
-        each (parent q) ∙ ap (λ b. cond b (Some (Dir 493)) (option_map made_file (made_bytes files (parent q))))
+        each (parent q) ∙ ap (λ b. cond b (Some (Dir (of_mode 493))) (option_map made_file (made_bytes files (parent q))))
         (reached_parent files q (not_at_root q is) upper (made_reaches files q (ap is_some (sym (each q)) ∙ is))));
   }
 
@@ -193,4 +195,4 @@ tree_of files start between es small few empty puts directories sorted = record 
     each : (q : List (List ℕ)) → trees.lookup es q ≡ made_entry files q
     each q =
         lookup_is q es ∙ directories.each q
-        ∙ ap (cond (has_made files q) (Some (Dir 493))) (puts.each q ∙ ap (λ old. option_or (option_map made_file (made_bytes files q)) (entry_at old q)) empty ∙ or_nothing (option_map made_file (made_bytes files q)))
+        ∙ ap (cond (has_made files q) (Some (Dir (of_mode 493)))) (puts.each q ∙ ap (λ old. option_or (option_map made_file (made_bytes files q)) (entry_at old q)) empty ∙ or_nothing (option_map made_file (made_bytes files q)))

@@ -1,11 +1,12 @@
 -- Files that are made, and the tree that they make: beside them it has the directories in which they stand, and nothing
--- else. The modes are this project's own choice.
+-- else. The attributes are this project's own choice.
 use Rattle.std.specs.Prelude.{◌≡◌, ℕ, Bool, not, ◌&&◌, if◌then◌else◌, List, length, Option, Some}
 use Rattle.std.specs.Option.{option_map}
 use Rattle.std.specs.List.{list_any}
 use Rattle.std.specs.Map.{lookup}
 use Rattle.std.specs.BTreeMap.{is_at}
 use Rattle.sha2.specs.Sha256.{sha256}
+use Rattle.ext_attributes.specs.Attributes.{file_of_mode, of_mode}
 use Rattle.ext_text.specs.Path.{path_cmp, is_proper_prefix}
 use Rattle.ext_tree.specs.Tree as trees
 use Rattle.ext_tree.specs.Refusals.{is_root}
@@ -34,13 +35,13 @@ has_made files directory = list_any (λ file. is_above directory file.0) files
 abbrev pub made_stamp : List ℕ → Stamp
 made_stamp bytes = record { size = length bytes; digest = record { 0 = sha256 bytes } }
 
--- a file of mode 644 with these bytes
+-- a file of root's, of mode 644 and without a capability, with these bytes
 abbrev pub made_file : List ℕ → Entry Stamp
-made_file bytes = File 420 (made_stamp bytes)
+made_file bytes = File (file_of_mode 420) (made_stamp bytes)
 
--- what stands at the path: a directory of mode 755 where files stand in it, else the file, else nothing
+-- what stands at the path: a directory of root's, of mode 755, where files stand in it, else the file, else nothing
 abbrev pub made_entry : List MadeFile → List (List ℕ) → Option (Entry Stamp)
-made_entry files path = if has_made files path then Some (Dir 493) else option_map made_file (made_bytes files path)
+made_entry files path = if has_made files path then Some (Dir (of_mode 493)) else option_map made_file (made_bytes files path)
 
 -- the tree of the files, which has a text
 pub record IsTreeOf (files : List MadeFile) (tree : trees.Entries Stamp) : Type 0 where

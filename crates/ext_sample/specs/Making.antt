@@ -3,6 +3,7 @@ use Rattle.std.specs.Prelude.{◌≡◌, ℕ, ◌+◌, ◌*◌, ◌<◌, ◌≤�
 use Rattle.std.specs.Option.{option_map, option_or}
 use Rattle.std.specs.Map.{lookup}
 use Rattle.std.specs.BTreeMap.{is_at}
+use Rattle.ext_attributes.specs.Attributes.{of_mode}
 use Rattle.ext_text.specs.Path.{IsPath, path_cmp, path_text}
 use Rattle.ext_depot.specs.DepotView.{DepotView, file_at}
 use Rattle.ext_tree.specs.Tree.{Entries}
@@ -37,12 +38,12 @@ pub record PutsFiles (old new : Entries Stamp) (files : List MadeFile) : Type 0 
 
 -- a directory was put at each path above this one
 pub record PutsAbove (old new : Entries Stamp) (path : List (List ℕ)) : Type 0 where
-  pub each : (q : List (List ℕ)) → entry_at new q ≡ (if is_above q path then Some (Dir 493) else entry_at old q)
+  pub each : (q : List (List ℕ)) → entry_at new q ≡ (if is_above q path then Some (Dir (of_mode 493)) else entry_at old q)
   pub count : length new ≤ length old + 5
 
 -- a directory was put at each path above a file
 pub record PutsDirectories (old new : Entries Stamp) (files : List MadeFile) : Type 0 where
-  pub each : (q : List (List ℕ)) → entry_at new q ≡ (if has_made files q then Some (Dir 493) else entry_at old q)
+  pub each : (q : List (List ℕ)) → entry_at new q ≡ (if has_made files q then Some (Dir (of_mode 493)) else entry_at old q)
   pub count : length new ≤ length old + 5 * length files
 
 -- the files were put into the depot, below a folder of this name

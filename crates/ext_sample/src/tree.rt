@@ -3,11 +3,13 @@ ghost use Rattle.std.specs.Prelude.{◌≡◌, ◌≤◌, length, IfOk, OnOk};
 ghost use Rattle.std.specs.List.{AllByRecursion};
 ghost use Rattle.std.specs.List.Sorted.{IsStrictlySortedBy};
 ghost use Rattle.std.specs.Map.{keys_of};
+ghost use Rattle.ext_attributes.specs.Attributes.{of_mode};
 ghost use Rattle.ext_text.specs.Path.{path_cmp};
 ghost use Rattle.ext_tree.specs.declared.entry.Entry.TheVariants as entries;
 ghost use Rattle.ext_sample.specs.Made.{IsTreeOf, made_file, made_stamp};
 ghost use Rattle.ext_sample.specs.Making.{IsSmallFile, PutsAbove, PutsDirectories, PutsAt, PutsFiles};
 
+use ext_attributes::{Attributes, FileAttributes};
 use ext_text::{Digest, Mode, OutOfMemory, Path, Text};
 use ext_tree::{Entry, Stamp, Tree};
 use std::alloc::Global;
@@ -100,22 +102,22 @@ fn pairs_of(alloc: Global, entries: Entries) -> Result<Vec<(Path, Entry<Stamp>)>
     Ok(pairs)
 }
 
-// A directory of mode 755.
+// A directory of root's, of mode 755.
 fn directory() -> Entry<Stamp>
-    ensures { result ≡ entries.Dir 493 }
+    ensures { result ≡ entries.Dir (of_mode 493) }
 {
     match Mode::new(DIRECTORY) {
-        Some(mode) => Entry::Dir(mode),
+        Some(mode) => Entry::Dir(Attributes::of_mode(mode)),
         None => unreachable!(),
     }
 }
 
-// A file of mode 644 with these bytes.
+// A file of root's, of mode 644 and without a capability, with these bytes.
 fn file(bytes: &[u8]) -> Entry<Stamp>
     ensures { result ≡ made_file bytes.now }
 {
     match Mode::new(FILE) {
-        Some(mode) => Entry::File(mode, stamp(bytes)),
+        Some(mode) => Entry::File(FileAttributes::of_mode(mode), stamp(bytes)),
         None => unreachable!(),
     }
 }

@@ -3,6 +3,7 @@ use Rattle.std.proofs.Common.{◌≡◌, ◌≢◌, ◌⊎◌, ℕ, ◌+◌, ◌
 use Rattle.std.specs.Prelude.{slice_get, unwrap_or}
 use Rattle.std.specs.List.{AllByRecursion}
 use Rattle.std.proofs.lemmas.Bool.Decides.{eqb_tells}
+use Rattle.ext_attributes.specs.Attributes.{OfFile}
 use Rattle.ext_text.specs.Order.{paths_total}
 use Rattle.ext_text.specs.Path.{path_cmp}
 use Rattle.ext_text.proofs.ForCallers.{all_weaker}
@@ -48,23 +49,23 @@ kept_body n (Kept home) kept = (home, refl)
 kept_body n (Depot path) kept = absurd kept
 
 abbrev KeptEntry : Entry HeldFile → Type 0
-KeptEntry (Dir mode) = Unit {0}
-KeptEntry (Opaque mode) = Unit {0}
-KeptEntry (File mode held) = IsKept held.body
-KeptEntry (Link target) = Unit {0}
+KeptEntry (Dir attributes) = Unit {0}
+KeptEntry (Opaque attributes) = Unit {0}
+KeptEntry (File attributes held) = IsKept held.body
+KeptEntry (Link owner target) = Unit {0}
 KeptEntry Hide = Unit {0}
 
 abbrev KeptAll : Entries HeldFile → Type 0
 KeptAll es = AllByRecursion (λ (x : List (List ℕ) × Entry HeldFile). KeptEntry x.1) es
 
-kept_entry : (es : Entries HeldFile) → ((p : List (List ℕ)) (mode : ℕ) (held : HeldFile) → lookup es p ≡ Some (File mode held) → IsKept held.body) → (p : List (List ℕ)) (e : Entry HeldFile) → lookup es p ≡ Some e → KeptEntry e
-kept_entry es kept p (Dir mode) stands = tt
-kept_entry es kept p (Opaque mode) stands = tt
-kept_entry es kept p (File mode held) stands = kept p mode held stands
-kept_entry es kept p (Link target) stands = tt
+kept_entry : (es : Entries HeldFile) → ((p : List (List ℕ)) (attributes : OfFile) (held : HeldFile) → lookup es p ≡ Some (File attributes held) → IsKept held.body) → (p : List (List ℕ)) (e : Entry HeldFile) → lookup es p ≡ Some e → KeptEntry e
+kept_entry es kept p (Dir attributes) stands = tt
+kept_entry es kept p (Opaque attributes) stands = tt
+kept_entry es kept p (File attributes held) stands = kept p attributes held stands
+kept_entry es kept p (Link owner target) stands = tt
 kept_entry es kept p Hide stands = tt
 
-kept_all : (es : Entries HeldFile) → IsTree es → ((p : List (List ℕ)) (mode : ℕ) (held : HeldFile) → lookup es p ≡ Some (File mode held) → IsKept held.body) → KeptAll es
+kept_all : (es : Entries HeldFile) → IsTree es → ((p : List (List ℕ)) (attributes : OfFile) (held : HeldFile) → lookup es p ≡ Some (File attributes held) → IsKept held.body) → KeptAll es
 kept_all es tree kept =
     all_weaker (λ (x : List (List ℕ) × Entry HeldFile). lookup es x.0 ≡ Some x.1) (λ (x : List (List ℕ) × Entry HeldFile). KeptEntry x.1) (λ x stands. kept_entry es kept x.0 x.1 stands) es
     (by_index (λ (x : List (List ℕ) × Entry HeldFile). lookup es x.0 ≡ Some x.1) es (λ i x here. find_there path_cmp paths_total es i x tree.sorted here))
@@ -72,12 +73,12 @@ kept_all es tree kept =
 -- kept files are placed as they are
 module _ (old : Stored) (depot : DepotState) (n : ℕ) where
   entry_same : (x : Entry HeldFile) (next : ℕ) (e : Entry HeldFile) (written : List (List ℕ)) → KeptEntry x → IsEntryPlaced old depot n x next e written → (e ≡ x) × (written ≡ [])
-  entry_same (Dir mode) next e written kept is = is
-  entry_same (Opaque mode) next e written kept is = is
-  entry_same (File mode held) next e written (home, kept) (placed, is, same) =
+  entry_same (Dir attributes) next e written kept is = is
+  entry_same (Opaque attributes) next e written kept is = is
+  entry_same (File attributes held) next e written (home, kept) (placed, is, same) =
       let of : (placed ≡ held) × (written ≡ []) = subst (λ body. IsBodyPlaced old depot n held body next placed written) kept is in
-      (same ∙ ap (λ h. File mode h) of.0, of.1)
-  entry_same (Link target) next e written kept is = is
+      (same ∙ ap (λ h. File attributes h) of.0, of.1)
+  entry_same (Link owner target) next e written kept is = is
   entry_same Hide next e written kept is = is
 
   entries_same : (es : Entries HeldFile) (next : ℕ) (new : Entries HeldFile) (written : List (List ℕ)) → KeptAll es → ArePlaced old depot n es next new written → (new ≡ es) × (written ≡ [])
@@ -124,8 +125,8 @@ after_plan g contents files host None answer u reply same kept view comes =
 after_plan g contents files host (Some plan) answer u reply same kept view (inl (v, free, next, is)) =
     let of = gives_state u v reply (answer_text answer) is in
     let s = at g contents in
-    let root : KeptAll plan.next.root = kept_all plan.next.root view.root (λ p mode held found. kept_body g.number held.body (kept held (root_file plan.next p mode held found))) in
-    let lower : KeptAll plan.next.lower = kept_all plan.next.lower view.lower (λ p mode held found. kept_body g.number held.body (kept held (lower_file plan.next p mode held found))) in
+    let root : KeptAll plan.next.root = kept_all plan.next.root view.root (λ p attributes held found. kept_body g.number held.body (kept held (root_file plan.next p attributes held found))) in
+    let lower : KeptAll plan.next.lower = kept_all plan.next.lower view.lower (λ p attributes held found. kept_body g.number held.body (kept held (lower_file plan.next p attributes held found))) in
     let placed = host_same (stored_of s) (depot_of files) next.coming.number plan.next next.coming.host next.written root lower next.homes in
     let number : next.coming.number ≡ g.number + 1 = next.number in
     record {

@@ -196,7 +196,7 @@ module _ (g : Generation) (contents : Home → List ℕ) where
         let all = update_writes files g.host next updates wanted version wants in (
           record {
             updates = updates;
-            finds = record { seen = record { host = g.host; number = g.number; newest = g.text == 2; told = λ held. stored (bytes_at (at g contents) held.body) }; is_seen = refl; base = base; is_base = is; are = are };
+            finds = record { seen = record { host = g.host; number = g.number; newest = not (g.text == 1); told = λ held. stored (bytes_at (at g contents) held.body) }; is_seen = refl; base = base; is_base = is; are = are };
             version = version;
             next = next;
             wants = wants;
@@ -220,7 +220,7 @@ module _ (g : Generation) (contents : Home → List ℕ) where
     -- the transfers that are on and their instances, as they are found
     abbrev pub found_instances : FindsInstances (at g contents) files component transfers instances
     found_instances = record {
-      seen = record { host = g.host; number = g.number; newest = g.text == 2; told = λ held. stored (bytes_at (at g contents) held.body) };
+      seen = record { host = g.host; number = g.number; newest = not (g.text == 1); told = λ held. stored (bytes_at (at g contents) held.body) };
       is_seen = refl;
       base = base;
       is_base = is;
@@ -392,7 +392,7 @@ module _ (path : List (List ℕ)) (g : Generation) (contents : Home → List ℕ
       of_same (NextKeeps path (at g contents)) _ intent is
       (changes_keep attach.plan.next (cut_of again words.image g.host ++ added_of (ask_of words) attach.plan.next)
       (attached_changes again g.host (ask_of words) attach.plan.next (attached_leaves told_here again g.host (ask_of words) (extensions_of words) attach attached))
-      (λ other among. apart other (record { seen = record { host = g.host; number = g.number; newest = g.text == 2; told = told_here }; is_seen = refl; attach = attach; attached = attached }, among)))
+      (λ other among. apart other (record { seen = record { host = g.host; number = g.number; newest = not (g.text == 1); told = told_here }; is_seen = refl; attach = attach; attached = attached }, among)))
   attach_keeps again words intent apart (inr (refusal, fails, is)) = of_same (NextKeeps path (at g contents)) _ intent is tt
 
   detach_keeps : (name : List ℕ) (intent : Intent) → ((other : List (List ℕ)) → TouchesByService (at g contents) (services.Detach name) other → are_related other path ≡ false) → DetachWants g.host name intent → Stays intent
@@ -400,7 +400,7 @@ module _ (path : List (List ℕ)) (g : Generation) (contents : Home → List ℕ
       of_same (NextKeeps path (at g contents)) _ intent is
       (subst (NextKeeps path (at g contents)) (sym detaches.2)
       (changes_keep (detached Name name g.host) (cut_paths Name name g.host) (detached_changes Name name g.host)
-      (λ other among. apart other (record { host = g.host; number = g.number; newest = g.text == 2; told = told_here }, refl, among))))
+      (λ other among. apart other (record { host = g.host; number = g.number; newest = not (g.text == 1); told = told_here }, refl, among))))
   detach_keeps name intent apart (inr (error, refusal, fails, told, is)) = of_same (NextKeeps path (at g contents)) _ intent is tt
 
   service_keeps : (command : PortCommand) (intent : Intent) → ((other : List (List ℕ)) → TouchesByService (at g contents) command other → are_related other path ≡ false) → PortWants g.host told_here command intent → Stays intent
@@ -472,10 +472,10 @@ module _ (path : List (List ℕ)) (g : Generation) (contents : Home → List ℕ
 
     cat_keeps : (other : List (List ℕ)) (entry : Option (Entry HeldFile)) → Stays (cat_at other entry)
     cat_keeps other None = tt
-    cat_keeps other (Some (Dir mode)) = tt
-    cat_keeps other (Some (Opaque mode)) = tt
-    cat_keeps other (Some (File mode held)) = tt
-    cat_keeps other (Some (Link target)) = tt
+    cat_keeps other (Some (Dir attributes)) = tt
+    cat_keeps other (Some (Opaque attributes)) = tt
+    cat_keeps other (Some (File attributes held)) = tt
+    cat_keeps other (Some (Link owner target)) = tt
     cat_keeps other (Some Hide) = tt
 
     migrate_keeps : (newest : Bool) → Stays (migrate_intent g.host newest)
@@ -488,7 +488,7 @@ module _ (path : List (List ℕ)) (g : Generation) (contents : Home → List ℕ
 
     -- each command
     pub wants_keep : (files : Option Files) (command : Command) (intent : Intent) → ((other : List (List ℕ)) → CommandTouches (at g contents) files command other → are_related other path ≡ false)
-        → WantsOf (record { host = g.host; number = g.number; newest = g.text == 2; told = told_here }) files command intent → Stays intent
+        → WantsOf (record { host = g.host; number = g.number; newest = not (g.text == 1); told = told_here }) files command intent → Stays intent
     wants_keep files (Init arch scope hierarchies) intent apart is = of_same (NextKeeps path (at g contents)) _ intent is tt
     wants_keep files (ImportFs resource other) intent apart (found, text, wants) = text_keeps resource other found intent (apart other refl) wants
     wants_keep files (Remove other) intent apart is = of_same (NextKeeps path (at g contents)) _ intent is (remove_keeps other (apart other refl))
@@ -499,7 +499,7 @@ module _ (path : List (List ℕ)) (g : Generation) (contents : Home → List ℕ
     wants_keep files (Compare a b) intent apart is = of_same (NextKeeps path (at g contents)) _ intent is tt
     wants_keep files Check intent apart is = of_same (NextKeeps path (at g contents)) _ intent is tt
     wants_keep files Layer intent apart is = absurd is
-    wants_keep files Migrate intent apart is = of_same (NextKeeps path (at g contents)) _ intent is (migrate_keeps (g.text == 2))
+    wants_keep files Migrate intent apart is = of_same (NextKeeps path (at g contents)) _ intent is (migrate_keeps (not (g.text == 1)))
     wants_keep files Batch intent apart is = absurd is
     wants_keep files (Sample images) intent apart is = absurd is
     wants_keep files (Sysupdate component verb) intent apart wants = verb_keeps files component verb intent apart wants

@@ -60,10 +60,10 @@ no_next_of_tree host (name ∷ path) = no_next_at host (name ∷ path) (lookup h
 
 no_next_of_cat : (path : List (List ℕ)) (found : Option (Entry HeldFile)) → next_of (cat_at path found) ≡ None
 no_next_of_cat path None = refl
-no_next_of_cat path (Some (Dir mode)) = refl
-no_next_of_cat path (Some (Opaque mode)) = refl
-no_next_of_cat path (Some (File mode held)) = refl
-no_next_of_cat path (Some (Link target)) = refl
+no_next_of_cat path (Some (Dir attributes)) = refl
+no_next_of_cat path (Some (Opaque attributes)) = refl
+no_next_of_cat path (Some (File attributes held)) = refl
+no_next_of_cat path (Some (Link owner target)) = refl
 no_next_of_cat path (Some Hide) = refl
 
 no_next_of_reply : (intent : Intent) → IsAnswerOrRefusal intent → next_of intent ≡ None

@@ -33,10 +33,10 @@ by_index P [] holds = tt
 by_index P (x ∷ xs) holds = (holds zero x refl, by_index P xs (λ i y at. holds (suc i) y at))
 
 files_of_entry : (es : Entries HeldFile) (path : List (List ℕ)) (e : Entry HeldFile) → lookup es path ≡ Some e → AllByRecursion (HasFile es) (gen.files_in e)
-files_of_entry es path (Dir mode) stands = tt
-files_of_entry es path (Opaque mode) stands = tt
-files_of_entry es path (File mode held) stands = (record { path = path; mode = mode; stands = stands }, tt)
-files_of_entry es path (Link target) stands = tt
+files_of_entry es path (Dir attributes) stands = tt
+files_of_entry es path (Opaque attributes) stands = tt
+files_of_entry es path (File attributes held) stands = (record { path = path; attributes = attributes; stands = stands }, tt)
+files_of_entry es path (Link owner target) stands = tt
 files_of_entry es path Hide stands = tt
 
 files_of_entries : (whole es : Entries HeldFile) → AllByRecursion (λ x. lookup whole x.0 ≡ Some x.1) es → AllByRecursion (HasFile whole) (files_of es)
@@ -125,10 +125,10 @@ measure_host m host =
     omega arith
 
 number_of_entry : (e : Entry HeldFile) → length (gen.files_in e) ≡ cond (is_file e) 1 0
-number_of_entry (Dir mode) = refl
-number_of_entry (Opaque mode) = refl
-number_of_entry (File mode held) = refl
-number_of_entry (Link target) = refl
+number_of_entry (Dir attributes) = refl
+number_of_entry (Opaque attributes) = refl
+number_of_entry (File attributes held) = refl
+number_of_entry (Link owner target) = refl
 number_of_entry Hide = refl
 
 number_of_tree : (es : Entries HeldFile) → length (files_of es) ≡ files_in es
@@ -141,10 +141,10 @@ number_of_tree (x ∷ es) =
     omega arith
 
 size_of_entry : (e : Entry HeldFile) → sizes_of (gen.files_in e) ≡ bytes_of e
-size_of_entry (Dir mode) = refl
-size_of_entry (Opaque mode) = refl
-size_of_entry (File mode held) = omega (arith, sum_by-cons (λ (h : HeldFile). h.stamp.size) held [])
-size_of_entry (Link target) = refl
+size_of_entry (Dir attributes) = refl
+size_of_entry (Opaque attributes) = refl
+size_of_entry (File attributes held) = omega (arith, sum_by-cons (λ (h : HeldFile). h.stamp.size) held [])
+size_of_entry (Link owner target) = refl
 size_of_entry Hide = refl
 
 size_of_tree : (es : Entries HeldFile) → sizes_of (files_of es) ≡ all_bytes es

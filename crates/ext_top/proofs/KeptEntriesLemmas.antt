@@ -1,6 +1,7 @@
 -- Where files are given homes, those that have one keep it: a kept entry stays as it is.
 use Rattle.std.proofs.Common.{◌≡◌, ℕ, ◌+◌, cond, if◌then◌else◌, true, false, List, [], ◌∷◌, length, Option, Some, None, refl, sym, ap, ◌∙◌, subst}
 use Rattle.std.specs.Ordering.{eq_by_cmp}
+use Rattle.ext_attributes.specs.Attributes.{OfFile}
 use Rattle.ext_text.specs.Path.{path_cmp}
 use Rattle.ext_depot.specs.Depot.{DepotState}
 use Rattle.ext_tree.specs.Tree.{Entries, lookup}
@@ -15,7 +16,7 @@ use Rattle.ext_homes.specs.Placed.{ArePlaced, IsBodyPlaced, IsEntryPlaced, IsHos
 
 -- what stands there is no file, or a kept one
 abbrev pub IsKeptAt : Option (Entry HeldFile) → Type 0
-IsKeptAt o = (mode : ℕ) (held : HeldFile) → o ≡ Some (File mode held) → (home : Home) × (held.body ≡ Kept home)
+IsKeptAt o = (attributes : OfFile) (held : HeldFile) → o ≡ Some (File attributes held) → (home : Home) × (held.body ≡ Kept home)
 
 pub none_is : (e : Entry HeldFile) → None ≡ Some e → ⊥
 none_is e same = cc
@@ -41,13 +42,13 @@ module _ (old : Stored) (depot : DepotState) (n : ℕ) where
 
   -- a kept entry stays
   entry_stays : (e : Entry HeldFile) (next : ℕ) (f : Entry HeldFile) (written : List (List ℕ)) → IsEntryPlaced old depot n e next f written → IsKeptAt (Some e) → f ≡ e
-  entry_stays (Dir mode) next f written is kept = is.0
-  entry_stays (Opaque mode) next f written is kept = is.0
-  entry_stays (File mode held) next f written (placed, is, same) kept =
-      let home = kept mode held refl in
+  entry_stays (Dir attributes) next f written is kept = is.0
+  entry_stays (Opaque attributes) next f written is kept = is.0
+  entry_stays (File attributes held) next f written (placed, is, same) kept =
+      let home = kept attributes held refl in
       let stays = subst (λ body. IsBodyPlaced old depot n held body next placed written) home.1 is in
-      same ∙ ap (λ h. File mode h) stays.0
-  entry_stays (Link target) next f written is kept = is.0
+      same ∙ ap (λ h. File attributes h) stays.0
+  entry_stays (Link owner target) next f written is kept = is.0
   entry_stays Hide next f written is kept = is.0
 
   pub stays_at : (a b : Option (Entry HeldFile)) → PlacedAt a b → IsKeptAt a → b ≡ a

@@ -46,18 +46,18 @@ AllKept es = AllByRecursion (λ (x : List (List ℕ) × Entry HeldFile). IsKeptA
 
 tree_kept : (es : Entries HeldFile) → IsTree es → ((held : HeldFile) → HasFile es held → (home : Home) × (held.body ≡ Kept home)) → AllKept es
 tree_kept es tree kept =
-    by_index (λ x. IsKeptAt (Some x.1)) es (λ i x at mode held found.
-    kept held (record { path = x.0; mode = mode; stands = find_there path_cmp paths_total es i x tree.sorted at ∙ found }))
+    by_index (λ x. IsKeptAt (Some x.1)) es (λ i x at attributes held found.
+    kept held (record { path = x.0; attributes = attributes; stands = find_there path_cmp paths_total es i x tree.sorted at ∙ found }))
 
 module _ (old : Stored) (depot : DepotState) (n : ℕ) where
   entry_nothing : (e : Entry HeldFile) (next : ℕ) (f : Entry HeldFile) (written : List (List ℕ)) → IsEntryPlaced old depot n e next f written → IsKeptAt (Some e) → written ≡ []
-  entry_nothing (Dir mode) next f written is kept = is.1
-  entry_nothing (Opaque mode) next f written is kept = is.1
-  entry_nothing (File mode held) next f written (placed, is, same) kept =
-      let home = kept mode held refl in
+  entry_nothing (Dir attributes) next f written is kept = is.1
+  entry_nothing (Opaque attributes) next f written is kept = is.1
+  entry_nothing (File attributes held) next f written (placed, is, same) kept =
+      let home = kept attributes held refl in
       let stays = subst (λ body. IsBodyPlaced old depot n held body next placed written) home.1 is in
       stays.1
-  entry_nothing (Link target) next f written is kept = is.1
+  entry_nothing (Link owner target) next f written is kept = is.1
   entry_nothing Hide next f written is kept = is.1
 
   tree_nothing : (es : Entries HeldFile) (next : ℕ) (new : Entries HeldFile) (written : List (List ℕ)) → AllKept es → ArePlaced old depot n es next new written → written ≡ []

@@ -2,6 +2,7 @@
 use Rattle.std.proofs.Common.{◌≡◌, ◌≢◌, ℕ, ◌+◌, List, [], ◌∷◌, ◌++◌, length, Option, Some, None, refl, sym, ap, ◌∙◌, subst, arith, inl, inr}
 use Rattle.std.specs.Prelude.{◌⊎◌, IfSome}
 use Rattle.std.proofs.lemmas.List.{take_all}
+use Rattle.ext_attributes.specs.Attributes.{OfFile}
 use Rattle.ext_text.specs.declared.which.Which.{Which}
 use Rattle.ext_tree.specs.Tree.{Entries}
 use Rattle.ext_tree.specs.declared.entry.Entry.{Entry}
@@ -21,6 +22,7 @@ use Rattle.ext_homes.specs.Laws.{HasBytes}
 use Rattle.ext_homes.specs.Placed.{ArePlaced, IsBodyPlaced, IsBroughtTo, IsEntryPlaced, IsHostPlaced, Stored, TakesHome, brought_told}
 use Rattle.ext_homes.specs.Refused.{StopsAt}
 use Rattle.ext_homes.proofs.ForCallers.{host_way}
+use Rattle.ext_index.specs.ValidIndex.{written_text}
 use Rattle.ext_gen.specs.Preparing.{coming_number, contents_after, contents_of, limit_of}
 use Rattle.ext_gen.specs.Store.{Stands, State, at, generation_in, none}
 use Rattle.ext_gen.proofs.ForCallers.{current_is_opened, opened_is_well_formed}
@@ -139,41 +141,41 @@ in_depot depot (refusals.Extension extension cause) held why = absurd why
 
 module _ (old : Stored) (depot : DepotState) (files : Files) (told : depot.contents ≡ Some files) (n : ℕ) where
   -- such a file isn't placed
-  not_placed : (refusal : Refusal) (mode : ℕ) (held : HeldFile) (next : ℕ) (new : Entry HeldFile) (written : List (List ℕ)) → WhyNot depot refusal held → IsEntryPlaced old depot n (File mode held) next new written → ⊥
-  not_placed refusal mode held next new written why (placed, is, same) =
+  not_placed : (refusal : Refusal) (attributes : OfFile) (held : HeldFile) (next : ℕ) (new : Entry HeldFile) (written : List (List ℕ)) → WhyNot depot refusal held → IsEntryPlaced old depot n (File attributes held) next new written → ⊥
+  not_placed refusal attributes held next new written why (placed, is, same) =
       let of = in_depot depot refusal held why in
       let brought : IsBroughtTo old depot n held next placed written = subst (λ body. IsBodyPlaced old depot n held body next placed written) of.1 is in
       not_taken old depot files n refusal held of.0 next brought.0 written told of.1 why brought.1
 
   -- and so no entries among which it is
-  not_among : (refusal : Refusal) (es before : Entries HeldFile) (path : List (List ℕ)) (mode : ℕ) (held : HeldFile) (after : Entries HeldFile) (next : ℕ) (new : Entries HeldFile) (written : List (List ℕ)) → WhyNot depot refusal held
-      → es ≡ before ++ (path, File mode held) ∷ after → ArePlaced old depot n es next new written → ⊥
-  not_among refusal [] [] path mode held after next new written why split placed = cc
-  not_among refusal [] (b ∷ before) path mode held after next new written why split placed = cc
-  not_among refusal (e ∷ es) [] path mode held after next new written why split placed =
-      let first : e ≡ (path, File mode held) = cc in
-      not_placed refusal mode held next placed.0 placed.2 why (subst (λ e. IsEntryPlaced old depot n e.1 next placed.0 placed.2) first placed.4)
-  not_among refusal (e ∷ es) (b ∷ before) path mode held after next new written why split placed =
-      let rest : es ≡ before ++ (path, File mode held) ∷ after = cc in
-      not_among refusal es before path mode held after (next + length placed.2) placed.1 placed.3 why rest placed.5
+  not_among : (refusal : Refusal) (es before : Entries HeldFile) (path : List (List ℕ)) (attributes : OfFile) (held : HeldFile) (after : Entries HeldFile) (next : ℕ) (new : Entries HeldFile) (written : List (List ℕ)) → WhyNot depot refusal held
+      → es ≡ before ++ (path, File attributes held) ∷ after → ArePlaced old depot n es next new written → ⊥
+  not_among refusal [] [] path attributes held after next new written why split placed = cc
+  not_among refusal [] (b ∷ before) path attributes held after next new written why split placed = cc
+  not_among refusal (e ∷ es) [] path attributes held after next new written why split placed =
+      let first : e ≡ (path, File attributes held) = cc in
+      not_placed refusal attributes held next placed.0 placed.2 why (subst (λ e. IsEntryPlaced old depot n e.1 next placed.0 placed.2) first placed.4)
+  not_among refusal (e ∷ es) (b ∷ before) path attributes held after next new written why split placed =
+      let rest : es ≡ before ++ (path, File attributes held) ∷ after = cc in
+      not_among refusal es before path attributes held after (next + length placed.2) placed.1 placed.3 why rest placed.5
 
   -- nor a host
-  not_both : (refusal : Refusal) (root lower before : Entries HeldFile) (path : List (List ℕ)) (mode : ℕ) (held : HeldFile) (after : Entries HeldFile) (first second : ℕ) (new_root new_lower : Entries HeldFile) (written more : List (List ℕ)) → WhyNot depot refusal held
-      → root ++ lower ≡ before ++ (path, File mode held) ∷ after → ArePlaced old depot n root first new_root written → ArePlaced old depot n lower second new_lower more → ⊥
-  not_both refusal [] lower before path mode held after first second new_root new_lower written more why split one two = not_among refusal lower before path mode held after second new_lower more why split two
-  not_both refusal (e ∷ root) lower [] path mode held after first second new_root new_lower written more why split one two =
-      let here : e ≡ (path, File mode held) = cc in
-      not_placed refusal mode held first one.0 one.2 why (subst (λ e. IsEntryPlaced old depot n e.1 first one.0 one.2) here one.4)
-  not_both refusal (e ∷ root) lower (b ∷ before) path mode held after first second new_root new_lower written more why split one two =
-      let rest : root ++ lower ≡ before ++ (path, File mode held) ∷ after = cc in
-      not_both refusal root lower before path mode held after (first + length one.2) second one.1 new_lower one.3 more why rest one.5 two
+  not_both : (refusal : Refusal) (root lower before : Entries HeldFile) (path : List (List ℕ)) (attributes : OfFile) (held : HeldFile) (after : Entries HeldFile) (first second : ℕ) (new_root new_lower : Entries HeldFile) (written more : List (List ℕ)) → WhyNot depot refusal held
+      → root ++ lower ≡ before ++ (path, File attributes held) ∷ after → ArePlaced old depot n root first new_root written → ArePlaced old depot n lower second new_lower more → ⊥
+  not_both refusal [] lower before path attributes held after first second new_root new_lower written more why split one two = not_among refusal lower before path attributes held after second new_lower more why split two
+  not_both refusal (e ∷ root) lower [] path attributes held after first second new_root new_lower written more why split one two =
+      let here : e ≡ (path, File attributes held) = cc in
+      not_placed refusal attributes held first one.0 one.2 why (subst (λ e. IsEntryPlaced old depot n e.1 first one.0 one.2) here one.4)
+  not_both refusal (e ∷ root) lower (b ∷ before) path attributes held after first second new_root new_lower written more why split one two =
+      let rest : root ++ lower ≡ before ++ (path, File attributes held) ∷ after = cc in
+      not_both refusal root lower before path attributes held after (first + length one.2) second one.1 new_lower one.3 more why rest one.5 two
 
   stops_or_is_placed : (refusal : Refusal) (host new : Host) (written : List (List ℕ)) → StopsAt old depot n (host.root ++ host.lower) 0 (WhyNot depot refusal) → IsHostPlaced old depot n host new written → ⊥
   stops_or_is_placed refusal host new written stops (root, lower, (first, rest, one, two, parts), is) =
-      not_both refusal host.root host.lower stops.before stops.path stops.mode stops.held stops.after 0 (0 + length first) root lower first rest stops.why stops.entries one two
+      not_both refusal host.root host.lower stops.before stops.path stops.attributes stops.held stops.after 0 (0 + length first) root lower first rest stops.why stops.entries one two
 
   -- of two files that stop a change in the same entries each is the first
-  one_stop : (x y : Refusal) (es before others : Entries HeldFile) (p q : List (List ℕ)) (m k : ℕ) (held file : HeldFile) (after later : Entries HeldFile) (next turn : ℕ) (new made : Entries HeldFile) (written more : List (List ℕ))
+  one_stop : (x y : Refusal) (es before others : Entries HeldFile) (p q : List (List ℕ)) (m k : OfFile) (held file : HeldFile) (after later : Entries HeldFile) (next turn : ℕ) (new made : Entries HeldFile) (written more : List (List ℕ))
       → WhyNot depot x held → WhyNot depot y file → es ≡ before ++ (p, File m held) ∷ after → es ≡ others ++ (q, File k file) ∷ later → ArePlaced old depot n before next new written → ArePlaced old depot n others turn made more → held ≡ file
   one_stop x y [] [] others p q m k held file after later next turn new made written more why wherefore split cut one two = cc
   one_stop x y [] (b ∷ before) others p q m k held file after later next turn new made written more why wherefore split cut one two = cc
@@ -375,7 +377,7 @@ module _ (t : Tree) (s : State) (stands : Stands t s) (files : Files) where
   refusal_once host x y (inl (which, is, limit)) (inr (free, stops)) = absurd (some_none which (limit_of (generation_in s) host) limit free)
   refusal_once host x y (inr (free, stops)) (inl (which, is, limit)) = absurd (some_none which (limit_of (generation_in s) host) limit free)
   refusal_once host x y (inr (free, stops)) (inr (also, ends)) =
-      let one : stops.held ≡ ends.held = one_stop (stored_of s) (depot_of (Some files)) files refl (coming_number (generation_in s)) x y (host.root ++ host.lower) stops.before ends.before stops.path ends.path stops.mode ends.mode stops.held ends.held stops.after ends.after 0 0
+      let one : stops.held ≡ ends.held = one_stop (stored_of s) (depot_of (Some files)) files refl (coming_number (generation_in s)) x y (host.root ++ host.lower) stops.before ends.before stops.path ends.path stops.attributes ends.attributes stops.held ends.held stops.after ends.after 0 0
       stops.placed ends.placed stops.written ends.written stops.why ends.why stops.entries ends.entries stops.homes ends.homes in
       why_once (depot_of (Some files)) files refl ends.held x y (subst (WhyNot (depot_of (Some files)) x) one stops.why) ends.why
 
@@ -387,8 +389,8 @@ module _ (t : Tree) (s : State) (stands : Stands t s) (files : Files) where
   next_once : (host : Host) (u v : State) → IsNextState s (Some files) host u → IsNextState s (Some files) host v → u ≡ v
   next_once host u v x y =
       let number : x.coming.number ≡ y.coming.number = x.number ∙ sym y.number in
-      let text : x.coming.text ≡ y.coming.text = x.text ∙ sym y.text in
       let placed = host_way (stored_of s) (contents_of s) (depot_of (Some files)) files y.coming.number host x.coming.host y.coming.host x.written y.written has_bytes refl (subst (λ n. IsHostPlaced (stored_of s) (depot_of (Some files)) n host x.coming.host x.written) number x.homes) y.homes in
+      let text : x.coming.text ≡ y.coming.text = x.text ∙ ap written_text placed.0 ∙ sym y.text in
       x.is ∙ (λ i. at (record { number = number i; text = text i; host = placed.0 i }) (contents_after (number i) (placed.1 i) s)) ∙ sym y.is
 
   replaces_once : (host : Host) (reply : List ℕ) (a b : Outcome) → Replaces s (Some files) host reply a → Replaces s (Some files) host reply b → a ≡ b

@@ -7,7 +7,7 @@ use Rattle.ext_tree.specs.declared.entry.Entry.TheVariants.{Dir, Opaque, File, L
 use Rattle.ext_tree.specs.declared.stamp.Stamp.{Stamp}
 use Rattle.ext_host.specs.Held.{HeldFile}
 use Rattle.ext_host.specs.Shelf as shelf
-use Rattle.ext_host.specs.Shelf.{IsFound, IsTold}
+use Rattle.ext_host.specs.Shelf.{IsFound}
 use Rattle.ext_host.specs.declared.body.Body.{Body}
 use Rattle.ext_host.specs.declared.body.Body.TheVariants.{Here, Kept, Depot}
 use Rattle.ext_host.specs.declared.home.Home.{Home}
@@ -52,10 +52,10 @@ module _ (a b : Stored) (d e : DepotState) (alike : Alike a b d e) where
   body generation held (Depot path) next new written is = brings generation held next new written is
 
   entry : (generation : ℕ) (x : Entry HeldFile) (next : ℕ) (new : Entry HeldFile) (written : List (List ℕ)) → IsEntryPlaced a d generation x next new written → IsEntryPlaced b e generation x next new written
-  entry generation (Dir mode) next new written is = is
-  entry generation (Opaque mode) next new written is = is
-  entry generation (File mode held) next new written (placed, file, is) = (placed, body generation held held.body next placed written file, is)
-  entry generation (Link target) next new written is = is
+  entry generation (Dir attributes) next new written is = is
+  entry generation (Opaque attributes) next new written is = is
+  entry generation (File attributes held) next new written (placed, file, is) = (placed, body generation held held.body next placed written file, is)
+  entry generation (Link owner target) next new written is = is
   entry generation Hide next new written is = is
 
   pub placed_alike : (generation : ℕ) (es : Entries HeldFile) (next : ℕ) (new : Entries HeldFile) (written : List (List ℕ)) → ArePlaced a d generation es next new written → ArePlaced b e generation es next new written
@@ -72,7 +72,7 @@ module _ (a b : Stored) (d e : DepotState) (alike : Alike a b d e) where
     before = at.before;
     after = at.after;
     path = at.path;
-    mode = at.mode;
+    attributes = at.attributes;
     held = at.held;
     entries = at.entries;
     placed = at.placed;

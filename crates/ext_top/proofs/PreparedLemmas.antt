@@ -16,7 +16,7 @@ use Rattle.ext_homes.specs.Refused.{StopsAt}
 use Rattle.ext_gen.specs.Committing.{SwitchesNow, is_switched}
 use Rattle.ext_gen.specs.Opened.{Generation}
 use Rattle.ext_gen.specs.Preparing.{LimitSays, PrepareCause, Prepares, PreparesTold, coming_number, host_before, is_left, limit_of, most_bytes_of, most_files}
-use Rattle.ext_gen.specs.PreparingPaths.{ChangesAt, ChangesTold, Cleans, CleansSays, FewGone, IsComing, gone, is_gone, made, stays}
+use Rattle.ext_gen.specs.PreparingPaths.{ChangesAt, ChangesTold, Cleans, CleansSays, FewGone, IsComing, gone, made, stays}
 use Rattle.ext_gen.specs.PreparingPaths as paths
 use Rattle.ext_gen.proofs.ForCallers.{few_lost, few_same, few_stood}
 use Rattle.ext_gen.specs.declared.errors.StoreErr.{StoreErr}
@@ -140,7 +140,7 @@ stops_for from next old new depot P Q limit few stops why = record {
     before = stops.before;
     after = stops.after;
     path = stops.path;
-    mode = stops.mode;
+    attributes = stops.attributes;
     held = stops.held;
     entries = stops.entries;
     placed = stops.placed;

@@ -14,7 +14,7 @@ use Rattle.ext_store_files.specs.HeldFiles.{body_told, is_served}
 use Rattle.ext_store_files.specs.declared.fault.StoreFault.TheVariants.{OutOfMemory, DiskFault, DepotFault, Damaged}
 use Rattle.ext_homes.specs.Giving.{lists_kept, trees_before}
 use Rattle.ext_gen.specs.Checking as gen
-use Rattle.ext_gen.specs.Checking.{AreChecked, files_of_host, sizes_of}
+use Rattle.ext_gen.specs.Checking.{AreChecked, files_of_host}
 use Rattle.ext_gen.specs.Opened.{Generation, IsOpened}
 use Rattle.ext_gen.specs.Preparing.{host_before}
 use Rattle.ext_gen.specs.Store.{State, none, at, Stands, generation_in}

@@ -1,4 +1,5 @@
 -- Refreshing leaves what unmerging and then merging leave.
+use Rattle.std.specs.Prelude.{not}
 use Rattle.std.proofs.Common.{◌≡◌, ◌≢◌, ℕ, ◌==◌, Bool, List, Option, Some, Ok, refl, sym, ap, ◌∙◌, subst, inl, inr, arith}
 use Rattle.ext_text.specs.declared.extension.Extension.{Extension}
 use Rattle.ext_text.specs.declared.extension.Extension.TheVariants as extensions
@@ -86,10 +87,10 @@ module _ (law : RefreshGivesUnmergeThenMerge) (t : Tree) (g : Generation) (conte
   both_unmerged plan a refreshed base unmerges is of c y =
       let host = host_after g.host plan in
       let later : HeldFile → Told = λ held. stored (bytes_at (at a.g a.bytes) held.body) in
-      let here = subst (λ (h : Host). WantsOf (record { host = h; number = a.g.number; newest = a.g.text == 2; told = λ held. stored (bytes_at (at a.g a.bytes) held.body) }) files (view_of class (views.Merge force)) y.intent) a.host y.wants in
+      let here = subst (λ (h : Host). WantsOf (record { host = h; number = a.g.number; newest = not (a.g.text == 1); told = λ held. stored (bytes_at (at a.g a.bytes) held.body) }) files (view_of class (views.Merge force)) y.intent) a.host y.wants in
       let alike = told_after g a.g contents a.bytes host (kept_plan plan (unmerge_view g.host class plan unmerges)) a.kept in
-      let wants = wants_alike host (λ held. stored (bytes_at (at a.g a.bytes) held.body)) told alike a.g.number (a.g.text == 2) files (view_of class (views.Merge force)) y.intent here in
-      both_merged plan a y.intent refreshed base unmerges is of c y.comes (view_wants (record { host = host; number = a.g.number; newest = a.g.text == 2; told = told }) files class (views.Merge force) y.intent wants)
+      let wants = wants_alike host (λ held. stored (bytes_at (at a.g a.bytes) held.body)) told alike a.g.number (not (a.g.text == 1)) files (view_of class (views.Merge force)) y.intent here in
+      both_merged plan a y.intent refreshed base unmerges is of c y.comes (view_wants (record { host = host; number = a.g.number; newest = not (a.g.text == 1); told = told }) files class (views.Merge force) y.intent wants)
 
   with_refreshed : (plan : Option Plan) (a : IsAfter g.number contents (host_after g.host plan) (answer_text answers.Unmerged) u first) (intent : Intent) → Unmerges g.host class (Ok plan) → Step u files (view_of class (views.Merge force)) (gives v second)
       → Comes (at g contents) files intent (gives w third) → RefreshWants g.host told class force intent → Leaves
@@ -102,9 +103,9 @@ module _ (law : RefreshGivesUnmergeThenMerge) (t : Tree) (g : Generation) (conte
 
   both_leave : Step (at g contents) files (view_of class views.Unmerge) (gives u first) → Step u files (view_of class (views.Merge force)) (gives v second) → Step (at g contents) files (view_of class (views.Refresh force)) (gives w third) → Leaves
   both_leave x y z =
-      let seen : Seen = record { host = g.host; number = g.number; newest = g.text == 2; told = told } in
-      let unmerging : UnmergeWants g.host class x.intent = view_wants (record { host = g.host; number = g.number; newest = g.text == 2; told = told }) files class views.Unmerge x.intent x.wants in
-      let refreshing : RefreshWants g.host told class force z.intent = view_wants (record { host = g.host; number = g.number; newest = g.text == 2; told = told }) files class (views.Refresh force) z.intent z.wants in
+      let seen : Seen = record { host = g.host; number = g.number; newest = not (g.text == 1); told = told } in
+      let unmerging : UnmergeWants g.host class x.intent = view_wants (record { host = g.host; number = g.number; newest = not (g.text == 1); told = told }) files class views.Unmerge x.intent x.wants in
+      let refreshing : RefreshWants g.host told class force z.intent = view_wants (record { host = g.host; number = g.number; newest = not (g.text == 1); told = told }) files class (views.Refresh force) z.intent z.wants in
       let view = unmerge_view g.host class unmerging.0 unmerging.1 in
       let a = after_plan g contents files g.host unmerging.0 answers.Unmerged u first refl (kept_plan unmerging.0 view) view (subst (λ i. Comes (at g contents) files i (gives u first)) unmerging.3 x.comes) in
       with_refreshed unmerging.0 a z.intent unmerging.1 y z.comes refreshing

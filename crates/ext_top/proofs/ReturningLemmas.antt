@@ -3,6 +3,7 @@ use Rattle.std.proofs.Common.{◌≡◌, ◌⊎◌, ℕ, zero, suc, ◌+◌, ◌
 use Rattle.std.specs.Prelude.{Contains}
 use Rattle.std.specs.List.{AllByRecursion}
 use Rattle.std.proofs.lemmas.List.Elements.{Contains-append_cases}
+use Rattle.ext_attributes.specs.Attributes.{OfFile}
 use Rattle.ext_depot.specs.Depot.{Files}
 use Rattle.ext_tree.specs.Tree.{Entries, lookup}
 use Rattle.ext_tree.specs.declared.entry.Entry.TheVariants.{File}
@@ -139,8 +140,8 @@ module _ (g : Generation) (contents : Home → List ℕ) where
             of_change plans (inr (refusal, refused, same)) = absurd (not_refused u reply refusal same)
 
   -- the rollback
-  kept_at : (es : Entries HeldFile) → ((held : HeldFile) (path : List (List ℕ)) (mode : ℕ) → lookup es path ≡ Some (File mode held) → IsFileOf (trees_of g.host) held) → IsGood (at g contents) → (path : List (List ℕ)) → IsKeptAt (lookup es path)
-  kept_at es file good path mode held found = let h = good.homed held (file held path mode found) in (h.home, h.body)
+  kept_at : (es : Entries HeldFile) → ((held : HeldFile) (path : List (List ℕ)) (attributes : OfFile) → lookup es path ≡ Some (File attributes held) → IsFileOf (trees_of g.host) held) → IsGood (at g contents) → (path : List (List ℕ)) → IsKeptAt (lookup es path)
+  kept_at es file good path attributes held found = let h = good.homed held (file held path attributes found) in (h.home, h.body)
 
   back : (h : Generation) (bytes : Home → List ℕ) (files : Option Files) (w : State) → IsGood (at g contents) → IsGood (at h bytes) → IsAfterMark (at h bytes)
       → IsNextState (at h bytes) files (back_to (marked g.number g.host) h.host) w → IsBackAt (at g contents) w
@@ -154,10 +155,10 @@ module _ (g : Generation) (contents : Home → List ℕ) where
         record {
           root = λ path.
               stays_at old depot n (lookup host.root path) (lookup next.coming.host.root path) (root_placed old depot n host next.coming.host next.written path next.homes)
-              (kept_at g.host.root (λ held p mode found. root_file g.host p mode held found) good path);
+              (kept_at g.host.root (λ held p attributes found. root_file g.host p attributes held found) good path);
           lower = λ path.
               stays_at old depot n (lookup host.lower path) (lookup next.coming.host.lower path) (lower_placed old depot n host next.coming.host next.written path next.homes)
-              (kept_at g.host.lower (λ held p mode found. lower_file g.host p mode held found) good path);
+              (kept_at g.host.lower (λ held p attributes found. lower_file g.host p attributes held found) good path);
           sysext = ap (λ (x : Host). x.sysext) is;
           confext = ap (λ (x : Host). x.confext) is;
           attached = ap (λ (x : Host). x.attached) is;

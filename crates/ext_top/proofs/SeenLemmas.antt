@@ -1,4 +1,5 @@
 -- What a command sees of a store: what the disk tells of the files of its host is what a state has for which it stands.
+use Rattle.std.specs.Prelude.{not}
 use Rattle.std.proofs.Common.{◌≡◌, ℕ, zero, suc, ◌+◌, ◌==◌, ◌≤◌, true, List, inl, inr, Option, Some, None, IfSome, Result, Err, refl, sym, ap, subst, arith}
 use Rattle.std.proofs.lemmas.Bool.{false≢true}
 use Rattle.ext_depot.specs.Depot.{DepotState, Files}
@@ -68,7 +69,7 @@ wants_of_state g d disk files command intent opened told wants (at h contents) i
     let same : g ≡ h = let one : Some h ≡ Some g = is in cc in
     let here = subst IsOpened same opened in
     let seen = subst (λ x. Wants (seen_on (Some x) disk) files command intent) same wants in
-    wants_alike h.host (λ held. body_told disk held.body) (λ held. stored (bytes_at (at h contents) held.body)) (told_alike h contents d disk here told durably.stands) h.number (h.text == 2) files command intent seen
+    wants_alike h.host (λ held. body_told disk held.body) (λ held. stored (bytes_at (at h contents) held.body)) (told_alike h contents d disk here told durably.stands) h.number (not (h.text == 1)) files command intent seen
 
 first_of_state : (d : Told) (files : Option Files) (command : Command) (intent : Intent) → WantsFirst command intent → (s : State) → generation_in s ≡ None → IsDurably s d.places → Wants (seen_in s) files command intent
 first_of_state d files command intent wants none is durably = wants
@@ -178,17 +179,17 @@ pub opened_serves : (g : Generation) (host : Host) → host ≡ g.host → IsOpe
 opened_serves g host same opened =
     let trees = trees_of g.host in
     subst (ServesHost (λ held. is_served held.body)) (sym same) (record {
-      root = λ path mode held stands. opened_is_served g opened held (record { tree = g.host.root; among = (zero, omega arith, refl); file = record { path = path; mode = mode; stands = stands } });
-      lower = λ path mode held stands. opened_is_served g opened held (record { tree = g.host.lower; among = (suc zero, omega arith, refl); file = record { path = path; mode = mode; stands = stands } });
+      root = λ path attributes held stands. opened_is_served g opened held (record { tree = g.host.root; among = (zero, omega arith, refl); file = record { path = path; attributes = attributes; stands = stands } });
+      lower = λ path attributes held stands. opened_is_served g opened held (record { tree = g.host.lower; among = (suc zero, omega arith, refl); file = record { path = path; attributes = attributes; stands = stands } });
     })
 
 -- what is wanted of its host is what is wanted of what is seen, and fit for it
 pub step_wants : (g : Generation) (disk : DiskState) (files : Option Files) (command : Command) (intent : Intent) (host : Host) (number text : ℕ) → host ≡ g.host → number ≡ g.number → text ≡ g.text
-    → WantsOf (record { host = host; number = number; newest = text == 2; told = λ held. body_told disk held.body }) files command intent → Wants (seen_on (Some g) disk) files command intent
+    → WantsOf (record { host = host; number = number; newest = not (text == 1); told = λ held. body_told disk held.body }) files command intent → Wants (seen_on (Some g) disk) files command intent
 step_wants g disk files command intent host number text same generation form wants =
-    subst (λ h. WantsOf (record { host = h; number = g.number; newest = g.text == 2; told = λ held. body_told disk held.body }) files command intent) same
-    (subst (λ n. WantsOf (record { host = host; number = n; newest = g.text == 2; told = λ held. body_told disk held.body }) files command intent) generation
-    (subst (λ n. WantsOf (record { host = host; number = number; newest = n == 2; told = λ held. body_told disk held.body }) files command intent) form wants))
+    subst (λ h. WantsOf (record { host = h; number = g.number; newest = not (g.text == 1); told = λ held. body_told disk held.body }) files command intent) same
+    (subst (λ n. WantsOf (record { host = host; number = n; newest = not (g.text == 1); told = λ held. body_told disk held.body }) files command intent) generation
+    (subst (λ n. WantsOf (record { host = host; number = number; newest = not (n == 1); told = λ held. body_told disk held.body }) files command intent) form wants))
 
 -- its marks are of generations before its own
 pub opened_before : (g : Generation) (host : Host) (number : ℕ) → host ≡ g.host → number ≡ g.number → IsOpened g → AreBefore number host.past
@@ -197,4 +198,4 @@ opened_before g host number same generation opened =
     (subst (λ (h : Host). AreBefore g.number h.past) (sym same) (marks_before g.number g.host.past (opened_is_valid_for g opened).past))
 
 pub step_fits : (g : Generation) (disk : DiskState) (files : Option Files) (command : Command) (intent : Intent) → IsOpened g → Wants (seen_on (Some g) disk) files command intent → IsFit (g.number + 1) (Some g.host) intent
-step_fits g disk files command intent opened wants = wants_fit (record { host = g.host; number = g.number; newest = g.text == 2; told = λ held. body_told disk held.body }) files command intent (opened_is_valid g opened) wants
+step_fits g disk files command intent opened wants = wants_fit (record { host = g.host; number = g.number; newest = not (g.text == 1); told = λ held. body_told disk held.body }) files command intent (opened_is_valid g opened) wants

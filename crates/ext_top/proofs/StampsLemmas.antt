@@ -4,6 +4,7 @@ use Rattle.std.specs.Prelude.{Contains, IsTrue}
 use Rattle.std.specs.List.{AllByRecursion}
 use Rattle.std.specs.Option.{option_map}
 use Rattle.std.proofs.lemmas.List.Sums.{sum_by-cons}
+use Rattle.ext_attributes.specs.Attributes.{OfFile}
 use Rattle.ext_text.specs.Path.{is_prefix}
 use Rattle.ext_depot.specs.Depot.{DepotState}
 use Rattle.ext_tree.specs.EntryLine.{IsWritable}
@@ -25,31 +26,31 @@ use Rattle.ext_homes.proofs.ForCallers.{placed_stamps}
 
 -- what is said of an entry by its stamp alone
 abbrev stamp_bytes : Entry Stamp → ℕ
-stamp_bytes (Dir mode) = 0
-stamp_bytes (Opaque mode) = 0
-stamp_bytes (File mode stamp) = stamp.size
-stamp_bytes (Link target) = 0
+stamp_bytes (Dir attributes) = 0
+stamp_bytes (Opaque attributes) = 0
+stamp_bytes (File attributes stamp) = stamp.size
+stamp_bytes (Link owner target) = 0
 stamp_bytes Hide = 0
 
 bytes_stamped : (e : Entry HeldFile) → bytes_of e ≡ stamp_bytes (stamped_entry e)
-bytes_stamped (Dir mode) = refl
-bytes_stamped (Opaque mode) = refl
-bytes_stamped (File mode held) = refl
-bytes_stamped (Link target) = refl
+bytes_stamped (Dir attributes) = refl
+bytes_stamped (Opaque attributes) = refl
+bytes_stamped (File attributes held) = refl
+bytes_stamped (Link owner target) = refl
 bytes_stamped Hide = refl
 
 range_stamped : (e : Entry HeldFile) → IsWritable held_form e → IsWritable stamp_form (stamped_entry e)
-range_stamped (Dir mode) range = range
-range_stamped (Opaque mode) range = range
-range_stamped (File mode held) range = range
-range_stamped (Link target) range = range
+range_stamped (Dir attributes) range = range
+range_stamped (Opaque attributes) range = range
+range_stamped (File attributes held) range = range
+range_stamped (Link owner target) range = range
 range_stamped Hide range = range
 
 range_held : (e : Entry HeldFile) → IsWritable stamp_form (stamped_entry e) → IsWritable held_form e
-range_held (Dir mode) range = range
-range_held (Opaque mode) range = range
-range_held (File mode held) range = range
-range_held (Link target) range = range
+range_held (Dir attributes) range = range
+range_held (Opaque attributes) range = range
+range_held (File attributes held) range = range
+range_held (Link owner target) range = range
 range_held Hide range = range
 
 entry_bytes : (a b : Entry HeldFile) → stamped_entry a ≡ stamped_entry b → bytes_of a ≡ bytes_of b
@@ -115,24 +116,24 @@ some_same (Some e) None same = cc
 some_same (Some e) (Some f) same = refl
 
 -- where a file stands in the one, one with its stamp stands in the other
-file_same : (mode : ℕ) (held : HeldFile) (a b : Option (Entry HeldFile)) → SameStamp a b → a ≡ Some (File mode held) → (other : HeldFile) × (b ≡ Some (File mode other)) × (other.stamp ≡ held.stamp)
-file_same mode held a b same is = of_other b (sym (ap (option_map stamped_entry) is) ∙ same)
+file_same : (attributes : OfFile) (held : HeldFile) (a b : Option (Entry HeldFile)) → SameStamp a b → a ≡ Some (File attributes held) → (other : HeldFile) × (b ≡ Some (File attributes other)) × (other.stamp ≡ held.stamp)
+file_same attributes held a b same is = of_other b (sym (ap (option_map stamped_entry) is) ∙ same)
   where
-    of_other : (b : Option (Entry HeldFile)) → Some (File mode held.stamp) ≡ option_map stamped_entry b → (other : HeldFile) × (b ≡ Some (File mode other)) × (other.stamp ≡ held.stamp)
+    of_other : (b : Option (Entry HeldFile)) → Some (File attributes held.stamp) ≡ option_map stamped_entry b → (other : HeldFile) × (b ≡ Some (File attributes other)) × (other.stamp ≡ held.stamp)
     of_other None there = cc
     of_other (Some (Dir m)) there = cc
     of_other (Some (Opaque m)) there = cc
     of_other (Some (File m other)) there =
-        let modes : mode ≡ m = cc in
+        let modes : attributes ≡ m = cc in
         let stamp : held.stamp ≡ other.stamp = cc in
         (other, ap (λ n. Some (File n other)) (sym modes), sym stamp)
-    of_other (Some (Link target)) there = cc
+    of_other (Some (Link owner target)) there = cc
     of_other (Some Hide) there = cc
 
 module _ (old new : List (List ℕ) → Option (Entry HeldFile)) (same : (p : List (List ℕ)) → SameStamp (new p) (old p)) where
   each_item : (manifest : Manifest) (items : List Item)
-      → AllByRecursion (λ item. IsTrue (is_prefix manifest.path item.path) × ((mode : ℕ) × (held : HeldFile) × (old item.path ≡ Some (File mode held)) × (held.stamp.digest ≡ item.digest))) items
-      → AllByRecursion (λ item. IsTrue (is_prefix manifest.path item.path) × ((mode : ℕ) × (held : HeldFile) × (new item.path ≡ Some (File mode held)) × (held.stamp.digest ≡ item.digest))) items
+      → AllByRecursion (λ item. IsTrue (is_prefix manifest.path item.path) × ((attributes : OfFile) × (held : HeldFile) × (old item.path ≡ Some (File attributes held)) × (held.stamp.digest ≡ item.digest))) items
+      → AllByRecursion (λ item. IsTrue (is_prefix manifest.path item.path) × ((attributes : OfFile) × (held : HeldFile) × (new item.path ≡ Some (File attributes held)) × (held.stamp.digest ≡ item.digest))) items
   each_item manifest [] all = tt
   each_item manifest (item ∷ items) all =
       let one = all.0.1 in
@@ -142,9 +143,9 @@ module _ (old new : List (List ℕ) → Option (Entry HeldFile)) (same : (p : Li
   items_same : (manifest : Manifest) → HasItems old manifest → HasItems new manifest
   items_same manifest items = record {
     each = each_item manifest manifest.items items.each;
-    whole = λ path mode held below is.
-        let there = file_same mode held (new path) (old path) (same path) is in
-        subst (λ digest. Contains manifest.items (record { path = path; digest = digest })) (ap (λ (s : Stamp). s.digest) there.2) (items.whole path mode there.0 below there.1);
+    whole = λ path attributes held below is.
+        let there = file_same attributes held (new path) (old path) (same path) is in
+        subst (λ digest. Contains manifest.items (record { path = path; digest = digest })) (ap (λ (s : Stamp). s.digest) there.2) (items.whole path attributes there.0 below there.1);
   }
 
   all_items_same : (manifests : List Manifest) → AllByRecursion (HasItems old) manifests → AllByRecursion (HasItems new) manifests

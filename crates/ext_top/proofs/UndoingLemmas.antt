@@ -4,6 +4,7 @@ use Rattle.std.proofs.Common.{◌≡◌, ℕ, ◌+◌, ◌==◌, Bool, true, fal
 use Rattle.std.specs.FinMap.Entries.{where_key}
 use Rattle.std.specs.List.{AllByRecursion}
 use Rattle.std.proofs.lemmas.Bool.{true≢false}
+use Rattle.ext_attributes.specs.Attributes.{OfFile}
 use Rattle.ext_text.specs.Path.{path_cmp}
 use Rattle.ext_text.specs.SortedPaths.{covers, meets}
 use Rattle.ext_text.specs.declared.which.Which.{Which}
@@ -39,6 +40,7 @@ use Rattle.ext_port.specs.Starting.{cut_of, start_host}
 use Rattle.ext_port.proofs.ForCallers.{LeavesOthers, LeavesRest}
 use Rattle.ext_homes.specs.Placed.{ArePlaced, IsBodyPlaced, IsEntryPlaced, IsHostPlaced, Stored}
 use Rattle.ext_homes.specs.Refused.{StopsAt}
+use Rattle.ext_index.specs.ValidIndex.{written_text}
 use Rattle.ext_gen.specs.Opened.{Generation}
 use Rattle.ext_gen.specs.Preparing.{contents_after, contents_of, coming_number}
 use Rattle.ext_gen.specs.Store.{State, at, generation_in, none}
@@ -76,10 +78,10 @@ not_refused v reply refusal same = cc
 abbrev AllKept : Entries HeldFile → Type 0
 AllKept es = AllByRecursion (λ (x : List (List ℕ) × Entry HeldFile). IsKeptAt (Some x.1)) es
 
-some_file : (e : Entry HeldFile) (mode : ℕ) (held : HeldFile) → Some e ≡ Some (File mode held) → e ≡ File mode held
-some_file e mode held same = cc
+some_file : (e : Entry HeldFile) (attributes : OfFile) (held : HeldFile) → Some e ≡ Some (File attributes held) → e ≡ File attributes held
+some_file e attributes held same = cc
 
-same_held : (m n : ℕ) (a b : HeldFile) → File m a ≡ File n b → a ≡ b
+same_held : (m n : OfFile) (a b : HeldFile) → File m a ≡ File n b → a ≡ b
 same_held m n a b same = cc
 
 module _ (old : Stored) (depot : DepotState) (n : ℕ) where
@@ -89,18 +91,18 @@ module _ (old : Stored) (depot : DepotState) (n : ℕ) where
   body_kept held (Kept home) next new written is (same, empty) = (home, ap (λ (h : HeldFile). h.body) same ∙ is)
   body_kept held (Depot path) next new written is (home, takes, same) = (home, ap (λ (h : HeldFile). h.body) same)
 
-  no_file : (e f : Entry HeldFile) → f ≡ e → ((mode : ℕ) (held : HeldFile) → e ≡ File mode held → ⊥) → IsKeptAt (Some f)
-  no_file e f same no_such mode held found = absurd (no_such mode held (sym same ∙ some_file f mode held found))
+  no_file : (e f : Entry HeldFile) → f ≡ e → ((attributes : OfFile) (held : HeldFile) → e ≡ File attributes held → ⊥) → IsKeptAt (Some f)
+  no_file e f same no_such attributes held found = absurd (no_such attributes held (sym same ∙ some_file f attributes held found))
 
   entry_kept : (e : Entry HeldFile) (next : ℕ) (f : Entry HeldFile) (written : List (List ℕ)) → IsEntryPlaced old depot n e next f written → IsKeptAt (Some f)
-  entry_kept (Dir m) next f written is = no_file (Dir m) f is.0 (λ mode held same. cc)
-  entry_kept (Opaque m) next f written is = no_file (Opaque m) f is.0 (λ mode held same. cc)
-  entry_kept (File m file) next f written (placed, is, same) = λ mode held found.
+  entry_kept (Dir m) next f written is = no_file (Dir m) f is.0 (λ attributes held same. cc)
+  entry_kept (Opaque m) next f written is = no_file (Opaque m) f is.0 (λ attributes held same. cc)
+  entry_kept (File m file) next f written (placed, is, same) = λ attributes held found.
       let kept = body_kept file file.body next placed written refl is in
-      let one : placed ≡ held = same_held m mode placed held (sym same ∙ some_file f mode held found) in
+      let one : placed ≡ held = same_held m attributes placed held (sym same ∙ some_file f attributes held found) in
       subst (λ (h : HeldFile). (home : Home) × (h.body ≡ Kept home)) one kept
-  entry_kept (Link target) next f written is = no_file (Link target) f is.0 (λ mode held same. cc)
-  entry_kept Hide next f written is = no_file Hide f is.0 (λ mode held same. cc)
+  entry_kept (Link owner target) next f written is = no_file (Link owner target) f is.0 (λ attributes held same. cc)
+  entry_kept Hide next f written is = no_file Hide f is.0 (λ attributes held same. cc)
 
   placed_kept : (es : Entries HeldFile) (next : ℕ) (new : Entries HeldFile) (written : List (List ℕ)) → ArePlaced old depot n es next new written → AllKept new
   placed_kept [] next new written is = subst AllKept (sym is.0) tt
@@ -110,8 +112,8 @@ module _ (old : Stored) (depot : DepotState) (n : ℕ) where
   -- no kept file stops a change
   none_stops : (es : Entries HeldFile) (next : ℕ) (why : HeldFile → Type 0) → AllKept es → ((held : HeldFile) → why held → (path : List (List ℕ)) × (held.body ≡ Depot path)) → StopsAt old depot n es next why → ⊥
   none_stops es next why kept in_depot stops =
-      let here = all_back (λ (x : List (List ℕ) × Entry HeldFile). IsKeptAt (Some x.1)) stops.before ((stops.path, File stops.mode stops.held) ∷ stops.after) (subst AllKept stops.entries kept) in
-      let home = here.0 stops.mode stops.held refl in
+      let here = all_back (λ (x : List (List ℕ) × Entry HeldFile). IsKeptAt (Some x.1)) stops.before ((stops.path, File stops.attributes stops.held) ∷ stops.after) (subst AllKept stops.entries kept) in
+      let home = here.0 stops.attributes stops.held refl in
       let place = in_depot stops.held stops.why in
       other home.0 place.0 (sym home.1 ∙ place.1)
     where
@@ -128,7 +130,7 @@ some_kept test (x ∷ es) kept = elim (test x.0) as (λ b. AllKept (cond b (x �
 
 -- a made directory is no file
 made_kept : (o : Option (Entry HeldFile)) → IsKeptAt o → IsKeptAt (or_made o)
-made_kept None kept = λ mode held found. let wrong = some_file _ mode held found in cc
+made_kept None kept = λ attributes held found. let wrong = some_file _ attributes held found in cc
 made_kept (Some e) kept = kept
 
 ways_kept : (paths : List (List (List ℕ))) (root : Entries HeldFile) (q : List (List ℕ)) → IsKeptAt (lookup root q) → IsKeptAt (with_ways paths root q)
@@ -163,7 +165,7 @@ start_lower true image host = refl
 -- two states one after the other: an image was attached in the second
 module _ (g : Generation) (contents : Home → List ℕ) (files : Option Files) (again : Bool) (words : AttachWords) (next : Host) (good : IsGood (at g contents)) (tree : IsTree g.host.root)
     (leaves : LeavesOthers again g.host (ask_of words) next) (planned : IsPlanned (g.number + 1) (Some g.host) next)
-    (coming : Generation) (number : coming.number ≡ g.number + 1) (text : coming.text ≡ 2) (written : List (List ℕ)) (homes : IsHostPlaced (stored_of (at g contents)) (depot_of files) coming.number next coming.host written) where
+    (coming : Generation) (number : coming.number ≡ g.number + 1) (text : coming.text ≡ written_text coming.host) (written : List (List ℕ)) (homes : IsHostPlaced (stored_of (at g contents)) (depot_of files) coming.number next coming.host written) where
   abbrev name : List ℕ
   name = image_name words.image
 
@@ -202,8 +204,8 @@ module _ (g : Generation) (contents : Home → List ℕ) (files : Option Files) 
 
   -- what stood there before is kept
   start_kept : (q : List (List ℕ)) → IsKeptAt (lookup start.root q)
-  start_kept q mode held found =
-      let is = good.homed held (root_file g.host q mode held (start_found again words.image g.host q (File mode held) found)) in (is.home, is.body)
+  start_kept q attributes held found =
+      let is = good.homed held (root_file g.host q attributes held (start_found again words.image g.host q (File attributes held) found)) in (is.home, is.body)
 
   -- and is there, outside of what was added
   second_root : (q : List (List ℕ)) → covers added q ≡ false → lookup h.root q ≡ with_ways added start.root q
@@ -234,8 +236,8 @@ module _ (g : Generation) (contents : Home → List ℕ) (files : Option Files) 
   second_lower : (q : List (List ℕ)) → lookup h.lower q ≡ lookup start.lower q
   second_lower q =
       let is : next.lower ≡ start.lower = ap (λ (x : Host). x.lower) rest.rest in
-      let kept : IsKeptAt (lookup next.lower q) = λ mode held found.
-      let home = good.homed held (lower_file g.host q mode held (ap (λ es. lookup es q) (sym (is ∙ start_lower again words.image g.host)) ∙ found)) in (home.home, home.body) in
+      let kept : IsKeptAt (lookup next.lower q) = λ attributes held found.
+      let home = good.homed held (lower_file g.host q attributes held (ap (λ es. lookup es q) (sym (is ∙ start_lower again words.image g.host)) ∙ found)) in (home.home, home.body) in
       stays_at (stored_of s) (depot_of files) coming.number (lookup next.lower q) (lookup h.lower q) (lower_placed (stored_of s) (depot_of files) coming.number next h written q homes) kept
       ∙ ap (λ es. lookup es q) is
 
@@ -293,10 +295,10 @@ module _ (g : Generation) (contents : Home → List ℕ) (files : Option Files) 
 
     -- what there is then
     left_kept : (q : List (List ℕ)) → IsKeptAt (lookup left.root q)
-    left_kept q mode held found = let is = second_good.homed held (root_file h q mode held (cut_found added h.root q (File mode held) found)) in (is.home, is.body)
+    left_kept q attributes held found = let is = second_good.homed held (root_file h q attributes held (cut_found added h.root q (File attributes held) found)) in (is.home, is.body)
 
     lower_kept : (q : List (List ℕ)) → IsKeptAt (lookup h.lower q)
-    lower_kept q mode held found = let is = second_good.homed held (lower_file h q mode held found) in (is.home, is.body)
+    lower_kept q attributes held found = let is = second_good.homed held (lower_file h q attributes held found) in (is.home, is.body)
 
     gives_back : (v : State) → IsNextState u more left v → IsBackFrom again words.image s u v
     gives_back v after =
@@ -383,5 +385,5 @@ detaching_undoes t (at g contents) u files later again words reply outcome stand
     let good = stands_good t (at g contents) stands in
     let tree = (opened_is_well_formed g (current_is_opened g t stands.0)).now.root in
     attach_gives g contents files later again words u reply outcome good tree second first.intent
-    (attach_wants (record { host = g.host; number = g.number; newest = g.text == 2; told = λ held. stored (bytes_at (at g contents) held.body) }) files again words first.intent first.wants)
+    (attach_wants (record { host = g.host; number = g.number; newest = not (g.text == 1); told = λ held. stored (bytes_at (at g contents) held.body) }) files again words first.intent first.wants)
     (step_planned (at g contents) files (Portable (attaching again words)) first.intent good (λ same. absurd (some_state g contents same)) first.wants) first.comes

@@ -1,8 +1,10 @@
 -- What no line touches stays: from step to step the host is valid, and each of its files is kept.
+use Rattle.std.specs.Prelude.{not}
 use Rattle.std.proofs.Common.{◌≡◌, ◌≢◌, ◌⊎◌, ℕ, zero, suc, ◌+◌, ◌<◌, ◌≤◌, ◌==◌, true, false, List, [], ◌∷◌, ◌++◌, inl, inr, Option, Some, None, refl, sym, ap, ◌∙◌, subst, if◌then◌else◌, arith}
 use Rattle.std.specs.Prelude.{Contains, slice_get, unwrap_or}
 use Rattle.std.specs.List.{AllByRecursion}
 use Rattle.std.proofs.lemmas.Bool.Decides.{eqb_tells}
+use Rattle.ext_attributes.specs.Attributes.{OfFile}
 use Rattle.ext_text.specs.Path.{are_related, is_prefix}
 use Rattle.ext_text.proofs.ForCallers.{all_prefix}
 use Rattle.ext_depot.specs.Depot.{Files}
@@ -76,20 +78,20 @@ pub record IsGood (s : State) : Type 0 where
 
 -- what stands there is no file, or one that is kept up to a generation
 abbrev IsHomedAt : ℕ → Option (Entry HeldFile) → Type 0
-IsHomedAt n o = (mode : ℕ) (held : HeldFile) → o ≡ Some (File mode held) → IsHomedUpTo n held
+IsHomedAt n o = (attributes : OfFile) (held : HeldFile) → o ≡ Some (File attributes held) → IsHomedUpTo n held
 
 base_file : (host : Host) (n : ℕ) → ((held : HeldFile) → IsFileOf (trees_of host) held → IsHomedUpTo n held) → (q : List (List ℕ)) → IsHomedAt n (base_at (hierarchies_in host) (present host) q)
 base_file host n homed q = elim (is_in (merged_hierarchies (hierarchies_in host) (present host)) q) as (λ b. IsHomedAt n (if b then lookup host.lower q else lookup host.root q)) [
-  | true ↦ λ mode held found. homed held (lower_file host q mode held found)
-  | false ↦ λ mode held found. homed held (root_file host q mode held found)
+  | true ↦ λ attributes held found. homed held (lower_file host q attributes held found)
+  | false ↦ λ attributes held found. homed held (root_file host q attributes held found)
 ]
 
 pub base_homed : (s : State) → IsGood s → (q : List (List ℕ)) → IsHomedAt (number_in s) (base_in s q)
-base_homed none good q = λ mode held found. absurd (none_is (File mode held) found)
+base_homed none good q = λ attributes held found. absurd (none_is (File attributes held) found)
 base_homed (at g contents) good q = base_file g.host g.number good.homed q
 
 is_kept : (n : ℕ) (o : Option (Entry HeldFile)) → IsHomedAt n o → IsKeptAt o
-is_kept n o homed mode held found = let h = homed mode held found in (h.home, h.body)
+is_kept n o homed attributes held found = let h = homed attributes held found in (h.home, h.body)
 
 -- the bytes at a home of before are those that were there
 bytes_stay : (n : ℕ) (written : List (List ℕ)) (s : State) (home : Home) → home.generation < n → contents_after n written s home ≡ contents_of s home
@@ -153,8 +155,8 @@ module _ (s : State) (good : IsGood s) (files : Option Files) (host : Host) wher
   pub next_same : (u : State) (q : List (List ℕ)) → IsNextState s files host u → base_at (hierarchies_in host) (present host) q ≡ base_in s q → IsSameAt s u q
   next_same u q next same = record {
     entry = next_entry u q next same;
-    bytes = λ mode held found.
-        let h = base_homed s good q mode held found in
+    bytes = λ attributes held found.
+        let h = base_homed s good q attributes held found in
         ap (bytes_at u) h.body ∙ next_bytes u h.home next h.last ∙ sym (ap (bytes_at s) h.body);
   }
 
@@ -202,7 +204,7 @@ pub step_planned : (s : State) (files : Option Files) (command : Command) (inten
 step_planned none files command intent good formed wants = fit_is_planned 1 None intent (first_wants_fit 1 command intent (formed refl) wants)
 step_planned (at g contents) files command intent good formed wants =
     fit_is_planned (g.number + 1) (Some g.host) intent
-    (wants_fit (record { host = g.host; number = g.number; newest = g.text == 2; told = λ held. stored (bytes_at (at g contents) held.body) }) files command intent good.valid wants)
+    (wants_fit (record { host = g.host; number = g.number; newest = not (g.text == 1); told = λ held. stored (bytes_at (at g contents) held.body) }) files command intent good.valid wants)
 
 pub step_good : (s : State) (files : Option Files) (command : Command) (outcome : Outcome) → IsGood s → (s ≡ none → IsWellFormed command) → Step s files command outcome → IsGood (state_after s outcome)
 step_good s files command outcome good formed step =
@@ -317,8 +319,8 @@ what_no_line_touches_stays law t s x files lines path entry stands formed apart 
     let keeps = lines_keep law path files s x lines good formed apart after in
     record {
       entry = keeps.base entry below;
-      bytes = λ mode held found.
-          let h = base_homed s good entry mode held found in
+      bytes = λ attributes held found.
+          let h = base_homed s good entry attributes held found in
           ap (bytes_at x) h.body ∙ keeps.bytes h.home h.last ∙ sym (ap (bytes_at s) h.body);
     }
 

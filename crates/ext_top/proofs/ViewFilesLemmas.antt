@@ -3,6 +3,7 @@ use Rattle.std.proofs.Common.{◌≡◌, ℕ, zero, suc, ◌<◌, true, false, i
 use Rattle.std.specs.Prelude.{Contains, reverse}
 use Rattle.std.specs.List.{AllByRecursion, flat_map}
 use Rattle.std.proofs.lemmas.List.{reverse-append}
+use Rattle.ext_attributes.specs.Attributes.{OfFile}
 use Rattle.ext_text.specs.declared.extension.Extension.{Extension}
 use Rattle.ext_text.specs.declared.extension.Extension.TheVariants as extensions
 use Rattle.ext_text.proofs.ForCallers.{all_append, all_back}
@@ -31,31 +32,31 @@ FromHost host next = (held : HeldFile) → IsFileOf (trees_of next) held → IsF
 
 -- the files of a tree are
 abbrev ComesFrom : Host → Entries HeldFile → Type 0
-ComesFrom host es = (p : List (List ℕ)) (mode : ℕ) (held : HeldFile) → lookup es p ≡ Some (File mode held) → IsFileOf (trees_of host) held
+ComesFrom host es = (p : List (List ℕ)) (attributes : OfFile) (held : HeldFile) → lookup es p ≡ Some (File attributes held) → IsFileOf (trees_of host) held
 
 pub root_file : (host : Host) → ComesFrom host host.root
-root_file host p mode held found = record { tree = host.root; among = (zero, omega arith, refl); file = record { path = p; mode = mode; stands = found } }
+root_file host p attributes held found = record { tree = host.root; among = (zero, omega arith, refl); file = record { path = p; attributes = attributes; stands = found } }
 
 pub lower_file : (host : Host) → ComesFrom host host.lower
-lower_file host p mode held found = record { tree = host.lower; among = (suc zero, omega arith, refl); file = record { path = p; mode = mode; stands = found } }
+lower_file host p attributes held found = record { tree = host.lower; among = (suc zero, omega arith, refl); file = record { path = p; attributes = attributes; stands = found } }
 
 -- what is seen of the base, or lies under the view
-base_at_file : (host : Host) (p : List (List ℕ)) (mode : ℕ) (held : HeldFile)
-    → (if is_in (merged_hierarchies (hierarchies_in host) (present host)) p then lookup host.lower p else lookup host.root p) ≡ Some (File mode held) → IsFileOf (trees_of host) held
-base_at_file host p mode held found = elim (is_in (merged_hierarchies (hierarchies_in host) (present host)) p) as (λ b. (if b then lookup host.lower p else lookup host.root p) ≡ Some (File mode held) → IsFileOf (trees_of host) held) [
-  | true ↦ λ here. lower_file host p mode held here
-  | false ↦ λ here. root_file host p mode held here
+base_at_file : (host : Host) (p : List (List ℕ)) (attributes : OfFile) (held : HeldFile)
+    → (if is_in (merged_hierarchies (hierarchies_in host) (present host)) p then lookup host.lower p else lookup host.root p) ≡ Some (File attributes held) → IsFileOf (trees_of host) held
+base_at_file host p attributes held found = elim (is_in (merged_hierarchies (hierarchies_in host) (present host)) p) as (λ b. (if b then lookup host.lower p else lookup host.root p) ≡ Some (File attributes held) → IsFileOf (trees_of host) held) [
+  | true ↦ λ here. lower_file host p attributes held here
+  | false ↦ λ here. root_file host p attributes held here
 ] found
 
 base_file : (host : Host) (base : Entries HeldFile) → IsBaseTree host base → ComesFrom host base
-base_file host base is p mode held found = base_at_file host p mode held (sym (is.is_base p) ∙ found)
+base_file host base is p attributes held found = base_at_file host p attributes held (sym (is.is_base p) ∙ found)
 
 none_some : (e : Entry HeldFile) → None ≡ Some e → ⊥
 none_some e same = cc
 
 part_file : (host : Host) (base : Entries HeldFile) (end : List (List ℕ)) → IsBaseTree host base → ComesFrom host (part end base)
-part_file host base end is [] mode held found = absurd (none_some (File mode held) (sym (root_part end base) ∙ found))
-part_file host base end is (n ∷ p) mode held found = base_file host base is (end ++ n ∷ p) mode held (sym (lookup_part end n p base) ∙ found)
+part_file host base end is [] attributes held found = absurd (none_some (File attributes held) (sym (root_part end base) ∙ found))
+part_file host base end is (n ∷ p) attributes held found = base_file host base is (end ++ n ∷ p) attributes held (sym (lookup_part end n p base) ∙ found)
 
 more_of : {X : Type 0} (y : X) (xs : List X) (x : X) → Contains xs x → Contains (y ∷ xs) x
 more_of y xs x (k, lt, is) = (suc k, omega arith, is)
@@ -77,29 +78,29 @@ of_trees host next root lower past held file = of_tree file.tree file.among file
     }
 
     of_tree : (tree : Entries HeldFile) → Contains (trees_of next) tree → HasFile tree held → IsFileOf (trees_of host) held
-    of_tree tree (zero, lt, is) file = let f = subst (λ t. HasFile t held) (sym is) file in root f.path f.mode held f.stands
-    of_tree tree (suc zero, lt, is) file = let f = subst (λ t. HasFile t held) (sym is) file in lower f.path f.mode held f.stands
+    of_tree tree (zero, lt, is) file = let f = subst (λ t. HasFile t held) (sym is) file in root f.path f.attributes held f.stands
+    of_tree tree (suc zero, lt, is) file = let f = subst (λ t. HasFile t held) (sym is) file in lower f.path f.attributes held f.stands
     of_tree tree (suc (suc k), lt, is) file = of_past tree k lt (k, omega arith, is) file
 
 unmerged_root : (host next : Host) (class : Extension) → IsUnmerged host class next → ComesFrom host next.root
-unmerged_root host next class is p mode held found = elim (is_in (hierarchies_at class host) p) as (λ b. is_in (hierarchies_at class host) p ≡ b → IsFileOf (trees_of host) held) [
-  | true ↦ λ in_. base_at_file host p mode held (sym (is.base p in_) ∙ found)
-  | false ↦ λ out. root_file host p mode held (sym (is.root_outside p out) ∙ found)
+unmerged_root host next class is p attributes held found = elim (is_in (hierarchies_at class host) p) as (λ b. is_in (hierarchies_at class host) p ≡ b → IsFileOf (trees_of host) held) [
+  | true ↦ λ in_. base_at_file host p attributes held (sym (is.base p in_) ∙ found)
+  | false ↦ λ out. root_file host p attributes held (sym (is.root_outside p out) ∙ found)
 ] refl
 
 unmerged_lower : (host next : Host) (class : Extension) → IsUnmerged host class next → ComesFrom host next.lower
-unmerged_lower host next class is p mode held found = elim (is_in (hierarchies_at class host) p) as (λ b. is_in (hierarchies_at class host) p ≡ b → IsFileOf (trees_of host) held) [
-  | true ↦ λ in_. absurd (none_some (File mode held) (sym (is.gone p in_) ∙ found))
-  | false ↦ λ out. lower_file host p mode held (sym (is.lower_outside p out) ∙ found)
+unmerged_lower host next class is p attributes held found = elim (is_in (hierarchies_at class host) p) as (λ b. is_in (hierarchies_at class host) p ≡ b → IsFileOf (trees_of host) held) [
+  | true ↦ λ in_. absurd (none_some (File attributes held) (sym (is.gone p in_) ∙ found))
+  | false ↦ λ out. lower_file host p attributes held (sym (is.lower_outside p out) ∙ found)
 ] refl
 
 -- a file shows as itself
-shown_file : (mode : ℕ) (held : HeldFile) (stored : Entry HeldFile) → File mode held ≡ as_shown stored → stored ≡ File mode held
-shown_file mode held (Dir m) is = cc
-shown_file mode held (Opaque m) is = cc
-shown_file mode held (File m h) is = sym is
-shown_file mode held (Link target) is = cc
-shown_file mode held Hide is = cc
+shown_file : (attributes : OfFile) (held : HeldFile) (stored : Entry HeldFile) → File attributes held ≡ as_shown stored → stored ≡ File attributes held
+shown_file attributes held (Dir m) is = cc
+shown_file attributes held (Opaque m) is = cc
+shown_file attributes held (File m h) is = sym is
+shown_file attributes held (Link owner target) is = cc
+shown_file attributes held Hide is = cc
 
 reverse_cons : {X : Type 0} (x : X) (xs : List X) → reverse (x ∷ xs) ≡ reverse xs ++ x ∷ []
 reverse_cons x xs = reverse-append (x ∷ []) xs
@@ -117,21 +118,21 @@ images_come host base (item ∷ items) (image ∷ images) is are =
 
 view_root : (host : Host) (class : Extension) (base : Entries HeldFile) (items : List SurveyItem) (images : List (Entries HeldFile)) (root lower : Entries HeldFile) → IsBaseTree host base → AreImagesOf base items images → AreViewTrees host class base images root lower
     → ComesFrom host root
-view_root host class base items images root lower is are trees p mode held found = elim (is_in (hierarchies_at class host) p) as (λ b. is_in (hierarchies_at class host) p ≡ b → IsFileOf (trees_of host) held) [
-  | true ↦ λ in_. visible_file (trees.visible p (File mode held) in_ found)
-  | false ↦ λ out. root_file host p mode held (sym (trees.root_outside p out) ∙ found)
+view_root host class base items images root lower is are trees p attributes held found = elim (is_in (hierarchies_at class host) p) as (λ b. is_in (hierarchies_at class host) p ≡ b → IsFileOf (trees_of host) held) [
+  | true ↦ λ in_. visible_file (trees.visible p (File attributes held) in_ found)
+  | false ↦ λ out. root_file host p attributes held (sym (trees.root_outside p out) ∙ found)
 ] refl
   where
-    visible_file : IsVisible (reverse images ++ base ∷ []) p (File mode held) → IsFileOf (trees_of host) held
+    visible_file : IsVisible (reverse images ++ base ∷ []) p (File attributes held) → IsFileOf (trees_of host) held
     visible_file v =
         let all : AllByRecursion (ComesFrom host) (reverse images ++ base ∷ []) = all_append (ComesFrom host) (reverse images) (base ∷ []) (all_reverse (ComesFrom host) images (images_come host base items images is are)) (base_file host base is, tt) in
         let layer : ComesFrom host v.layer = (all_back (ComesFrom host) v.above (v.layer ∷ v.below) (subst (AllByRecursion (ComesFrom host)) v.split all)).0 in
-        layer p mode held (v.stands ∙ ap Some (shown_file mode held v.stored v.shown))
+        layer p attributes held (v.stands ∙ ap Some (shown_file attributes held v.stored v.shown))
 
 view_lower : (host : Host) (class : Extension) (base : Entries HeldFile) (images : List (Entries HeldFile)) (root lower : Entries HeldFile) → IsBaseTree host base → AreViewTrees host class base images root lower → ComesFrom host lower
-view_lower host class base images root lower is trees p mode held found = elim (is_in (hierarchies_at class host) p) as (λ b. is_in (hierarchies_at class host) p ≡ b → IsFileOf (trees_of host) held) [
-  | true ↦ λ in_. base_file host base is p mode held (sym (trees.base_lower p in_) ∙ found)
-  | false ↦ λ out. lower_file host p mode held (sym (trees.lower_outside p out) ∙ found)
+view_lower host class base images root lower is trees p attributes held found = elim (is_in (hierarchies_at class host) p) as (λ b. is_in (hierarchies_at class host) p ≡ b → IsFileOf (trees_of host) held) [
+  | true ↦ λ in_. base_file host base is p attributes held (sym (trees.base_lower p in_) ∙ found)
+  | false ↦ λ out. lower_file host p attributes held (sym (trees.lower_outside p out) ∙ found)
 ] refl
 
 -- what is said of a planned host: its trees are trees, and its files are of the host before

@@ -1,4 +1,5 @@
 -- What a command does to a disk, and what it met on the way: over a disk that was only read before, or that was opened.
+use Rattle.std.specs.Prelude.{not}
 use Rattle.std.proofs.Common.{◌≡◌, ℕ, ◌+◌, ◌==◌, Bool, List, [], ◌∷◌, ◌++◌, length, inl, inr, Option, Some, None, is_some, IfOk, IfSome, Result, Ok, Err, refl, sym, ap, ◌∙◌, subst, arith}
 use Rattle.std.specs.List.{sum_by}
 use Rattle.ext_text.proofs.ForCallers.{all_weaker}
@@ -123,7 +124,7 @@ module _ (old mid : DiskState) (keeps : BothTold KeepsNow old.told mid.told) whe
 
   seen_kept : (from : Option Generation) → seen_on from mid ≡ seen_on from old
   seen_kept None = refl
-  seen_kept (Some g) = λ i. Some (record { host = g.host; number = g.number; newest = g.text == 2; told = λ held. body_kept held.body i })
+  seen_kept (Some g) = λ i. Some (record { host = g.host; number = g.number; newest = not (g.text == 1); told = λ held. body_kept held.body i })
 
   pub wants_kept : (from : Option Generation) (files : Option Files) (command : Command) (intent : Intent) → WantsOn from mid files command intent → WantsOn from old files command intent
   wants_kept from files command intent wants = subst (λ seen. Wants seen files command intent) (seen_kept from) wants

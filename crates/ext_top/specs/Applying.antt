@@ -1,4 +1,5 @@
 -- What carrying out a command leaves: of a store that durably stands for a state, the one that the machine gives.
+use Rattle.std.specs.Prelude.{not}
 use Rattle.std.specs.Prelude.{◌≡◌, ◌==◌, true, ◌⊎◌, Option, Some, None, IfSome, Result, Ok, Err}
 use Rattle.ext_text.specs.Causes.{Rose}
 use Rattle.ext_disk.specs.Disk.{Places, Told, DiskState, now}
@@ -45,7 +46,7 @@ of_plan plan_errors.OutOfMemory = Fault OutOfMemory
 -- the host that was opened, with what the disk tells of the host's files
 abbrev pub seen_on : Option Generation → DiskState → Option Seen
 seen_on None disk = None
-seen_on (Some g) disk = Some (record { host = g.host; number = g.number; newest = g.text == 2; told = λ held. body_told disk held.body })
+seen_on (Some g) disk = Some (record { host = g.host; number = g.number; newest = not (g.text == 1); told = λ held. body_told disk held.body })
 
 -- the disk, where it is told, points to what was opened
 abbrev pub PointsAs : DiskState → Option Generation → Type 0

@@ -1,6 +1,7 @@
 -- The machine that a store is: what each command makes of a state and what it replies, for the files that the depot has, where
 -- these are told. What a command wants of the host it sees is one definition a command; what becomes of it is here, once for all
 -- of them.
+use Rattle.std.specs.Prelude.{not}
 use Rattle.std.specs.Prelude.{◌≡◌, ℕ, ◌==◌, ◌⊎◌, List, [], ◌++◌, Option, Some, None}
 use Rattle.ext_depot.specs.Depot.{DepotState, Files}
 use Rattle.ext_tree.specs.Tree.{Entries}
@@ -14,6 +15,7 @@ use Rattle.ext_store_files.specs.Copying.{IsMissing, IsReadStamp}
 use Rattle.ext_homes.specs.Giving.{lists_kept, trees_before}
 use Rattle.ext_homes.specs.Placed.{Stored, IsHostPlaced, brought_told}
 use Rattle.ext_homes.specs.Refused.{StopsAt}
+use Rattle.ext_index.specs.ValidIndex.{written_text}
 use Rattle.ext_gen.specs.Opened.{Generation}
 use Rattle.ext_gen.specs.Preparing.{coming_number, contents_after, contents_of, host_before, limit_of}
 use Rattle.ext_gen.specs.Store.{State, none, at, generation_in}
@@ -62,7 +64,7 @@ bytes_at s (Depot path) = []
 -- its host, where it has one, with the bytes of the host's files
 abbrev pub seen_in : State → Option Seen
 seen_in none = None
-seen_in (at g contents) = Some (record { host = g.host; number = g.number; newest = g.text == 2; told = λ held. stored (bytes_at (at g contents) held.body) })
+seen_in (at g contents) = Some (record { host = g.host; number = g.number; newest = not (g.text == 1); told = λ held. stored (bytes_at (at g contents) held.body) })
 
 -- the trees of its host; of no host, none
 abbrev pub trees_in : State → List (Entries HeldFile)
@@ -80,7 +82,7 @@ depot_of files = record { contents = files; faults = 0 }
 pub record IsNextState (s : State) (files : Option Files) (host : Host) (u : State) : Type 0 where
   pub coming : Generation
   pub number : coming.number ≡ coming_number (generation_in s)
-  pub text : coming.text ≡ 2
+  pub text : coming.text ≡ written_text coming.host
   pub written : List (List ℕ)
   pub homes : IsHostPlaced (stored_of s) (depot_of files) coming.number host coming.host written
   pub is : u ≡ at coming (contents_after coming.number written s)

@@ -5,6 +5,7 @@
 -- other command changes the base: merging, unmerging and refreshing change what is seen over it, `mark` and `forget` change the marks,
 -- and `init` makes a host without entries.
 use Rattle.std.specs.Prelude.{◌≡◌, ℕ, false, IsTrue, List, [], ◌∷◌, Contains, Option, Some, None}
+use Rattle.ext_attributes.specs.Attributes.{OfFile}
 use Rattle.ext_text.specs.Path.{are_related}
 use Rattle.ext_text.specs.SortedPaths.{is_among}
 use Rattle.ext_depot.specs.Depot.{Files}
@@ -81,7 +82,7 @@ base_in (at g contents) path = base_at (hierarchies_in g.host) (present g.host) 
 -- at a path the base of both states has the same, and a file there has the same bytes in both
 pub record IsSameAt (s x : State) (path : List (List ℕ)) : Type 0 where
   pub entry : base_in x path ≡ base_in s path
-  pub bytes : (mode : ℕ) (held : HeldFile) → base_in s path ≡ Some (File mode held) → bytes_at x held.body ≡ bytes_at s held.body
+  pub bytes : (attributes : OfFile) (held : HeldFile) → base_in s path ≡ Some (File attributes held) → bytes_at x held.body ≡ bytes_at s held.body
 
 -- the installed manifests of the state's host; where there is no host, none
 abbrev pub installed_in : State → List Manifest

@@ -96,7 +96,7 @@ fn intended<D: Disk, P: Depot>(
     match opened {
         None => Ok(first_step(alloc, command)?),
         Some(opened) => {
-            let newest = opened.text() == 2;
+            let newest = opened.text() != 1;
             let mut shelf = GenShelf { disk };
             Ok(step(
                 alloc,

@@ -17,9 +17,10 @@ pub(crate) fn run_batch<S: Source, K: Sink, D: Disk, P: Depot, O: Observer>(
     alloc: Global,
     devices: &mut Devices<S, K, D, P, O>,
 ) -> Status
-    ensures runs { RunsBatch (states S.state K.state D.state P.state O.state devices.old) (states S.state K.state D.state P.state O.state devices.new)
-        result }
-    ensures counts { CountsOn (states S.state K.state D.state P.state O.state devices.old) (states S.state K.state D.state P.state O.state devices.new) }
+    ensures runs { RunsBatch (states S.state K.state D.state P.state O.state devices.old)
+        (states S.state K.state D.state P.state O.state devices.new) result }
+    ensures counts { CountsOn (states S.state K.state D.state P.state O.state devices.old)
+        (states S.state K.state D.state P.state O.state devices.new) }
 {
     match read_to_end(alloc, &mut devices.source, MOST_SOURCE) {
         Ok(text) => run_text(

@@ -104,9 +104,10 @@ pub fn a_rollback_gives_what_was_marked()
 
 /// Detaching undoes attaching. From a state for which a store stands, after a done `portable attach` or `portable reattach` of an image,
 /// with extensions or without, detaching it leaves a host that has at each path what was seen before, and in the ways to what was added,
-/// where nothing stood, a directory of mode 755; the same bytes, the same merged names and what lay under these; the attachments that
-/// there were; and the manifests but those that are related to what was added. Where it was attached anew, what there was is what there
-/// was without the attachments that went. It is refused only where the store has no number for a generation, or no room for its index.
+/// where nothing stood, a directory of root's, of mode 755; the same bytes, the same merged names and what lay under these; the
+/// attachments that there were; and the manifests but those that are related to what was added. Where it was attached anew, what there
+/// was is what there was without the attachments that went. It is refused only where the store has no number for a generation, or no
+/// room for its index.
 pub fn detaching_undoes_attaching()
     ensures { DetachingUndoesAttaching }
 {}

@@ -52,7 +52,8 @@ pub fn run<S: Source, K: Sink, D: Disk, P: Depot, O: Observer>(
         (states S.state K.state D.state P.state O.state devices.new) result }
     ensures reading { StaysUnlessChanging words.now (states S.state K.state D.state P.state O.state devices.old)
         (states S.state K.state D.state P.state O.state devices.new) }
-    ensures counts { CountsOn (states S.state K.state D.state P.state O.state devices.old) (states S.state K.state D.state P.state O.state devices.new) }
+    ensures counts { CountsOn (states S.state K.state D.state P.state O.state devices.old)
+        (states S.state K.state D.state P.state O.state devices.new) }
 {
     match read_words(alloc, words) {
         Ok(command) => run_command(alloc, &command, devices),
@@ -70,7 +71,8 @@ fn run_command<S: Source, K: Sink, D: Disk, P: Depot, O: Observer>(
     requires { IsWellFormed command.now }
     ensures runs { RunsKind (run_kind command.now) command.now (states S.state K.state D.state P.state O.state devices.old)
         (states S.state K.state D.state P.state O.state devices.new) result }
-    ensures counts { CountsOn (states S.state K.state D.state P.state O.state devices.old) (states S.state K.state D.state P.state O.state devices.new) }
+    ensures counts { CountsOn (states S.state K.state D.state P.state O.state devices.old)
+        (states S.state K.state D.state P.state O.state devices.new) }
 {
     match command {
         Command::Layer => {

@@ -1,16 +1,16 @@
 -- Where no text goes on is the first faulty line, and there the bytes are no sequence of texts.
-use Rattle.std.proofs.Common.{◌≡◌, ◌≢◌, ℕ, suc, Bool, true, false, ◌+◌, ◌-◌, not, eqb, List, [], ◌∷◌, ◌++◌, length, take, refl, sym, ap, ◌∙◌, subst, arith, append_assoc, length-append}
+use Rattle.std.proofs.Common.{◌≡◌, ◌≢◌, ℕ, suc, ◌+◌, ◌-◌, not, eqb, List, [], ◌∷◌, ◌++◌, length, take, refl, sym, ap, ◌∙◌, subst, arith, append_assoc, length-append}
 use Rattle.std.specs.Prelude.{◌⊎◌, codes, map}
 use mathlib.Core.Logic.{inl, inr}
 use Rattle.std.proofs.lemmas.List.{append-nil, append_cancel_left, take-append-le}
 use Rattle.std.proofs.lemmas.List.Sums.{AllPass-from_list_all}
 use Rattle.std.specs.List.{AllByRecursion, flat_map}
 use Rattle.ext_lines.specs.Split.{Lacks, IsSplit}
-use Rattle.ext_lines.proofs.ForCallers.{split_or_lacks, lacks_nil, whole_lines-text, whole_lines-split, whole_lines-lacks, lines_text-append}
+use Rattle.ext_lines.proofs.ForCallers.{split_or_lacks, differs, lacks_append, lacks_cons, lacks_nil, whole_lines-text, whole_lines-split, whole_lines-lacks, lines_text-append}
 use Rattle.ext_text.proofs.ForCallers.{all_append}
 use Rattle.ext_tree.specs.declared.stamp.Stamp.{Stamp}
 use Rattle.ext_tree.specs.Tree.{Entries}
-use Rattle.ext_tree.specs.TreeText.{HasTreeLine, HasText, header, need_version_2, tree_line, tree_lines, tree_text}
+use Rattle.ext_tree.specs.TreeText.{HasTreeLine, HasText, header, version_of, tree_line, tree_lines, tree_text}
 use Rattle.ext_lines.specs.Lines.{lines_text, whole_lines}
 use Rattle.ext_tree.specs.FirstFault.{Begins, EndsIdle, IsFirstFault}
 use Rattle.ext_tree.proofs.IdleLemmas.{none_ends_idle}
@@ -18,9 +18,10 @@ use Rattle.ext_tree.proofs.SequenceLemmas.{loosely, loosely_each, loosely_lines,
 use Rattle.ext_tree.proofs.TreeLineLemmas.{line_lacks}
 use Rattle.ext_tree.proofs.TreeTextLemmas.{lines_of}
 
-pub header_lacks : (two : Bool) → Lacks 10 (header two)
-header_lacks true = AllPass-from_list_all (λ b. not (eqb b 10)) (header true) refl
-header_lacks false = AllPass-from_list_all (λ b. not (eqb b 10)) (header false) refl
+pub header_lacks : (v : ℕ) → Lacks 10 (header v)
+header_lacks v =
+    lacks_append 10 (codes "hostext-tree ") ((48 + v) ∷ []) (AllPass-from_list_all (λ b. not (eqb b 10)) (codes "hostext-tree ") refl)
+    (lacks_cons 10 (48 + v) [] (differs 10 (48 + v) (λ e. omega arith)) (lacks_nil 10))
 
 pub entries_lack : (es : Entries Stamp) → AllByRecursion HasTreeLine es → AllByRecursion (Lacks 10) (map tree_line es)
 entries_lack [] lines = tt
@@ -28,7 +29,7 @@ entries_lack (x ∷ es) lines = (line_lacks x lines.0, entries_lack es lines.1)
 
 -- no line of a sequence holds a newline
 pub tree_lacks : (es : Entries Stamp) → HasText es → AllByRecursion (Lacks 10) (tree_lines es)
-tree_lacks es text = (header_lacks (need_version_2 es), all_append (Lacks 10) (map tree_line es) (codes "end" ∷ []) (entries_lack es (lines_of es text)) (AllPass-from_list_all (λ b. not (eqb b 10)) (codes "end") refl, tt))
+tree_lacks es text = (header_lacks (version_of es), all_append (Lacks 10) (map tree_line es) (codes "end" ∷ []) (entries_lack es (lines_of es text)) (AllPass-from_list_all (λ b. not (eqb b 10)) (codes "end") refl, tt))
 
 pub sequence_lacks : (trees : List (Entries Stamp)) → AllByRecursion HasText trees → AllByRecursion (Lacks 10) (flat_map tree_lines trees)
 sequence_lacks [] each = tt

@@ -45,7 +45,7 @@ pub use Rattle.ext_tree.proofs.JoiningLemmas.{is_with, length-with, tree_with_ot
 -- how a path stands to the one of a graft, and what the graft has there in each case; a list that has it is a tree
 pub use Rattle.ext_tree.proofs.GraftedLemmas.{Stands, stands, grafted_root, grafted_same, grafted_below, grafted_above, grafted_apart, tree_grafted}
 -- a field, its space and what follows are read in one way
-pub use Rattle.ext_tree.proofs.FieldsLemmas.{mode_once, number_once, digest_once, target_once}
+pub use Rattle.ext_tree.proofs.FieldsLemmas.{attributes_once, file_attributes_once, number_once, digest_once, target_once}
 -- fields and what follows them: joined, printed one after the other, and which bytes they lack
 pub use Rattle.ext_tree.proofs.FieldsLemmas.{spaced-append, line_printed, spaced_lacks}
 -- fields tell their entry and where they end, and an entry has its line alone

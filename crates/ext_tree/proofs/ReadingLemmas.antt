@@ -1,5 +1,5 @@
 -- Reading the lines of one text: what a line more makes of the bytes read so far, and where the reading stops.
-use Rattle.std.proofs.Common.{◌≡◌, ℕ, ◌+◌, ◌≤◌, Bool, true, List, [], ◌∷◌, ◌++◌, length, refl, sym, ap, ◌∙◌, subst, arith, append_assoc, length-append}
+use Rattle.std.proofs.Common.{◌≡◌, ℕ, ◌+◌, ◌≤◌, List, [], ◌∷◌, ◌++◌, length, refl, sym, ap, ◌∙◌, subst, arith, append_assoc, length-append}
 use Rattle.std.specs.Prelude.{codes, map, Result, Ok, Err, MatchResult}
 use mathlib.Core.Logic.{inl, inr}
 use Rattle.std.proofs.lemmas.List.{map-append, length-map}
@@ -8,7 +8,7 @@ use Rattle.ext_lines.proofs.ForCallers.{split_once, split_none, lines_text-appen
 use Rattle.ext_tree.specs.declared.entry.Entry.{Entry}
 use Rattle.ext_tree.specs.declared.stamp.Stamp.{Stamp}
 use Rattle.ext_tree.specs.Tree.{Entries}
-use Rattle.ext_tree.specs.TreeText.{HasText, header, need_version_2, needs_version_2, printed_lines, tree_line}
+use Rattle.ext_tree.specs.TreeText.{HasText, IsVersion, header, needed_version, version_of, printed_lines, tree_line}
 use Rattle.ext_lines.specs.Lines.{lines_text}
 use Rattle.ext_tree.specs.Reading.{MayStand, Judges, NoneNext, BodyFault, BeginsBody, BeginsText, IsHeader, StopsText, TextFault}
 use Rattle.ext_tree.specs.declared.reading.TreeTextErr.{TreeTextErr}
@@ -41,39 +41,39 @@ none_split May bytes line more split not_may = λ l m other may.
 pub none_lacks : (May : List ℕ → Type 0) (bytes : List ℕ) → Lacks 10 bytes → NoneNext May bytes
 none_lacks May bytes lacks = λ l m split _. split_none 10 bytes l m lacks split.whole
 
-pub judged_item : (two : Bool) (slice es longer : Entries Stamp) (line : List ℕ) (j : Line) (p : List (List ℕ)) (e : Entry Stamp) → slice ≡ es → Judges two slice line j → j ≡ Item p e → longer ≡ es ++ (p, e) ∷ []
-    → HasText longer × ((needs_version_2 e ≡ true → two ≡ true) × (line ≡ tree_line (p, e)))
-judged_item two slice es longer line j p e same judged is grown =
-    let found : Judges two es line (Item p e) = subst (λ i. Judges two es line i) is (subst (λ xs. Judges two xs line j) same judged) in
-    (subst HasText (sym grown) found.0.longer, (found.0.version, found.1))
+pub judged_item : (v : ℕ) (slice es longer : Entries Stamp) (line : List ℕ) (j : Line) (p : List (List ℕ)) (e : Entry Stamp) → slice ≡ es → Judges v slice line j → j ≡ Item p e → longer ≡ es ++ (p, e) ∷ []
+    → HasText longer × ((needed_version e ≤ v) × (line ≡ tree_line (p, e)))
+judged_item v slice es longer line j p e same judged is grown =
+    let found : Judges v es line (Item p e) = subst (λ i. Judges v es line i) is (subst (λ xs. Judges v xs line j) same judged) in
+    (subst HasText (sym grown) found.0.longer, (found.0.needed, found.1))
 
-pub judged_end : (two : Bool) (slice es : Entries Stamp) (line : List ℕ) (j : Line) → slice ≡ es → Judges two slice line j → j ≡ End → (line ≡ codes "end") × (need_version_2 es ≡ two)
-judged_end two slice es line j same judged is = subst (λ i. Judges two es line i) is (subst (λ xs. Judges two xs line j) same judged)
+pub judged_end : (v : ℕ) (slice es : Entries Stamp) (line : List ℕ) (j : Line) → slice ≡ es → Judges v slice line j → j ≡ End → (line ≡ codes "end") × (version_of es ≡ v)
+judged_end v slice es line j same judged is = subst (λ i. Judges v es line i) is (subst (λ xs. Judges v xs line j) same judged)
 
-pub judged_fault : (two : Bool) (slice es : Entries Stamp) (line : List ℕ) (j : Line) → slice ≡ es → Judges two slice line j → j ≡ Fault → ¬ MayStand two es line
-judged_fault two slice es line j same judged is = subst (λ i. Judges two es line i) is (subst (λ xs. Judges two xs line j) same judged)
+pub judged_fault : (v : ℕ) (slice es : Entries Stamp) (line : List ℕ) (j : Line) → slice ≡ es → Judges v slice line j → j ≡ Fault → ¬ MayStand v es line
+judged_fault v slice es line j same judged is = subst (λ i. Judges v es line i) is (subst (λ xs. Judges v xs line j) same judged)
 
-pub length-text_lines : (two : Bool) (es : Entries Stamp) → length (printed_lines two es) ≡ length es + 2
-length-text_lines two es = omega (arith, length-append (map tree_line es) (codes "end" ∷ []), length-map es tree_line)
+pub length-text_lines : (v : ℕ) (es : Entries Stamp) → length (printed_lines v es) ≡ length es + 2
+length-text_lines v es = omega (arith, length-append (map tree_line es) (codes "end" ∷ []), length-map es tree_line)
 
-pub text_begins : (two : Bool) (bytes body : List ℕ) (first : ℕ) (es : Entries Stamp) (rest : List ℕ) (next : ℕ) → IsSplit 10 bytes (header two) body → BeginsBody two body (first + 1) es rest next → BeginsText bytes first es rest next
-text_begins two bytes body first es rest next split begins = record {
+pub text_begins : (v : ℕ) (bytes body : List ℕ) (first : ℕ) (es : Entries Stamp) (rest : List ℕ) (next : ℕ) → IsSplit 10 bytes (header v) body → BeginsBody v body (first + 1) es rest next → BeginsText bytes first es rest next
+text_begins v bytes body first es rest next split begins = record {
   tree = begins.tree;
-  text = line_more bytes [] bytes (header two) body refl split ∙ ap (λ xs. lines_text (header two ∷ []) ++ xs) begins.text
-      ∙ sym (append_assoc (lines_text (header two ∷ [])) (lines_text (map tree_line es ++ codes "end" ∷ [])) rest)
-      ∙ ap (λ t. t ++ rest) (sym (lines_text-append (header two ∷ []) (map tree_line es ++ codes "end" ∷ [])))
-      ∙ ap (λ v. lines_text (printed_lines v es) ++ rest) (sym begins.version);
-  counted = omega (arith, begins.counted, length-text_lines (need_version_2 es) es);
+  text = line_more bytes [] bytes (header v) body refl split ∙ ap (λ xs. lines_text (header v ∷ []) ++ xs) begins.text
+      ∙ sym (append_assoc (lines_text (header v ∷ [])) (lines_text (map tree_line es ++ codes "end" ∷ [])) rest)
+      ∙ ap (λ t. t ++ rest) (sym (lines_text-append (header v ∷ []) (map tree_line es ++ codes "end" ∷ [])))
+      ∙ ap (λ v. lines_text (printed_lines v es) ++ rest) (sym begins.exact);
+  counted = omega (arith, begins.counted, length-text_lines (version_of es) es);
 }
 
-text_fault : (two : Bool) (bytes body : List ℕ) (first : ℕ) (e : TreeTextErr) → IsSplit 10 bytes (header two) body → BodyFault two body (first + 1) e → TextFault bytes first e
-text_fault two bytes body first OutOfMemory split fault = fault
-text_fault two bytes body first (BadTree line) split fault = inr (two, body, split, fault)
+text_fault : (v : ℕ) (bytes body : List ℕ) (first : ℕ) (e : TreeTextErr) → IsVersion v → IsSplit 10 bytes (header v) body → BodyFault v body (first + 1) e → TextFault bytes first e
+text_fault v bytes body first OutOfMemory known split fault = fault
+text_fault v bytes body first (BadTree line) known split fault = inr (v, body, known, split, fault)
 
-pub text_read : {T : Type 0} (entries : T → Entries Stamp) (rest : T → List ℕ) (next : T → ℕ) (r : Result T TreeTextErr) (two : Bool) (bytes body line : List ℕ) (first : ℕ) → IsSplit 10 bytes line body → line ≡ header two
-    → MatchResult r (λ t. BeginsBody two body (first + 1) (entries t) (rest t) (next t)) (BodyFault two body (first + 1)) → MatchResult r (λ t. BeginsText bytes first (entries t) (rest t) (next t)) (TextFault bytes first)
-text_read entries rest next (Ok t) two bytes body line first split is begins = text_begins two bytes body first (entries t) (rest t) (next t) (subst (λ h. IsSplit 10 bytes h body) is split) begins
-text_read entries rest next (Err e) two bytes body line first split is fault = text_fault two bytes body first e (subst (λ h. IsSplit 10 bytes h body) is split) fault
+pub text_read : {T : Type 0} (entries : T → Entries Stamp) (rest : T → List ℕ) (next : T → ℕ) (r : Result T TreeTextErr) (v : ℕ) (bytes body line : List ℕ) (first : ℕ) → IsVersion v → IsSplit 10 bytes line body → line ≡ header v
+    → MatchResult r (λ t. BeginsBody v body (first + 1) (entries t) (rest t) (next t)) (BodyFault v body (first + 1)) → MatchResult r (λ t. BeginsText bytes first (entries t) (rest t) (next t)) (TextFault bytes first)
+text_read entries rest next (Ok t) v bytes body line first known split is begins = text_begins v bytes body first (entries t) (rest t) (next t) (subst (λ h. IsSplit 10 bytes h body) is split) begins
+text_read entries rest next (Err e) v bytes body line first known split is fault = text_fault v bytes body first e known (subst (λ h. IsSplit 10 bytes h body) is split) fault
 
 -- no header
 pub no_header : (bytes line more : List ℕ) (first : ℕ) → IsSplit 10 bytes line more → (IsHeader line → ⊥) → StopsText bytes first first

@@ -2,7 +2,7 @@
 use Rattle.std.proofs.Common.{◌≡◌, ℕ, zero, suc, ◌+◌, ◌-◌, ◌<◌, ◌≤◌, Bool, List, [], ◌∷◌, ◌++◌, length, get_or, refl, sym, ap, ◌∙◌, subst, arith, length-append, codes, true, false}
 use Rattle.std.specs.Prelude.{◌⊎◌, map, nat_eq, IsTrue, ◌↔◌}
 use mathlib.Core.Logic.{inl, inr}
-use Rattle.std.proofs.lemmas.Bool.{cases_lt, cases_Bool, false≢true}
+use Rattle.std.proofs.lemmas.Bool.{cases_eq, cases_lt, cases_Bool, false≢true}
 use Rattle.std.proofs.lemmas.List.{append-nil, get_or_default}
 use Rattle.std.specs.List.{AllByRecursion, flat_map}
 use Rattle.ext_lines.specs.Split.{IsSplit}
@@ -10,7 +10,7 @@ use Rattle.ext_lines.proofs.ForCallers.{split_or_lacks}
 use Rattle.ext_text.specs.Path.{IsPath}
 use Rattle.ext_tree.specs.Tree.{Entries, IsTree}
 use Rattle.ext_tree.specs.Following.{stands_after}
-use Rattle.ext_tree.specs.TreeText.{HasText, HasTreeLine, header, need_version_2, needs_version_2, IsSequence, tree_line, tree_lines, tree_text}
+use Rattle.ext_tree.specs.TreeText.{HasText, HasTreeLine, IsVersion, header, needed_version, version_of, IsSequence, tree_line, tree_lines, tree_text}
 use Rattle.ext_lines.specs.Lines.{lines_text}
 use Rattle.ext_tree.specs.FirstFault.{AtLeastOne, IsFirstFault, IsOne}
 use Rattle.ext_tree.specs.Reading.{BeginsBody, BeginsText, MayStand, StopsBody, StopsText}
@@ -19,7 +19,7 @@ use Rattle.ext_tree.specs.declared.entry.Entry.{Entry}
 use Rattle.ext_tree.specs.declared.reading.TreeTextErr.TheVariants.{BadTree}
 use Rattle.ext_tree.specs.declared.stamp.Stamp.{Stamp}
 use Rattle.ext_tree.proofs.ReadingLemmas.{split_short, line_more, entry_more, none_split, none_lacks, no_header, no_line, text_begins}
-use Rattle.ext_tree.proofs.DecisionLemmas.{Decided, entry_of, same_text}
+use Rattle.ext_tree.proofs.DecisionLemmas.{Decided, entry_of, no_more, same_text}
 use Rattle.ext_tree.proofs.StopLemmas.{counted_more, each_more, sequence_ends, sequence_err, text_next, text_room, texts_more, tree_err, tree_more}
 use Rattle.ext_tree.proofs.FollowingLemmas.{may_first, may_next}
 use Rattle.ext_tree.proofs.TreeTextLemmas.{adds, empty_text, last_line, not_ended, version_more}
@@ -60,26 +60,15 @@ longer es x text line = elim (cases_lt (length es) 262144) [
     too_many : length (es ++ x ∷ []) ≤ 262144 → 262144 ≤ length es → ⊥
     too_many within full = omega (arith, length-append es (x ∷ []))
 
-same_test : (a b : Bool) → Decided (a ≡ b)
-same_test true true = inl refl
-same_test true false = inr (λ e. false≢true (sym e))
-same_test false true = inr (λ e. false≢true e)
-same_test false false = inl refl
-
-fits : (needs two : Bool) → Decided (needs ≡ true → two ≡ true)
-fits needs true = inl (λ _. refl)
-fits true false = inr (λ fit. false≢true (fit refl))
-fits false false = inl (λ e. absurd (false≢true e))
-
 -- a line may stand after entries, as the last one or as that of one more entry, or may not
-abbrev Judged : Bool → Entries Stamp → List ℕ → Type 0
-Judged two es line = MayStand two es line ⊎ (MayStand two es line → ⊥)
+abbrev Judged : ℕ → Entries Stamp → List ℕ → Type 0
+Judged v es line = MayStand v es line ⊎ (MayStand v es line → ⊥)
 
-judged : (two : Bool) (es : Entries Stamp) (line : List ℕ) → HasText es → Judged two es line
-judged two es line text = elim (same_text line (codes "end")) [
-  | inl end ↦ elim (same_test (need_version_2 es) two) [
+judged : (v : ℕ) (es : Entries Stamp) (line : List ℕ) → HasText es → Judged v es line
+judged v es line text = elim (same_text line (codes "end")) [
+  | inl end ↦ elim (cases_eq (version_of es) v) [
     | inl same ↦ inl (inl (end, same))
-    | inr other ↦ inr (not_ended two (need_version_2 es) es line end refl (λ same. other (sym same)))
+    | inr other ↦ inr (not_ended v (version_of es) es line end refl (λ same. other (sym same)))
   ]
   | inr not_end ↦ elim (entry_of line) [
     | inr none ↦ inr (λ may. elim may [
@@ -87,11 +76,11 @@ judged two es line text = elim (same_text line (codes "end")) [
       | inr found ↦ none (found.0, (last_line es found.0 found.1.longer, found.2))
     ])
     | inl x ↦ elim (longer es x.0 text x.1.0) [
-      | inl has ↦ elim (fits (needs_version_2 x.0.1) two) [
-        | inl fit ↦ inl (inr (x.0, record { longer = has; version = fit }, x.1.1))
+      | inl has ↦ elim (no_more (needed_version x.0.1) v) [
+        | inl fit ↦ inl (inr (x.0, record { longer = has; needed = fit }, x.1.1))
         | inr unfit ↦ inr (λ may. elim may [
           | inl end ↦ not_end end.0
-          | inr found ↦ unfit (subst (λ z. needs_version_2 z.1 ≡ true → two ≡ true) (line_injective found.0 x.0 (last_line es found.0 found.1.longer) x.1.0 (sym found.2 ∙ x.1.1)) found.1.version)
+          | inr found ↦ unfit (subst (λ z. needed_version z.1 ≤ v) (line_injective found.0 x.0 (last_line es found.0 found.1.longer) x.1.0 (sym found.2 ∙ x.1.1)) found.1.needed)
         ])
       ]
       | inr not_longer ↦ inr (λ may. elim may [
@@ -102,14 +91,14 @@ judged two es line text = elim (same_text line (codes "end")) [
   ]
 ]
 
-abbrev BodyOrStop : Bool → List ℕ → ℕ → Type 0
-BodyOrStop two bytes first = ((es : Entries Stamp) × ((rest : List ℕ) × ((next : ℕ) × BeginsBody two bytes first es rest next))) ⊎ ((line : ℕ) × StopsBody two bytes first line)
+abbrev BodyOrStop : ℕ → List ℕ → ℕ → Type 0
+BodyOrStop v bytes first = ((es : Entries Stamp) × ((rest : List ℕ) × ((next : ℕ) × BeginsBody v bytes first es rest next))) ⊎ ((line : ℕ) × StopsBody v bytes first line)
 
-body_or_stop : (two : Bool) (most : ℕ) (bytes : List ℕ) (first : ℕ) (es : Entries Stamp) (rest : List ℕ) → length rest < most → HasText es → (need_version_2 es ≡ true → two ≡ true) → bytes ≡ lines_text (map tree_line es) ++ rest → BodyOrStop two bytes first
-body_or_stop two zero bytes first es rest short tree version text = absurd (omega arith)
-body_or_stop two (suc most) bytes first es rest short tree version text = elim (split_or_lacks 10 rest) [
-  | inl lacks ↦ inr (first + length es, record { entries = es; rest = rest; tree = tree; version = version; text = text; counted = refl; stop = none_lacks (MayStand two es) rest lacks })
-  | inr (line, more, split) ↦ elim (judged two es line tree) [
+body_or_stop : (v : ℕ) (most : ℕ) (bytes : List ℕ) (first : ℕ) (es : Entries Stamp) (rest : List ℕ) → length rest < most → HasText es → (version_of es ≤ v) → bytes ≡ lines_text (map tree_line es) ++ rest → BodyOrStop v bytes first
+body_or_stop v zero bytes first es rest short tree version text = absurd (omega arith)
+body_or_stop v (suc most) bytes first es rest short tree version text = elim (split_or_lacks 10 rest) [
+  | inl lacks ↦ inr (first + length es, record { entries = es; rest = rest; tree = tree; needed = version; text = text; counted = refl; stop = none_lacks (MayStand v es) rest lacks })
+  | inr (line, more, split) ↦ elim (judged v es line tree) [
     | inl (inl end) ↦ inl (
       es,
       (
@@ -118,7 +107,7 @@ body_or_stop two (suc most) bytes first es rest short tree version text = elim (
           first + (length es + 1),
           record {
             tree = tree;
-            version = end.1;
+            exact = end.1;
             text = line_more bytes (map tree_line es) rest line more text split
                 ∙ ap (λ l. lines_text (map tree_line es ++ l ∷ []) ++ more) end.0;
             counted = refl;
@@ -127,10 +116,10 @@ body_or_stop two (suc most) bytes first es rest short tree version text = elim (
       ),
     )
     | inl (inr item) ↦
-        body_or_stop two most bytes first (es ++ item.0 ∷ []) more (shorter line more split) item.1.longer
-        (version_more two es (es ++ item.0 ∷ []) item.0 version item.1.version refl)
+        body_or_stop v most bytes first (es ++ item.0 ∷ []) more (shorter line more split) item.1.longer
+        (version_more v es (es ++ item.0 ∷ []) item.0 version item.1.needed refl)
         (entry_more bytes es (es ++ item.0 ∷ []) item.0 rest line more text split item.2 refl)
-    | inr fault ↦ inr (first + length es, record { entries = es; rest = rest; tree = tree; version = version; text = text; counted = refl; stop = none_split (MayStand two es) rest line more split fault })
+    | inr fault ↦ inr (first + length es, record { entries = es; rest = rest; tree = tree; needed = version; text = text; counted = refl; stop = none_split (MayStand v es) rest line more split fault })
   ]
 ]
   where
@@ -143,23 +132,31 @@ TextOrStop bytes first = ((es : Entries Stamp) × ((rest : List ℕ) × ((next :
 text_or_stop : (bytes : List ℕ) (first : ℕ) → TextOrStop bytes first
 text_or_stop bytes first = elim (split_or_lacks 10 bytes) [
   | inl lacks ↦ inr (first, no_line bytes first lacks)
-  | inr (line, body, split) ↦ elim (same_text line (header true)) [
-    | inl second ↦ after_header true body (subst (λ l. IsSplit 10 bytes l body) second split)
-    | inr not_second ↦ elim (same_text line (header false)) [
-      | inl initial ↦ after_header false body (subst (λ l. IsSplit 10 bytes l body) initial split)
-      | inr not_first ↦ inr (first, no_header bytes line body first split (λ is. neither line not_second not_first is.0 is.1))
+  | inr (line, body, split) ↦ elim (same_text line (header 1)) [
+    | inl initial ↦ after_header 1 body (record { low = omega arith; high = omega arith }) (subst (λ l. IsSplit 10 bytes l body) initial split)
+    | inr not_first ↦ elim (same_text line (header 2)) [
+      | inl second ↦ after_header 2 body (record { low = omega arith; high = omega arith }) (subst (λ l. IsSplit 10 bytes l body) second split)
+      | inr not_second ↦ elim (same_text line (header 3)) [
+        | inl third ↦ after_header 3 body (record { low = omega arith; high = omega arith }) (subst (λ l. IsSplit 10 bytes l body) third split)
+        | inr not_third ↦ inr (first, no_header bytes line body first split (λ is. neither line not_first not_second not_third is.0 is.1 is.2))
+      ]
     ]
   ]
 ]
   where
-    neither : (line : List ℕ) → (line ≡ header true → ⊥) → (line ≡ header false → ⊥) → (two : Bool) → line ≡ header two → ⊥
-    neither line not_second not_first true is = not_second is
-    neither line not_second not_first false is = not_first is
+    neither : (line : List ℕ) → (line ≡ header 1 → ⊥) → (line ≡ header 2 → ⊥) → (line ≡ header 3 → ⊥) → (v : ℕ) → IsVersion v → line ≡ header v → ⊥
+    neither line not_first not_second not_third v known is = elim (cases_eq v 1) [
+      | inl one ↦ not_first (is ∙ ap header one)
+      | inr other ↦ elim (cases_eq v 2) [
+        | inl second ↦ not_second (is ∙ ap header second)
+        | inr more ↦ let third : v ≡ 3 = omega (arith, known.low, known.high) in not_third (is ∙ ap header third)
+      ]
+    ]
 
-    after_header : (two : Bool) (body : List ℕ) → IsSplit 10 bytes (header two) body → TextOrStop bytes first
-    after_header two body split = elim (body_or_stop two (suc (length body)) body (first + 1) [] body (omega arith) empty_text (λ needs. absurd (false≢true needs)) refl) [
-      | inl found ↦ inl (found.0, (found.1.0, (found.1.1.0, text_begins two bytes body first found.0 found.1.0 found.1.1.0 split found.1.1.1)))
-      | inr stops ↦ inr (stops.0, inr (two, body, split, stops.1))
+    after_header : (v : ℕ) (body : List ℕ) → IsVersion v → IsSplit 10 bytes (header v) body → TextOrStop bytes first
+    after_header v body known split = elim (body_or_stop v (suc (length body)) body (first + 1) [] body (omega arith) empty_text known.low refl) [
+      | inl found ↦ inl (found.0, (found.1.0, (found.1.1.0, text_begins v bytes body first found.0 found.1.0 found.1.1.0 split found.1.1.1)))
+      | inr stops ↦ inr (stops.0, inr (v, body, known, split, stops.1))
     ]
 
 pub fault_of_no_text : FaultOfNoText

@@ -12,11 +12,11 @@ use Rattle.ext_tree.specs.declared.stamp.Stamp.{Stamp}
 use Rattle.ext_tree.specs.declared.reading.TreeTextErr.{TreeTextErr}
 use Rattle.ext_tree.specs.declared.reading.TreeTextErr.TheVariants.{OutOfMemory, BadTree}
 use Rattle.ext_tree.specs.Tree.{Entries}
-use Rattle.ext_tree.specs.TreeText.{HasText, IsLoose, IsSequence, header, loose_lines, need_version_2, printed_lines, tree_line, tree_lines, tree_text}
+use Rattle.ext_tree.specs.TreeText.{HasText, IsLoose, IsSequence, header, loose_lines, version_of, printed_lines, tree_line, tree_lines, tree_text}
 use Rattle.ext_lines.specs.Lines.{lines_text}
 use Rattle.ext_tree.specs.FirstFault.{Begins, EndsIdle, IsFirstFault, IsOne, AtLeastOne, ReadsTree, ReadsSequence}
 use Rattle.ext_tree.specs.Reading.{IsHeader, MayStand, NoneNext, StopsBody, StopsText, BeginsText, TextFault}
-use Rattle.ext_tree.proofs.TreeTextLemmas.{lines_of, empty_text}
+use Rattle.ext_tree.proofs.TreeTextLemmas.{lines_of, empty_text, loose_version, version_high}
 use Rattle.ext_lines.proofs.ForCallers.{lines_text-append}
 use Rattle.ext_tree.proofs.ReadingLemmas.{line_more, length-text_lines}
 use Rattle.ext_tree.proofs.SequenceLemmas.{Next, ended, head_of, loosely, loosely_each, loosely_lines, loosely_peeled, loosely_push, next_line, open_body, sequence_peeled}
@@ -25,63 +25,63 @@ use Rattle.ext_tree.proofs.TreeLineLemmas.{one_version}
 use Rattle.ext_tree.proofs.DecisionLemmas.{same_text}
 use Rattle.ext_tree.proofs.FirstFaultLemmas.{IsStuck, stuck_fault, sequence_text, sequence_lacks, tree_lacks, header_lacks, entries_lack}
 
-one_more : (done : List (Entries Stamp)) (t : Bool × Entries Stamp) → flat_map loose_lines (map loosely done ++ t ∷ []) ≡ flat_map tree_lines done ++ loose_lines t
+one_more : (done : List (Entries Stamp)) (t : ℕ × Entries Stamp) → flat_map loose_lines (map loosely done ++ t ∷ []) ≡ flat_map tree_lines done ++ loose_lines t
 one_more done t =
     flat_map-append loose_lines (map loosely done) (t ∷ []) ∙ ap (λ xs. xs ++ flat_map loose_lines (t ∷ [])) (loosely_lines done)
     ∙ ap (λ xs. flat_map tree_lines done ++ xs) (append-nil (loose_lines t))
 
 -- the lines of trees, and of texts of which some versions may not fit
-peeled : (done : List (Entries Stamp)) (texts : List (Bool × Entries Stamp)) (a : List (List ℕ)) → AllByRecursion HasText done → AllByRecursion IsLoose texts → flat_map tree_lines done ++ a ≡ flat_map loose_lines texts
-    → (more : List (Bool × Entries Stamp)) × (texts ≡ map loosely done ++ more) × (a ≡ flat_map loose_lines more) × AllByRecursion IsLoose more
+peeled : (done : List (Entries Stamp)) (texts : List (ℕ × Entries Stamp)) (a : List (List ℕ)) → AllByRecursion HasText done → AllByRecursion IsLoose texts → flat_map tree_lines done ++ a ≡ flat_map loose_lines texts
+    → (more : List (ℕ × Entries Stamp)) × (texts ≡ map loosely done ++ more) × (a ≡ flat_map loose_lines more) × AllByRecursion IsLoose more
 peeled done texts a hd ht same = loosely_peeled (map loosely done) texts a (loosely_each done hd) ht (ap (λ xs. xs ++ a) (loosely_lines done) ∙ same)
 
 -- what follows whole trees in a sequence is a header, or nothing
-next_header : (done : List (Entries Stamp)) (texts : List (Bool × Entries Stamp)) (l : List ℕ) (a : List (List ℕ)) → AllByRecursion HasText done → AllByRecursion IsLoose texts → (flat_map tree_lines done ++ l ∷ []) ++ a ≡ flat_map loose_lines texts → IsHeader l
+next_header : (done : List (Entries Stamp)) (texts : List (ℕ × Entries Stamp)) (l : List ℕ) (a : List (List ℕ)) → AllByRecursion HasText done → AllByRecursion IsLoose texts → (flat_map tree_lines done ++ l ∷ []) ++ a ≡ flat_map loose_lines texts → IsHeader l
 next_header done texts l a hd ht same =
     let rest = peeled done texts (l ∷ a) hd ht (sym (append_assoc (flat_map tree_lines done) (l ∷ []) a) ∙ same) in
-    header_of rest.0 rest.2
+    header_of rest.0 rest.3 rest.2
   where
-    header_of : (more : List (Bool × Entries Stamp)) → l ∷ a ≡ flat_map loose_lines more → IsHeader l
-    header_of [] is = absurd (cc)
-    header_of (t ∷ more) is = (t.0, head (sym (ended t.0 t.1 (flat_map loose_lines more)) ∙ sym is))
+    header_of : (more : List (ℕ × Entries Stamp)) → AllByRecursion IsLoose more → l ∷ a ≡ flat_map loose_lines more → IsHeader l
+    header_of [] hm is = absurd (cc)
+    header_of (t ∷ more) hm is = (t.0, loose_version t hm.0, head (sym (ended t.0 t.1 (flat_map loose_lines more)) ∙ sym is))
       where
         head : header t.0 ∷ (map tree_line t.1 ++ codes "end" ∷ flat_map loose_lines more) ≡ l ∷ a → l ≡ header t.0
         head both = cc
 
 -- the lines of whole trees, and those of a tree that has not ended
-abbrev open_lines : List (Entries Stamp) → Bool → Entries Stamp → List (List ℕ)
-open_lines done two es = flat_map tree_lines done ++ header two ∷ map tree_line es
+abbrev open_lines : List (Entries Stamp) → ℕ → Entries Stamp → List (List ℕ)
+open_lines done v es = flat_map tree_lines done ++ header v ∷ map tree_line es
 
 -- what follows a header and entries
-next_entry : (done : List (Entries Stamp)) (texts : List (Bool × Entries Stamp)) (two : Bool) (es : Entries Stamp) (l : List ℕ) (a : List (List ℕ)) → AllByRecursion HasText done → AllByRecursion IsLoose texts → HasText es
-    → (open_lines done two es ++ l ∷ []) ++ a ≡ flat_map loose_lines texts → Next two es l
-next_entry done texts two es l a hd ht text same =
-    let rest = peeled done texts (header two ∷ (map tree_line es ++ l ∷ a)) hd ht (sym regrouped ∙ same) in
+next_entry : (done : List (Entries Stamp)) (texts : List (ℕ × Entries Stamp)) (v : ℕ) (es : Entries Stamp) (l : List ℕ) (a : List (List ℕ)) → AllByRecursion HasText done → AllByRecursion IsLoose texts → HasText es
+    → (open_lines done v es ++ l ∷ []) ++ a ≡ flat_map loose_lines texts → Next v es l
+next_entry done texts v es l a hd ht text same =
+    let rest = peeled done texts (header v ∷ (map tree_line es ++ l ∷ a)) hd ht (sym regrouped ∙ same) in
     entry_of rest.0 rest.3 rest.2
   where
-    regrouped : (open_lines done two es ++ l ∷ []) ++ a ≡ flat_map tree_lines done ++ (header two ∷ (map tree_line es ++ l ∷ a))
+    regrouped : (open_lines done v es ++ l ∷ []) ++ a ≡ flat_map tree_lines done ++ (header v ∷ (map tree_line es ++ l ∷ a))
     regrouped =
-        ap (λ xs. xs ++ a) (append_assoc (flat_map tree_lines done) (header two ∷ map tree_line es) (l ∷ []))
-        ∙ append_assoc (flat_map tree_lines done) (header two ∷ (map tree_line es ++ l ∷ [])) a
-        ∙ ap (λ xs. flat_map tree_lines done ++ (header two ∷ xs)) (append_assoc (map tree_line es) (l ∷ []) a)
+        ap (λ xs. xs ++ a) (append_assoc (flat_map tree_lines done) (header v ∷ map tree_line es) (l ∷ []))
+        ∙ append_assoc (flat_map tree_lines done) (header v ∷ (map tree_line es ++ l ∷ [])) a
+        ∙ ap (λ xs. flat_map tree_lines done ++ (header v ∷ xs)) (append_assoc (map tree_line es) (l ∷ []) a)
 
-    entry_of : (more : List (Bool × Entries Stamp)) → AllByRecursion IsLoose more → header two ∷ (map tree_line es ++ l ∷ a) ≡ flat_map loose_lines more → Next two es l
+    entry_of : (more : List (ℕ × Entries Stamp)) → AllByRecursion IsLoose more → header v ∷ (map tree_line es ++ l ∷ a) ≡ flat_map loose_lines more → Next v es l
     entry_of [] hm is = absurd (cc)
     entry_of (u ∷ more) hm is =
-        let parts = head_of (header two) (header u.0) (map tree_line es ++ l ∷ a) (map tree_line u.1 ++ codes "end" ∷ flat_map loose_lines more) (is ∙ ended u.0 u.1 (flat_map loose_lines more)) in
-        let version : u.0 ≡ two = sym (one_version two u.0 parts.0) in
-        next_line two [] es u.1 l a (flat_map loose_lines more) (lines_of es text) (lines_of u.1 hm.0.tree) hm.0.tree (λ needs. sym version ∙ hm.0.version needs) parts.1
+        let parts = head_of (header v) (header u.0) (map tree_line es ++ l ∷ a) (map tree_line u.1 ++ codes "end" ∷ flat_map loose_lines more) (is ∙ ended u.0 u.1 (flat_map loose_lines more)) in
+        let version : u.0 ≡ v = sym (one_version v u.0 parts.0) in
+        next_line v [] es u.1 l a (flat_map loose_lines more) (lines_of es text) (lines_of u.1 hm.0.tree) hm.0.tree (omega (arith, version, hm.0.version)) parts.1
 
 -- a header and entries are no whole tree
-unended_entries : (done trees : List (Entries Stamp)) (two : Bool) (es : Entries Stamp) → AllByRecursion HasText done → AllByRecursion HasText trees → open_lines done two es ≡ flat_map tree_lines trees → ⊥
-unended_entries done trees two es hd ht same =
-    let rest = sequence_peeled done trees (header two ∷ map tree_line es) hd ht same in
+unended_entries : (done trees : List (Entries Stamp)) (v : ℕ) (es : Entries Stamp) → AllByRecursion HasText done → AllByRecursion HasText trees → open_lines done v es ≡ flat_map tree_lines trees → ⊥
+unended_entries done trees v es hd ht same =
+    let rest = sequence_peeled done trees (header v ∷ map tree_line es) hd ht same in
     never rest.0 rest.2
   where
-    never : (more : List (Entries Stamp)) → header two ∷ map tree_line es ≡ flat_map tree_lines more → ⊥
+    never : (more : List (Entries Stamp)) → header v ∷ map tree_line es ≡ flat_map tree_lines more → ⊥
     never [] is = cc
     never (u ∷ more) is =
-        let parts = head_of (header two) (header (need_version_2 u)) (map tree_line es) (map tree_line u ++ codes "end" ∷ flat_map tree_lines more) (is ∙ ended (need_version_2 u) u (flat_map tree_lines more)) in
+        let parts = head_of (header v) (header (version_of u)) (map tree_line es) (map tree_line u ++ codes "end" ∷ flat_map tree_lines more) (is ∙ ended (version_of u) u (flat_map tree_lines more)) in
         open_body es u (flat_map tree_lines more) parts.1
 
 stuck_header : (wanted : List (Entries Stamp) → Type 0) (bytes : List ℕ) (done : List (Entries Stamp)) (rest : List ℕ) → AllByRecursion HasText done → ((t : Entries Stamp) → wanted (done ++ t ∷ [])) → (wanted [] → ⊥) → bytes ≡ flat_map tree_text done ++ rest
@@ -90,11 +90,11 @@ stuck_header wanted bytes done rest hd longer none text unended stop = record {
   text = text ∙ ap (λ xs. xs ++ rest) (sequence_text done);
   lacks = sequence_lacks done hd;
   before = record {
-    texts = map loosely done ++ (false, []) ∷ [];
-    more = printed_lines false [];
-    as_many = subst wanted (sym (loosely_push done (false, []))) (longer []);
-    each = all_append IsLoose (map loosely done) ((false, []) ∷ []) (loosely_each done hd) (record { tree = empty_text; version = λ needs. needs }, tt);
-    text = sym (one_more done (false, []));
+    texts = map loosely done ++ (1, []) ∷ [];
+    more = printed_lines 1 [];
+    as_many = subst wanted (sym (loosely_push done (1, []))) (longer []);
+    each = all_append IsLoose (map loosely done) ((1, []) ∷ []) (loosely_each done hd) (record { tree = empty_text; version = omega arith; known = omega arith }, tt);
+    text = sym (one_more done (1, []));
   };
   not_before = λ k idle. none_ends_idle done [] hd tt k (subst (λ xs. EndsIdle (take k xs)) (sym (append-nil (flat_map tree_lines done))) idle);
   stop = λ l more split. inr (λ begins. stop l more split (next_header done begins.texts l begins.more hd begins.each begins.text));
@@ -111,65 +111,59 @@ stuck_header wanted bytes done rest hd longer none text unended stop = record {
     no_trees [] is = refl
     no_trees (t ∷ trees) is = absurd (cc)
 
--- where the version and the entries do not fit, it is 2 and no entry needs it
-version_gap : (needs v : Bool) → (needs ≡ true → v ≡ true) → (needs ≡ v → ⊥) → (needs ≡ false) × (v ≡ true)
-version_gap true v fits other = absurd (other (sym (fits refl)))
-version_gap false true fits other = (refl, refl)
-version_gap false false fits other = absurd (other refl)
-
 -- where the next line may not stand, it ends a text of version 2 that needs none, or nothing begins so
-stuck_line : (wanted : List (Entries Stamp) → Type 0) (done : List (Entries Stamp)) (two : Bool) (es : Entries Stamp) (l : List ℕ) → AllByRecursion HasText done → HasText es → (need_version_2 es ≡ true → two ≡ true) → (MayStand two es l → ⊥)
-    → EndsIdle (open_lines done two es ++ l ∷ []) ⊎ (Begins wanted (open_lines done two es ++ l ∷ []) → ⊥)
-stuck_line wanted done two es l hd text version stop = elim (same_text l (codes "end")) [
+stuck_line : (wanted : List (Entries Stamp) → Type 0) (done : List (Entries Stamp)) (v : ℕ) (es : Entries Stamp) (l : List ℕ) → AllByRecursion HasText done → HasText es → (version_of es ≤ v) → (MayStand v es l → ⊥)
+    → EndsIdle (open_lines done v es ++ l ∷ []) ⊎ (Begins wanted (open_lines done v es ++ l ∷ []) → ⊥)
+stuck_line wanted done v es l hd text version stop = elim (same_text l (codes "end")) [
   | inl end ↦
-      let gap = version_gap (need_version_2 es) two version (λ same. stop (inl (end, same))) in
+      let other : version_of es ≡ v → ⊥ = λ same. stop (inl (end, same)) in
       inl (record {
         before = flat_map tree_lines done;
         entries = es;
+        version = v;
         tree = text;
-        none = gap.0;
-        text = append_assoc (flat_map tree_lines done) (header two ∷ map tree_line es) (l ∷ [])
-            ∙ ap (λ x. flat_map tree_lines done ++ (header two ∷ (map tree_line es ++ x ∷ []))) end
-            ∙ ap (λ v. flat_map tree_lines done ++ printed_lines v es) gap.1;
+        none = omega arith;
+        text = append_assoc (flat_map tree_lines done) (header v ∷ map tree_line es) (l ∷ [])
+            ∙ ap (λ x. flat_map tree_lines done ++ (header v ∷ (map tree_line es ++ x ∷ []))) end;
       })
-  | inr not_end ↦ inr (λ begins. elim (next_entry done begins.texts two es l begins.more hd begins.each text begins.text) [
+  | inr not_end ↦ inr (λ begins. elim (next_entry done begins.texts v es l begins.more hd begins.each text begins.text) [
     | inl end ↦ not_end end
     | inr found ↦ stop (inr found)
   ])
 ]
 
-stuck_entries : (wanted : List (Entries Stamp) → Type 0) (bytes : List ℕ) (done : List (Entries Stamp)) (rest body : List ℕ) (two : Bool) (first line : ℕ) → AllByRecursion HasText done → ((t : Entries Stamp) → wanted (done ++ t ∷ [])) → bytes ≡ flat_map tree_text done ++ rest
-    → IsSplit 10 rest (header two) body → (stops : StopsBody two body first line) → IsStuck wanted bytes (open_lines done two stops.entries) stops.rest
-stuck_entries wanted bytes done rest body two first line hd longer text split stops = record {
+stuck_entries : (wanted : List (Entries Stamp) → Type 0) (bytes : List ℕ) (done : List (Entries Stamp)) (rest body : List ℕ) (v : ℕ) (first line : ℕ) → AllByRecursion HasText done → ((t : Entries Stamp) → wanted (done ++ t ∷ [])) → bytes ≡ flat_map tree_text done ++ rest
+    → v ≤ 3 → IsSplit 10 rest (header v) body → (stops : StopsBody v body first line) → IsStuck wanted bytes (open_lines done v stops.entries) stops.rest
+stuck_entries wanted bytes done rest body v first line hd longer text known split stops = record {
   text = read;
-  lacks = all_append (Lacks 10) (flat_map tree_lines done) (header two ∷ map tree_line stops.entries) (sequence_lacks done hd) (header_lacks two, entries_lack stops.entries (lines_of stops.entries stops.tree));
+  lacks = all_append (Lacks 10) (flat_map tree_lines done) (header v ∷ map tree_line stops.entries) (sequence_lacks done hd) (header_lacks v, entries_lack stops.entries (lines_of stops.entries stops.tree));
   before = record {
-    texts = map loosely done ++ (two, stops.entries) ∷ [];
+    texts = map loosely done ++ (v, stops.entries) ∷ [];
     more = codes "end" ∷ [];
-    as_many = subst wanted (sym (loosely_push done (two, stops.entries))) (longer stops.entries);
-    each = all_append IsLoose (map loosely done) ((two, stops.entries) ∷ []) (loosely_each done hd) (record { tree = stops.tree; version = stops.version }, tt);
-    text = append_assoc (flat_map tree_lines done) (header two ∷ map tree_line stops.entries) (codes "end" ∷ []) ∙ sym (one_more done (two, stops.entries));
+    as_many = subst wanted (sym (loosely_push done (v, stops.entries))) (longer stops.entries);
+    each = all_append IsLoose (map loosely done) ((v, stops.entries) ∷ []) (loosely_each done hd) (record { tree = stops.tree; version = stops.needed; known = known }, tt);
+    text = append_assoc (flat_map tree_lines done) (header v ∷ map tree_line stops.entries) (codes "end" ∷ []) ∙ sym (one_more done (v, stops.entries));
   };
-  not_before = none_ends_idle done (header two ∷ map tree_line stops.entries) hd (open_unended two stops.entries);
-  stop = λ l more end. stuck_line wanted done two stops.entries l hd stops.tree stops.version (stops.stop l more end);
-  unended = λ trees as_many each same _. unended_entries done trees two stops.entries hd each same;
+  not_before = none_ends_idle done (header v ∷ map tree_line stops.entries) hd (open_unended v stops.entries);
+  stop = λ l more end. stuck_line wanted done v stops.entries l hd stops.tree stops.needed (stops.stop l more end);
+  unended = λ trees as_many each same _. unended_entries done trees v stops.entries hd each same;
 }
   where
-    read : bytes ≡ lines_text (open_lines done two stops.entries) ++ stops.rest
+    read : bytes ≡ lines_text (open_lines done v stops.entries) ++ stops.rest
     read =
-        line_more bytes (flat_map tree_lines done) rest (header two) body (text ∙ ap (λ xs. xs ++ rest) (sequence_text done)) split
-        ∙ ap (λ xs. lines_text (flat_map tree_lines done ++ header two ∷ []) ++ xs) stops.text
-        ∙ sym (append_assoc (lines_text (flat_map tree_lines done ++ header two ∷ [])) (lines_text (map tree_line stops.entries)) stops.rest)
-        ∙ ap (λ xs. xs ++ stops.rest) (sym (lines_text-append (flat_map tree_lines done ++ header two ∷ []) (map tree_line stops.entries)))
-        ∙ ap (λ ls. lines_text ls ++ stops.rest) (append_assoc (flat_map tree_lines done) (header two ∷ []) (map tree_line stops.entries))
+        line_more bytes (flat_map tree_lines done) rest (header v) body (text ∙ ap (λ xs. xs ++ rest) (sequence_text done)) split
+        ∙ ap (λ xs. lines_text (flat_map tree_lines done ++ header v ∷ []) ++ xs) stops.text
+        ∙ sym (append_assoc (lines_text (flat_map tree_lines done ++ header v ∷ [])) (lines_text (map tree_line stops.entries)) stops.rest)
+        ∙ ap (λ xs. xs ++ stops.rest) (sym (lines_text-append (flat_map tree_lines done ++ header v ∷ []) (map tree_line stops.entries)))
+        ∙ ap (λ ls. lines_text ls ++ stops.rest) (append_assoc (flat_map tree_lines done) (header v ∷ []) (map tree_line stops.entries))
 
 sequence_stops : (wanted : List (Entries Stamp) → Type 0) (bytes : List ℕ) (done : List (Entries Stamp)) (rest : List ℕ) (line : ℕ) → AllByRecursion HasText done → ((t : Entries Stamp) → wanted (done ++ t ∷ [])) → (wanted [] → ⊥) → bytes ≡ flat_map tree_text done ++ rest
     → (done ≡ []) ⊎ (0 < length rest) → StopsText rest (1 + length (flat_map tree_lines done)) line → IsFirstFault wanted bytes line
 sequence_stops wanted bytes done rest line hd longer none text unended (inl (is, stop)) =
     stuck_fault wanted bytes (flat_map tree_lines done) rest line (stuck_header wanted bytes done rest hd longer none text unended stop) (omega (arith, is))
-sequence_stops wanted bytes done rest line hd longer none text unended (inr (two, body, split, stops)) =
-    stuck_fault wanted bytes (open_lines done two stops.entries) stops.rest line (stuck_entries wanted bytes done rest body two (1 + length (flat_map tree_lines done) + 1) line hd longer text split stops)
-    (omega (arith, stops.counted, length-append (flat_map tree_lines done) (header two ∷ map tree_line stops.entries), length-map stops.entries tree_line))
+sequence_stops wanted bytes done rest line hd longer none text unended (inr (v, body, is, split, stops)) =
+    stuck_fault wanted bytes (open_lines done v stops.entries) stops.rest line (stuck_entries wanted bytes done rest body v (1 + length (flat_map tree_lines done) + 1) line hd longer text is.high split stops)
+    (omega (arith, stops.counted, length-append (flat_map tree_lines done) (header v ∷ map tree_line stops.entries), length-map stops.entries tree_line))
 
 -- what `read_tree` gives where no text goes on
 pub tree_err : (bytes : List ℕ) (e : TreeTextErr) → TextFault bytes 1 e → ReadsTree bytes (Err e)
@@ -182,7 +176,7 @@ tree_more bytes es rest next begins some =
     stuck_fault IsOne bytes (tree_lines es) rest next (record {
       text = begins.text;
       lacks = tree_lacks es begins.tree;
-      before = record { texts = loosely es ∷ []; more = []; as_many = omega arith; each = (record { tree = begins.tree; version = λ needs. needs }, tt); text = refl };
+      before = record { texts = loosely es ∷ []; more = []; as_many = omega arith; each = (record { tree = begins.tree; version = omega arith; known = version_high es }, tt); text = refl };
       not_before = λ k idle. none_ends_idle (es ∷ []) [] (begins.tree, tt) tt k
           (subst (λ xs. EndsIdle (take k xs)) (sym (append-nil (tree_lines es ++ []) ∙ append-nil (tree_lines es))) idle);
       stop = λ l more split. inr (λ b. one_more_line b.texts l b.more b.as_many b.each b.text);
@@ -190,13 +184,13 @@ tree_more bytes es rest next begins some =
     }) (omega (arith, begins.counted))
   where
     -- after the lines of one tree there is none
-    one_more_line : (texts : List (Bool × Entries Stamp)) (l : List ℕ) (a : List (List ℕ)) → length (map (λ t. t.1) texts) ≡ 1 → AllByRecursion IsLoose texts → (tree_lines es ++ l ∷ []) ++ a ≡ flat_map loose_lines texts → ⊥
+    one_more_line : (texts : List (ℕ × Entries Stamp)) (l : List ℕ) (a : List (List ℕ)) → length (map (λ t. t.1) texts) ≡ 1 → AllByRecursion IsLoose texts → (tree_lines es ++ l ∷ []) ++ a ≡ flat_map loose_lines texts → ⊥
     one_more_line texts l a one each same =
         let found = peeled (es ∷ []) texts (l ∷ a) (begins.tree, tt) each
         (ap (λ xs. xs ++ l ∷ a) (append-nil (tree_lines es)) ∙ sym (append_assoc (tree_lines es) (l ∷ []) a) ∙ same) in
         alone found.0 (omega (arith, one, length-map texts (λ t. t.1), ap length found.1)) found.2
       where
-        alone : (more : List (Bool × Entries Stamp)) → length more ≡ 0 → l ∷ a ≡ flat_map loose_lines more → ⊥
+        alone : (more : List (ℕ × Entries Stamp)) → length more ≡ 0 → l ∷ a ≡ flat_map loose_lines more → ⊥
         alone [] none is = cc
         alone (t ∷ more) none is = omega arith
 
@@ -242,7 +236,7 @@ text_room rest first t after next begins =
     omega (arith, begins.counted, lines_short (tree_lines t), ap length begins.text, length-append (tree_text t) after)
 
 pub text_next : (rest : List ℕ) (first : ℕ) (t : Entries Stamp) (after : List ℕ) (next : ℕ) → BeginsText rest first t after next → first + 2 ≤ next
-text_next rest first t after next begins = omega (arith, begins.counted, length-text_lines (need_version_2 t) t)
+text_next rest first t after next begins = omega (arith, begins.counted, length-text_lines (version_of t) t)
 
 nothing_left : (xs : List ℕ) → length xs ≤ 0 → xs ≡ []
 nothing_left [] empty = refl

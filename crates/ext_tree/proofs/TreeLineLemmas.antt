@@ -1,5 +1,5 @@
 -- The lines of a tree's text.
-use Rattle.std.proofs.Common.{◌≡◌, ◌≢◌, ℕ, Bool, true, false, List, [], drop, refl, ap, arith, codes}
+use Rattle.std.proofs.Common.{◌≡◌, ◌≢◌, ℕ, ◌+◌, List, drop, get_or, ap, arith, codes}
 use Rattle.ext_lines.specs.Split.{Lacks}
 use Rattle.ext_tree.specs.StampLaws.{stamps_lack, stamps_once}
 use Rattle.ext_tree.specs.TreeText.{HasTreeLine, header, stamp_form, tree_line}
@@ -17,17 +17,12 @@ pub line_lacks : (x : List (List ℕ) × Entry Stamp) → HasTreeLine x → Lack
 line_lacks x h = lines.line_lacks stamp_form stamps_lack x h
 
 -- no entry's line is a header, and `end` is none
-pub line_not_header : (x : List (List ℕ) × Entry Stamp) (two : Bool) → tree_line x ≢ header two
-line_not_header x true e = lines.line_not_h stamp_form x _ e
-line_not_header x false e = lines.line_not_h stamp_form x _ e
+pub line_not_header : (x : List (List ℕ) × Entry Stamp) (v : ℕ) → tree_line x ≢ header v
+line_not_header x v e = lines.line_not_h stamp_form x _ e
 
-pub end_not_header : (two : Bool) → codes "end" ≢ header two
-end_not_header true e = lines.other_kind 101 104 _ _ (λ z. omega arith) e
-end_not_header false e = lines.other_kind 101 104 _ _ (λ z. omega arith) e
+pub end_not_header : (v : ℕ) → codes "end" ≢ header v
+end_not_header v e = lines.other_kind 101 104 _ _ (λ z. omega arith) e
 
 -- a header tells its version
-pub one_version : (two other : Bool) → header two ≡ header other → two ≡ other
-one_version true true e = refl
-one_version true false e = absurd (lines.other_kind 50 49 [] [] (λ z. omega arith) (ap (drop 13) e))
-one_version false true e = absurd (lines.other_kind 49 50 [] [] (λ z. omega arith) (ap (drop 13) e))
-one_version false false e = refl
+pub one_version : (v w : ℕ) → header v ≡ header w → v ≡ w
+one_version v w e = let last : 48 + v ≡ 48 + w = ap (λ (l : List ℕ). get_or (drop 13 l) 0 0) e in omega arith

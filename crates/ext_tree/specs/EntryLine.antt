@@ -1,21 +1,21 @@
 -- The line of an entry: fields, a space after each, and the path, which is the rest of the line.
 --
---     d MODE PATH
---     o MODE PATH
---     f MODE CONTENT.. PATH
---     l LENGTH TARGET PATH
+--     d MODE[:USER:GROUP] PATH
+--     o MODE[:USER:GROUP] PATH
+--     f ATTRIBUTES CONTENT.. PATH
+--     l LENGTH[:USER:GROUP] TARGET PATH
 --     w PATH
 --
--- MODE is octal and LENGTH decimal, both without leading zeros; LENGTH is the number of bytes of TARGET, which may hold
--- spaces. What a file's line holds of its content is a matter of the format that the line stands in: the fields of a
--- content are a parameter here.
-use Rattle.std.specs.Prelude.{◌≡◌, ◌≢◌, ℕ, ◌<◌, ◌≤◌, List, [], ◌∷◌, length, codes, decimal, Option, Some, None}
+-- ATTRIBUTES are one field, a mode with what else a file may have. The owner is not told where it is root. LENGTH is
+-- decimal, without leading zeros, and the number of bytes of TARGET, which may hold spaces. What a file's line holds of its
+-- content is a matter of the format that the line stands in: the fields of a content are a parameter here.
+use Rattle.std.specs.Prelude.{◌≡◌, ◌≢◌, ℕ, ◌<◌, List, [], ◌∷◌, length, codes, Option, Some, None}
 use Rattle.std.specs.Borrow.{Bor}
 use Rattle.std.specs.List.{AllByRecursion}
 use Rattle.ext_lines.specs.Split.{Lacks}
 use Rattle.ext_text.specs.Path.{IsPath, path_text}
 use Rattle.ext_tree.specs.Fields.{IsTarget, spaced}
-use Rattle.ext_lines.specs.Numbers.{octal}
+use Rattle.ext_attributes.specs.Attributes.{IsAttributes, IsOfFile, IsOwner, attributes_text, file_attributes_text, owned_number}
 use Rattle.ext_tree.specs.declared.entry.Entry.{Entry}
 use Rattle.ext_tree.specs.declared.entry.Entry.TheVariants.{Dir, Opaque, File, Link, Hide}
 
@@ -26,10 +26,10 @@ pub record LineForm (C : Type 0) : Type 1 where
 
 -- an entry's fields
 abbrev pub entry_fields : {C : Type 0} → LineForm C → Entry C → List (List ℕ)
-entry_fields form (Dir mode) = codes "d" ∷ octal mode ∷ []
-entry_fields form (Opaque mode) = codes "o" ∷ octal mode ∷ []
-entry_fields form (File mode content) = codes "f" ∷ octal mode ∷ form.fields content
-entry_fields form (Link target) = codes "l" ∷ decimal (length target) ∷ target ∷ []
+entry_fields form (Dir attributes) = codes "d" ∷ attributes_text attributes ∷ []
+entry_fields form (Opaque attributes) = codes "o" ∷ attributes_text attributes ∷ []
+entry_fields form (File attributes content) = codes "f" ∷ file_attributes_text attributes ∷ form.fields content
+entry_fields form (Link owner target) = codes "l" ∷ owned_number (length target) owner ∷ target ∷ []
 entry_fields form Hide = codes "w" ∷ []
 
 -- an entry's line, without its newline
@@ -38,10 +38,10 @@ entry_line form x = spaced (entry_fields form x.1) (path_text x.0)
 
 -- the entry is in the ranges of a line
 abbrev pub IsWritable : {C : Type 0} → LineForm C → Entry C → Type 0
-IsWritable form (Dir mode) = mode ≤ 4095
-IsWritable form (Opaque mode) = mode ≤ 4095
-IsWritable form (File mode content) = (mode ≤ 4095) × form.writable content
-IsWritable form (Link target) = IsTarget target
+IsWritable form (Dir attributes) = IsAttributes attributes
+IsWritable form (Opaque attributes) = IsAttributes attributes
+IsWritable form (File attributes content) = IsOfFile attributes × form.writable content
+IsWritable form (Link owner target) = IsOwner owner × IsTarget target
 IsWritable form Hide = Unit {0}
 
 -- an entry that has a line

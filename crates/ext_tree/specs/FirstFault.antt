@@ -1,13 +1,13 @@
 -- The first faulty line of bytes that are no tree text, or no sequence of tree texts. Lines are counted from 1. A line is
--- faulty where it ends a text of version 2 that has no line `o` or `w`, or where no sequence of texts that the format
--- allows apart from that rule begins with the lines up to it. The first faulty line is the least one; a text that stops
+-- faulty where it ends a text of a version that no line of it needs, or where no sequence of texts that the format allows
+-- apart from that rule begins with the lines up to it. The first faulty line is the least one; a text that stops
 -- early is faulty at the line after its last whole line, also where that line has begun. Bytes that are such a text or
 -- sequence have no faulty line.
-use Rattle.std.specs.Prelude.{◌≡◌, ℕ, ◌+◌, ◌-◌, ◌<◌, ◌≤◌, Bool, true, false, ◌⊎◌, List, ◌++◌, length, map, take, Result, Ok, Err}
+use Rattle.std.specs.Prelude.{◌≡◌, ℕ, ◌+◌, ◌-◌, ◌<◌, ◌≤◌, ◌⊎◌, List, ◌++◌, length, map, take, Result, Ok, Err}
 use Rattle.std.specs.List.{AllByRecursion, flat_map}
 use Rattle.ext_lines.specs.Lines.{whole_lines}
 use Rattle.ext_tree.specs.Tree.{Entries}
-use Rattle.ext_tree.specs.TreeText.{HasText, IsLoose, IsTreeText, IsSequence, loose_lines, need_version_2, printed_lines}
+use Rattle.ext_tree.specs.TreeText.{HasText, IsLoose, IsTreeText, IsSequence, loose_lines, printed_lines, version_of}
 use Rattle.ext_tree.specs.declared.stamp.Stamp.{Stamp}
 use Rattle.ext_tree.specs.declared.reading.TreeTextErr.{TreeTextErr}
 use Rattle.ext_tree.specs.declared.reading.TreeTextErr.TheVariants.{OutOfMemory, BadTree}
@@ -20,21 +20,22 @@ IsOne trees = length trees ≡ 1
 abbrev pub AtLeastOne : List (Entries Stamp) → Type 0
 AtLeastOne trees = 0 < length trees
 
--- some sequence of as many texts begins with these lines, apart from the rule on lines `o` and `w` of version 2
+-- some sequence of as many texts begins with these lines, apart from the rule on what needs the version
 pub record Begins (wanted : List (Entries Stamp) → Type 0) (lines : List (List ℕ)) : Type 0 where
-  pub texts : List (Bool × Entries Stamp)
+  pub texts : List (ℕ × Entries Stamp)
   pub more : List (List ℕ)
   pub as_many : wanted (map (λ t. t.1) texts)
   pub each : AllByRecursion IsLoose texts
   pub text : lines ++ more ≡ flat_map loose_lines texts
 
--- these lines end with a text of version 2 that has no line `o` or `w`
+-- these lines end with a text of a version that no line of it needs
 pub record EndsIdle (lines : List (List ℕ)) : Type 0 where
   pub before : List (List ℕ)
   pub entries : Entries Stamp
+  pub version : ℕ
   pub tree : HasText entries
-  pub none : need_version_2 entries ≡ false
-  pub text : lines ≡ before ++ printed_lines true entries
+  pub none : version_of entries < version
+  pub text : lines ≡ before ++ printed_lines version entries
 
 -- the least faulty line
 pub record IsFaultyLine (wanted : List (Entries Stamp) → Type 0) (lines : List (List ℕ)) (line : ℕ) : Type 0 where

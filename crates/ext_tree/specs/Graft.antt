@@ -5,6 +5,7 @@ use Rattle.std.specs.Ordering.{eq_by_cmp}
 use Rattle.ext_text.specs.Path.{IsPath, path_cmp, is_proper_prefix}
 use Rattle.ext_tree.specs.Tree.{Entries, IsTree, lookup, is_directory, most_entries}
 use Rattle.ext_tree.specs.Refusals.{is_root}
+use Rattle.ext_attributes.specs.Attributes.{of_mode}
 use Rattle.ext_tree.specs.declared.entry.Entry.{Entry}
 use Rattle.ext_tree.specs.declared.entry.Entry.TheVariants.{Dir}
 use Rattle.ext_tree.specs.declared.tree.TreeErr.{TreeErr}
@@ -12,7 +13,7 @@ use Rattle.ext_tree.specs.declared.tree.TreeErr.TheVariants.{OutOfMemory, Exists
 
 -- a made directory, whose mode is octal 755
 abbrev pub made : {C : Type 0} → Entry C
-made = Dir 493
+made = Dir (of_mode 493)
 
 -- what stands there, or else a made directory
 abbrev pub or_made : {C : Type 0} → Option (Entry C) → Option (Entry C)

@@ -3,6 +3,7 @@
 use Rattle.std.specs.Prelude.{◌≡◌, ℕ, ◌≤◌, Bool, true, false, List, [], ◌∷◌, length, IsTrue, Option, Some, None, is_some, map}
 use Rattle.std.specs.Borrow.{Bor}
 use Rattle.std.specs.FinMap.{find, is_sorted}
+use Rattle.ext_attributes.specs.Attributes.{is_plain, is_plain_file, is_root_owner}
 use Rattle.ext_text.specs.Path.{IsPath, path_cmp, parent}
 use Rattle.ext_tree.specs.declared.entry.Entry.{Entry}
 use Rattle.ext_tree.specs.declared.entry.Entry.TheVariants.{Dir, Opaque, File, Link, Hide}
@@ -17,42 +18,50 @@ lookup es p = find path_cmp p es
 
 -- what other entries may stand in
 abbrev pub is_directory : {C : Type 0} → Entry C → Bool
-is_directory (Dir mode) = true
-is_directory (Opaque mode) = true
-is_directory (File mode content) = false
-is_directory (Link target) = false
+is_directory (Dir attributes) = true
+is_directory (Opaque attributes) = true
+is_directory (File attributes content) = false
+is_directory (Link owner target) = false
 is_directory Hide = false
 
 -- what has bytes
 abbrev pub is_file : {C : Type 0} → Entry C → Bool
-is_file (Dir mode) = false
-is_file (Opaque mode) = false
-is_file (File mode content) = true
-is_file (Link target) = false
+is_file (Dir attributes) = false
+is_file (Opaque attributes) = false
+is_file (File attributes content) = true
+is_file (Link owner target) = false
 is_file Hide = false
 
 -- a directory below which nothing of a lower layer shows
 abbrev pub is_opaque : {C : Type 0} → Entry C → Bool
-is_opaque (Dir mode) = false
-is_opaque (Opaque mode) = true
-is_opaque (File mode content) = false
-is_opaque (Link target) = false
+is_opaque (Dir attributes) = false
+is_opaque (Opaque attributes) = true
+is_opaque (File attributes content) = false
+is_opaque (Link owner target) = false
 is_opaque Hide = false
 
 -- a whiteout: what a lower layer has at its path does not show
 abbrev pub is_hide : {C : Type 0} → Entry C → Bool
-is_hide (Dir mode) = false
-is_hide (Opaque mode) = false
-is_hide (File mode content) = false
-is_hide (Link target) = false
+is_hide (Dir attributes) = false
+is_hide (Opaque attributes) = false
+is_hide (File attributes content) = false
+is_hide (Link owner target) = false
 is_hide Hide = true
+
+-- root's, and without a capability
+abbrev pub is_plain_entry : {C : Type 0} → Entry C → Bool
+is_plain_entry (Dir attributes) = is_plain attributes
+is_plain_entry (Opaque attributes) = is_plain attributes
+is_plain_entry (File attributes content) = is_plain_file attributes
+is_plain_entry (Link owner target) = is_root_owner owner
+is_plain_entry Hide = true
 
 -- the entry as it shows: an opaque directory is a directory like others
 abbrev pub as_shown : {C : Type 0} → Entry C → Entry C
-as_shown (Dir mode) = Dir mode
-as_shown (Opaque mode) = Dir mode
-as_shown (File mode content) = File mode content
-as_shown (Link target) = Link target
+as_shown (Dir attributes) = Dir attributes
+as_shown (Opaque attributes) = Dir attributes
+as_shown (File attributes content) = File attributes content
+as_shown (Link owner target) = Link owner target
 as_shown Hide = Hide
 
 -- borrowed entries as they show

@@ -1,22 +1,25 @@
 -- The text of a tree, this project's own format: a header, a line for each entry in path order, and `end`.
 --
 --     hostext-tree VERSION
---     d MODE PATH
---     o MODE PATH
---     f MODE SIZE HEX PATH
---     l LENGTH TARGET PATH
+--     d MODE[:USER:GROUP] PATH
+--     o MODE[:USER:GROUP] PATH
+--     f ATTRIBUTES SIZE HEX PATH
+--     l LENGTH[:USER:GROUP] TARGET PATH
 --     w PATH
 --     end
 --
--- A file's line holds its stamp. The version is 2 where the tree has an opaque directory or a whiteout, lines `o` and `w`,
--- and 1 where it has none. The grammar is by printing: a text is what some tree is printed as.
-use Rattle.std.specs.Prelude.{◌≡◌, ℕ, ◌<◌, Bool, true, ◌||◌, if◌then◌else◌, List, [], ◌∷◌, ◌++◌, length, map, codes}
-use Rattle.std.specs.List.{AllByRecursion, flat_map, list_any}
+-- A file's line holds its stamp. The version is 3 where an entry is not root's or has a capability, else 2 where the tree has
+-- an opaque directory or a whiteout, lines `o` and `w`, and else 1. The grammar is by printing: a text is what some tree is
+-- printed as.
+use Rattle.std.specs.Prelude.{◌≡◌, ℕ, ◌+◌, ◌<◌, ◌≤◌, max, if◌then◌else◌, List, [], ◌∷◌, ◌++◌, length, map, codes}
+use Rattle.std.specs.List.{AllByRecursion, flat_map}
 use Rattle.ext_lines.specs.Lines.{lines_text}
 use Rattle.ext_tree.specs.Fields.{IsStamp, stamp_fields}
-use Rattle.ext_tree.specs.Tree.{Entries, IsTreeWithin, is_hide, is_opaque}
+use Rattle.ext_attributes.specs.Attributes.{is_plain, is_plain_file, is_root_owner}
+use Rattle.ext_tree.specs.Tree.{Entries, IsTreeWithin}
 use Rattle.ext_tree.specs.EntryLine.{HasLine, IsWritable, LineForm, entry_line}
 use Rattle.ext_tree.specs.declared.entry.Entry.{Entry}
+use Rattle.ext_tree.specs.declared.entry.Entry.TheVariants.{Dir, Opaque, File, Link, Hide}
 use Rattle.ext_tree.specs.declared.stamp.Stamp.{Stamp}
 
 -- files are known by their stamps
@@ -31,25 +34,35 @@ tree_line x = entry_line stamp_form x
 abbrev pub HasTreeLine : List (List ℕ) × Entry Stamp → Type 0
 HasTreeLine x = HasLine stamp_form x
 
--- the entry has a line that only version 2 has
-abbrev pub needs_version_2 : {C : Type 0} → Entry C → Bool
-needs_version_2 e = is_opaque e || is_hide e
+-- the first version that has a line for the entry
+abbrev pub needed_version : {C : Type 0} → Entry C → ℕ
+needed_version (Dir attributes) = if is_plain attributes then 1 else 3
+needed_version (Opaque attributes) = if is_plain attributes then 2 else 3
+needed_version (File attributes content) = if is_plain_file attributes then 1 else 3
+needed_version (Link owner target) = if is_root_owner owner then 1 else 3
+needed_version Hide = 2
 
--- some entry has one
-abbrev pub need_version_2 : {C : Type 0} → Entries C → Bool
-need_version_2 es = list_any (λ x. needs_version_2 x.1) es
+-- the first version that has a line for each entry
+abbrev pub version_of : {C : Type 0} → Entries C → ℕ
+version_of [] = 1
+version_of (x ∷ es) = max (needed_version x.1) (version_of es)
+
+-- the versions of the format
+pub record IsVersion (version : ℕ) : Type 0 where
+  pub low : 1 ≤ version
+  pub high : version ≤ 3
 
 -- the first line of a text
-abbrev pub header : Bool → List ℕ
-header two = if two then codes "hostext-tree 2" else codes "hostext-tree 1"
+abbrev pub header : ℕ → List ℕ
+header version = codes "hostext-tree " ++ (48 + version) ∷ []
 
 -- the lines of a text with this header
-abbrev pub printed_lines : Bool → Entries Stamp → List (List ℕ)
-printed_lines two es = header two ∷ map tree_line es ++ codes "end" ∷ []
+abbrev pub printed_lines : ℕ → Entries Stamp → List (List ℕ)
+printed_lines version es = header version ∷ map tree_line es ++ codes "end" ∷ []
 
 -- the lines of a tree's text
 abbrev pub tree_lines : Entries Stamp → List (List ℕ)
-tree_lines es = printed_lines (need_version_2 es) es
+tree_lines es = printed_lines (version_of es) es
 
 -- the text of a tree
 abbrev pub tree_text : Entries Stamp → List ℕ
@@ -75,11 +88,12 @@ pub record IsSequence (bytes : List ℕ) (trees : List (Entries Stamp)) : Type 0
   pub each : AllByRecursion HasText trees
   pub text : bytes ≡ flat_map tree_text trees
 
--- a version and a tree with a text that the format allows, apart from the rule that version 2 has a line `o` or `w`
-pub record IsLoose (t : Bool × Entries Stamp) : Type 0 where
+-- a version and a tree with a text that the format allows, apart from the rule that some line needs the version
+pub record IsLoose (t : ℕ × Entries Stamp) : Type 0 where
   pub tree : HasText t.1
-  pub version : need_version_2 t.1 ≡ true → t.0 ≡ true
+  pub version : version_of t.1 ≤ t.0
+  pub known : t.0 ≤ 3
 
 -- its lines
-abbrev pub loose_lines : Bool × Entries Stamp → List (List ℕ)
+abbrev pub loose_lines : ℕ × Entries Stamp → List (List ℕ)
 loose_lines t = printed_lines t.0 t.1

@@ -1,22 +1,23 @@
-ghost use Rattle.std.specs.Prelude.{◌≡◌, IfOk};
-ghost use Rattle.ext_tree.specs.Tree.{is_directory, is_file, is_hide, is_opaque};
-ghost use Rattle.ext_tree.specs.TreeText.{needs_version_2};
+ghost use Rattle.std.specs.Prelude.{◌≡◌, max, IfOk};
+ghost use Rattle.ext_tree.specs.Tree.{is_directory, is_file, is_hide, is_opaque, is_plain_entry};
+ghost use Rattle.ext_tree.specs.TreeText.{needed_version};
 
+use ext_attributes::{Attributes, FileAttributes, Owner};
 use ext_lines::OutOfMemory;
-use ext_text::{Mode, Text};
+use ext_text::Text;
 use std::alloc::Global;
 
 /// What stands at a path.
 #[derive(Drop)]
 pub enum Entry<C> {
-    /// A directory with its mode.
-    Dir(Mode),
-    /// An opaque directory with its mode: of lower layers nothing shows below it.
-    Opaque(Mode),
-    /// A file with its mode and what is known of its bytes.
-    File(Mode, C),
-    /// A symbolic link with its target's text, which is followed nowhere here.
-    Link(Text),
+    /// A directory with its attributes.
+    Dir(Attributes),
+    /// An opaque directory with its attributes: of lower layers nothing shows below it.
+    Opaque(Attributes),
+    /// A file with its attributes and what is known of its bytes.
+    File(FileAttributes, C),
+    /// A symbolic link with its owner and its target's text, which is followed nowhere here.
+    Link(Owner, Text),
     /// A whiteout: of lower layers nothing shows at its path.
     Hide,
 }
@@ -40,10 +41,13 @@ impl<C: Held1> Entry<C> {
         ensures { IfOk result (λ copy. copy ≡ self.now) }
     {
         match self {
-            Entry::Dir(mode) => Ok(Entry::Dir(*mode)),
-            Entry::Opaque(mode) => Ok(Entry::Opaque(*mode)),
-            Entry::File(mode, content) => Ok(Entry::File(*mode, content.copy(alloc)?)),
-            Entry::Link(target) => Ok(Entry::Link(target.copy()?)),
+            Entry::Dir(attributes) => Ok(Entry::Dir(*attributes)),
+            Entry::Opaque(attributes) => Ok(Entry::Opaque(*attributes)),
+            Entry::File(attributes, content) => {
+                let attributes = attributes.copy()?;
+                Ok(Entry::File(attributes, content.copy(alloc)?))
+            }
+            Entry::Link(owner, target) => Ok(Entry::Link(*owner, target.copy()?)),
             Entry::Hide => Ok(Entry::Hide),
         }
     }
@@ -78,10 +82,35 @@ impl<C> Entry<C> {
         matches!(self, Entry::Hide)
     }
 
-    // Whether only version 2 of the format has a line for it.
-    pub(crate) fn needs_version_2(&self) -> bool
-        ensures { result ≡ needs_version_2 self.now }
+    /// Whether it is root's, and without a capability.
+    pub fn is_plain(&self) -> bool
+        ensures { result ≡ is_plain_entry self.now }
     {
-        self.is_opaque() || self.is_hide()
+        match self {
+            Entry::Dir(attributes) | Entry::Opaque(attributes) => attributes.is_plain(),
+            Entry::File(attributes, _) => attributes.is_plain(),
+            Entry::Link(owner, _) => owner.is_root(),
+            Entry::Hide => true,
+        }
     }
+
+    // The first version of the format that has a line for it.
+    pub(crate) fn needed_version(&self) -> u8
+        ensures { result ≡ needed_version self.now }
+    {
+        match self {
+            Entry::Dir(attributes) => if attributes.is_plain() { 1 } else { 3 },
+            Entry::Opaque(attributes) => if attributes.is_plain() { 2 } else { 3 },
+            Entry::File(attributes, _) => if attributes.is_plain() { 1 } else { 3 },
+            Entry::Link(owner, _) => if owner.is_root() { 1 } else { 3 },
+            Entry::Hide => 2,
+        }
+    }
+}
+
+// The higher of two versions.
+pub(crate) fn higher(version: u8, other: u8) -> u8
+    ensures { result ≡ max version other }
+{
+    if version < other { other } else { version }
 }

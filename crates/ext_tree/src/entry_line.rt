@@ -1,15 +1,19 @@
 // The line of an entry, whatever it holds of a file's content: read back exactly, and printed.
-ghost use Rattle.std.specs.Prelude.{◌≡◌, ◌≢◌, ◌<◌, ℕ, List, [], ◌∷◌, ◌++◌, length, decimal, IfOk, MatchOption, OnErr, OnOk};
-ghost use Rattle.ext_lines.specs.Numbers.{octal};
+ghost use Rattle.std.specs.Prelude.{◌≡◌, ◌≢◌, ◌<◌, ℕ, List, [], ◌∷◌, ◌++◌, length, IfOk, MatchOption, OnErr, OnOk};
+ghost use Rattle.ext_attributes.specs.Attributes.{attributes_text, file_attributes_text, owned_number};
 ghost use Rattle.ext_lines.specs.Prefix.{AppendsPrefix};
 ghost use Rattle.ext_text.specs.Path.{IsPath, path_text};
 ghost use Rattle.ext_tree.specs.Fields.{spaced};
 ghost use Rattle.ext_tree.specs.EntryLine.{LineForm, FieldsOnce, FieldsLack, ReadsFields, ReadsLine, entry_fields, entry_line};
 
 use crate::entry::Entry;
-use crate::fields::{append_bytes, append_mode, append_target, split_mode, split_target};
+use crate::fields::{
+    append_attributes, append_bytes, append_file_attributes, append_target, split_attributes,
+    split_file_attributes, split_target,
+};
+use ext_attributes::{Attributes, FileAttributes, Owner};
 use ext_lines::OutOfMemory;
-use ext_text::{Mode, Path, PathErr, Text};
+use ext_text::{Path, PathErr, Text};
 use std::alloc::Global;
 
 /// Contents of files that a line holds.
@@ -72,7 +76,7 @@ pub fn fields_of<C: LineContent>(
     match text {
         [b'd', b' ', fields @ ..] => Ok(dir_of(fields)),
         [b'o', b' ', fields @ ..] => Ok(opaque_of(fields)),
-        [b'f', b' ', fields @ ..] => Ok(file_of(fields)),
+        [b'f', b' ', fields @ ..] => file_of(alloc, fields),
         [b'l', b' ', fields @ ..] => link_of(alloc, fields),
         [b'w', b' ', rest @ ..] => Ok(Some((Entry::Hide, rest))),
         _ => Ok(None),
@@ -83,34 +87,37 @@ pub fn fields_of<C: LineContent>(
 fn dir_of<C: LineContent>(fields: &[u8]) -> Option<(Entry<C>, &[u8])>
     ensures { ReadsFields C.form (100 ∷ 32 ∷ fields.now) result }
 {
-    let Some((mode, rest)) = split_mode(fields) else {
+    let Some((attributes, rest)) = split_attributes(fields) else {
         return None;
     };
-    Some((Entry::Dir(mode), rest))
+    Some((Entry::Dir(attributes), rest))
 }
 
 // The opaque directory whose fields these are after the kind.
 fn opaque_of<C: LineContent>(fields: &[u8]) -> Option<(Entry<C>, &[u8])>
     ensures { ReadsFields C.form (111 ∷ 32 ∷ fields.now) result }
 {
-    let Some((mode, rest)) = split_mode(fields) else {
+    let Some((attributes, rest)) = split_attributes(fields) else {
         return None;
     };
-    Some((Entry::Opaque(mode), rest))
+    Some((Entry::Opaque(attributes), rest))
 }
 
 // The file whose fields these are after the kind.
-fn file_of<C: LineContent>(fields: &[u8]) -> Option<(Entry<C>, &[u8])>
-    ensures { ReadsFields C.form (102 ∷ 32 ∷ fields.now) result }
+fn file_of<C: LineContent>(
+    alloc: Global,
+    fields: &[u8],
+) -> Result<Option<(Entry<C>, &[u8])>, OutOfMemory>
+    ensures { IfOk result (ReadsFields C.form (102 ∷ 32 ∷ fields.now)) }
 {
-    let Some(split) = split_mode(fields) else {
-        return None;
+    let Some(split) = split_file_attributes(alloc, fields)? else {
+        return Ok(None);
     };
-    let (mode, after) = split;
+    let (attributes, after) = split;
     let Some((content, rest)) = C::split_from(after) else {
-        return None;
+        return Ok(None);
     };
-    Some((Entry::File(mode, content), rest))
+    Ok(Some((Entry::File(attributes, content), rest)))
 }
 
 // The link whose fields these are after the kind.
@@ -120,11 +127,11 @@ fn link_of<C: LineContent>(
 ) -> Result<Option<(Entry<C>, &[u8])>, OutOfMemory>
     ensures { IfOk result (ReadsFields C.form (108 ∷ 32 ∷ fields.now)) }
 {
-    let Some((target, rest)) = split_target(fields) else {
+    let Some((owner, target, rest)) = split_target(fields) else {
         return Ok(None);
     };
     let target = Text::from_bytes(alloc, target)?;
-    Ok(Some((Entry::Link(target), rest)))
+    Ok(Some((Entry::Link(owner, target), rest)))
 }
 
 /// The path whose text this is; `None` exactly where it is that of no path, or of the root.
@@ -176,43 +183,58 @@ pub fn append_fields<C: LineContent>(
     ensures err { OnErr result (AppendsPrefix text.old.items text.new.items (spaced (entry_fields C.form entry.now) [])) }
 {
     match entry {
-        Entry::Dir(mode) => append_kind_and_mode(text, b"d ", *mode),
-        Entry::Opaque(mode) => append_kind_and_mode(text, b"o ", *mode),
-        Entry::File(mode, content) => append_file(text, *mode, content),
-        Entry::Link(target) => append_link(text, target.bytes()),
+        Entry::Dir(attributes) => append_kind_and_attributes(text, b"d ", attributes),
+        Entry::Opaque(attributes) => append_kind_and_attributes(text, b"o ", attributes),
+        Entry::File(attributes, content) => append_file(text, attributes, content),
+        Entry::Link(owner, target) => append_link(text, *owner, target.bytes()),
         Entry::Hide => append_bytes(text, b"w "),
     }
 }
 
-// Adds a kind with its space, a mode and a space.
-fn append_kind_and_mode(text: &mut Vec<u8>, kind: &[u8], mode: Mode) -> Result<(), OutOfMemory>
-    ensures ok { OnOk result (text.new.items ≡ text.old.items ++ (kind.now ++ (octal mode ++ 32 ∷ []))) }
-    ensures err { OnErr result (AppendsPrefix text.old.items text.new.items (kind.now ++ (octal mode ++ 32 ∷ []))) }
+// Adds a kind with its space, attributes and a space.
+fn append_kind_and_attributes(
+    text: &mut Vec<u8>,
+    kind: &[u8],
+    attributes: &Attributes,
+) -> Result<(), OutOfMemory>
+    ensures ok { OnOk result (text.new.items ≡ text.old.items ++ (kind.now ++ (attributes_text attributes.now ++ 32 ∷ []))) }
+    ensures err { OnErr result (AppendsPrefix text.old.items text.new.items (kind.now ++ (attributes_text attributes.now ++ 32 ∷ []))) }
 {
     append_bytes(text, kind)?;
-    append_mode(text, mode)
+    append_attributes(text, attributes)
 }
 
 // Adds the fields of a file.
 fn append_file<C: LineContent>(
     text: &mut Vec<u8>,
-    mode: Mode,
+    attributes: &FileAttributes,
     content: &C,
 ) -> Result<(), OutOfMemory>
-    ensures ok { OnOk result (text.new.items ≡ text.old.items ++ (102 ∷ 32 ∷ (octal mode ++ 32 ∷ spaced (C.form.fields content.now) []))) }
+    ensures ok { OnOk result (text.new.items ≡ text.old.items ++
+        (102 ∷ 32 ∷ (file_attributes_text attributes.now ++ 32 ∷ spaced (C.form.fields content.now) []))) }
     ensures err { OnErr result (AppendsPrefix text.old.items text.new.items
-        (102 ∷ 32 ∷ (octal mode ++ 32 ∷ spaced (C.form.fields content.now) []))) }
+        (102 ∷ 32 ∷ (file_attributes_text attributes.now ++ 32 ∷ spaced (C.form.fields content.now) []))) }
 {
-    append_kind_and_mode(text, b"f ", mode)?;
+    append_kind_and_file(text, attributes)?;
     content.append_to(text)
 }
 
+// Adds the kind of a file with its space, its attributes and a space.
+fn append_kind_and_file(text: &mut Vec<u8>, attributes: &FileAttributes) -> Result<(), OutOfMemory>
+    ensures ok { OnOk result (text.new.items ≡ text.old.items ++ (102 ∷ 32 ∷ (file_attributes_text attributes.now ++ 32 ∷ []))) }
+    ensures err { OnErr result (AppendsPrefix text.old.items text.new.items (102 ∷ 32 ∷ (file_attributes_text attributes.now ++ 32 ∷ []))) }
+{
+    append_bytes(text, b"f ")?;
+    append_file_attributes(text, attributes)
+}
+
 // Adds the fields of a link.
-fn append_link(text: &mut Vec<u8>, target: &[u8]) -> Result<(), OutOfMemory>
-    ensures ok { OnOk result (text.new.items ≡ text.old.items ++ (108 ∷ 32 ∷ spaced (decimal (length target.now) ∷ target.now ∷ []) [])) }
+fn append_link(text: &mut Vec<u8>, owner: Owner, target: &[u8]) -> Result<(), OutOfMemory>
+    ensures ok { OnOk result (text.new.items ≡ text.old.items ++
+        (108 ∷ 32 ∷ spaced (owned_number (length target.now) owner ∷ target.now ∷ []) [])) }
     ensures err { OnErr result (AppendsPrefix text.old.items text.new.items
-        (108 ∷ 32 ∷ spaced (decimal (length target.now) ∷ target.now ∷ []) [])) }
+        (108 ∷ 32 ∷ spaced (owned_number (length target.now) owner ∷ target.now ∷ []) [])) }
 {
     append_bytes(text, b"l ")?;
-    append_target(text, target)
+    append_target(text, owner, target)
 }

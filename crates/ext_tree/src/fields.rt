@@ -1,23 +1,26 @@
 // The fields of lines, each read back exactly and printed with one space after it: what a reader takes is what is
 // printed, and where it takes nothing, no value is printed so.
-ghost use Rattle.std.specs.Prelude.{◌≡◌, ◌≢◌, ◌<◌, ◌≤◌, ◌↔◌, ◌++◌, [], ◌∷◌, ℕ, List, length, decimal, IsTrue, MatchOption, OnErr, OnOk};
+ghost use Rattle.std.specs.Prelude.{◌≡◌, ◌≢◌, ◌<◌, ◌≤◌, ◌↔◌, ◌++◌, [], ◌∷◌, ℕ, List, length, decimal, IsTrue, IfOk, MatchOption, OnErr, OnOk};
 ghost use Rattle.hex.specs.Hex.{encode_lower};
-ghost use Rattle.ext_lines.specs.Numbers.{octal};
+ghost use Rattle.ext_attributes.specs.declared.attributes.Attributes.{Attributes};
+ghost use Rattle.ext_attributes.specs.declared.owner.Owner.{Owner};
+ghost use Rattle.ext_attributes.specs.Attributes.{IsAttributes, IsOfFile, IsOwner, OfFile, attributes_text, file_attributes_text, owned_number};
 ghost use Rattle.ext_lines.specs.Prefix.{AppendsPrefix};
 ghost use Rattle.ext_text.specs.Digest.{IsDigest};
 ghost use Rattle.ext_tree.specs.Fields.{IsStamp, IsTarget, spaced, stamp_fields};
 ghost use Rattle.ext_tree.specs.declared.stamp.Stamp.{Stamp};
 
 use crate::stamp::Stamp;
-use ext_lines::{
-    OutOfMemory, append_decimal, append_octal, is_plain, read_decimal, read_hex_digits, read_octal,
-    split_at_byte,
+use ext_attributes::{
+    Attributes, FileAttributes, Owner, append_owned_number, read_attributes, read_file_attributes,
+    read_owned_number,
 };
-use ext_text::{Digest, Mode};
+use ext_lines::{
+    OutOfMemory, append_decimal, is_plain, read_decimal, read_hex_digits, split_at_byte,
+};
+use ext_text::Digest;
+use std::alloc::Global;
 use std::str;
-
-/// The highest mode.
-const MOST_MODE: u64 = 0o7777;
 
 /// The most bytes of a file.
 const MOST_SIZE: u64 = 1_073_741_824;
@@ -28,25 +31,37 @@ const DIGEST_DIGITS: usize = 64;
 /// The most bytes of a link's target.
 const MOST_TARGET: usize = 4096;
 
-/// The mode in octal digits that a text begins with, before a space, and what follows the space; `None` exactly where it
-/// begins with no mode.
-pub fn split_mode(text: &[u8]) -> Option<(Mode, &[u8])>
+/// The attributes of a directory that a text begins with, before a space, and what follows the space; `None` exactly where
+/// it begins with none.
+pub(crate) fn split_attributes(text: &[u8]) -> Option<(Attributes, &[u8])>
     ensures { MatchOption result
-        ((m : ℕ) (rest : List ℕ) → m ≤ 4095 → text.now ≢ octal m ++ 32 ∷ rest)
-        (λ r. (r.0 ≤ 4095) × (text.now ≡ octal r.0 ++ 32 ∷ r.1.now)) }
+        ((a : Attributes) (rest : List ℕ) → IsAttributes a → text.now ≢ attributes_text a ++ 32 ∷ rest)
+        (λ r. IsAttributes r.0 × (text.now ≡ attributes_text r.0 ++ 32 ∷ r.1.now)) }
 {
     let (field, rest) = split_at_byte(text, b' ')?;
-    Some((mode_of(field)?, rest))
+    Some((read_attributes(field)?, rest))
 }
 
-// The mode that a field writes in octal digits.
-fn mode_of(field: &[u8]) -> Option<Mode>
-    ensures { MatchOption result
-        ((m : ℕ) → m ≤ 4095 → field.now ≢ octal m)
-        (λ m. (m ≤ 4095) × (field.now ≡ octal m)) }
+/// The attributes of a file that a text begins with, before a space, and what follows the space; `None` exactly where it
+/// begins with none.
+///
+/// # Errors
+/// `OutOfMemory` alone.
+pub(crate) fn split_file_attributes(
+    alloc: Global,
+    text: &[u8],
+) -> Result<Option<(FileAttributes, &[u8])>, OutOfMemory>
+    ensures { IfOk result (λ found. MatchOption found
+        ((a : OfFile) (rest : List ℕ) → IsOfFile a → text.now ≢ file_attributes_text a ++ 32 ∷ rest)
+        (λ r. IsOfFile r.0 × (text.now ≡ file_attributes_text r.0 ++ 32 ∷ r.1.now))) }
 {
-    let bits = read_octal(field, MOST_MODE)?;
-    Mode::new(bits as u16)
+    let Some((field, rest)) = split_at_byte(text, b' ') else {
+        return Ok(None);
+    };
+    match read_file_attributes(alloc, field)? {
+        None => Ok(None),
+        Some(attributes) => Ok(Some((attributes, rest))),
+    }
 }
 
 /// The number of at most `most`, in decimal digits, that a text begins with, before a space, and what follows the space;
@@ -109,30 +124,59 @@ fn is_target(bytes: &[u8]) -> bool
         && str::from_utf8(bytes).is_ok()
 }
 
-// The length of a target, the target, a space after each, and what follows.
-pub(crate) fn split_target(text: &[u8]) -> Option<(&[u8], &[u8])>
+// The length and the owner of a target, the target, a space after each field, and what follows.
+pub(crate) fn split_target(text: &[u8]) -> Option<(Owner, &[u8], &[u8])>
     ensures { MatchOption result
-        ((t : List ℕ) (rest : List ℕ) → IsTarget t → text.now ≢ decimal (length t) ++ 32 ∷ (t ++ 32 ∷ rest))
-        (λ r. IsTarget r.0.now × (text.now ≡ decimal (length r.0.now) ++ 32 ∷ (r.0.now ++ 32 ∷ r.1.now))) }
+        ((o : Owner) (t : List ℕ) (rest : List ℕ) → IsOwner o → IsTarget t → text.now ≢ owned_number (length t) o ++ 32 ∷ (t ++ 32 ∷ rest))
+        (λ r. IsOwner r.0 × IsTarget r.1.now × (text.now ≡ owned_number (length r.1.now) r.0 ++ 32 ∷ (r.1.now ++ 32 ∷ r.2.now))) }
 {
-    let (count, rest) = split_number(text, MOST_TARGET as u64)?;
+    let (count, owner, rest) = split_owned(text)?;
     let (target, rest) = split_bytes(rest, count as usize)?;
     if is_target(target) {
-        Some((target, rest))
+        Some((owner, target, rest))
     } else {
         None
     }
 }
 
-/// Adds a mode to a text, in octal digits, and a space.
+// The length of a target with the owner, before a space, and what follows the space.
+fn split_owned(text: &[u8]) -> Option<(u64, Owner, &[u8])>
+    ensures { MatchOption result
+        ((n : ℕ) (o : Owner) (rest : List ℕ) → n ≤ 4096 → IsOwner o → text.now ≢ owned_number n o ++ 32 ∷ rest)
+        (λ r. (r.0 ≤ 4096) × IsOwner r.1 × (text.now ≡ owned_number r.0 r.1 ++ 32 ∷ r.2.now)) }
+{
+    let (field, rest) = split_at_byte(text, b' ')?;
+    let (number, owner) = read_owned_number(field, MOST_TARGET as u64)?;
+    Some((number, owner, rest))
+}
+
+/// Adds the attributes of a directory to a text, as one field, and a space.
 ///
 /// # Errors
 /// `OutOfMemory`. A prefix of these bytes may have been added.
-pub fn append_mode(text: &mut Vec<u8>, mode: Mode) -> Result<(), OutOfMemory>
-    ensures ok { OnOk result (text.new.items ≡ text.old.items ++ (octal mode ++ 32 ∷ [])) }
-    ensures err { OnErr result (AppendsPrefix text.old.items text.new.items (octal mode ++ 32 ∷ [])) }
+pub(crate) fn append_attributes(
+    text: &mut Vec<u8>,
+    attributes: &Attributes,
+) -> Result<(), OutOfMemory>
+    ensures ok { OnOk result (text.new.items ≡ text.old.items ++ (attributes_text attributes.now ++ 32 ∷ [])) }
+    ensures err { OnErr result (AppendsPrefix text.old.items text.new.items (attributes_text attributes.now ++ 32 ∷ [])) }
 {
-    append_octal(text, u64::from(mode.bits()))?;
+    ext_attributes::append_attributes(text, attributes)?;
+    append_bytes(text, b" ")
+}
+
+/// Adds the attributes of a file to a text, as one field, and a space.
+///
+/// # Errors
+/// `OutOfMemory`. A prefix of these bytes may have been added.
+pub(crate) fn append_file_attributes(
+    text: &mut Vec<u8>,
+    file: &FileAttributes,
+) -> Result<(), OutOfMemory>
+    ensures ok { OnOk result (text.new.items ≡ text.old.items ++ (file_attributes_text file.now ++ 32 ∷ [])) }
+    ensures err { OnErr result (AppendsPrefix text.old.items text.new.items (file_attributes_text file.now ++ 32 ∷ [])) }
+{
+    ext_attributes::append_file_attributes(text, file)?;
     append_bytes(text, b" ")
 }
 
@@ -171,13 +215,27 @@ pub fn append_stamp(text: &mut Vec<u8>, stamp: &Stamp) -> Result<(), OutOfMemory
     append_digest(text, &stamp.digest)
 }
 
-// Adds the length of a target and the target, a space after each.
-pub(crate) fn append_target(text: &mut Vec<u8>, target: &[u8]) -> Result<(), OutOfMemory>
-    ensures ok { OnOk result (text.new.items ≡ text.old.items ++ spaced (decimal (length target.now) ∷ target.now ∷ []) []) }
-    ensures err { OnErr result (AppendsPrefix text.old.items text.new.items (spaced (decimal (length target.now) ∷ target.now ∷ []) [])) }
+// Adds the length of a target with its owner and the target, a space after each.
+pub(crate) fn append_target(
+    text: &mut Vec<u8>,
+    owner: Owner,
+    target: &[u8],
+) -> Result<(), OutOfMemory>
+    ensures ok { OnOk result (text.new.items ≡ text.old.items ++ spaced (owned_number (length target.now) owner ∷ target.now ∷ []) []) }
+    ensures err { OnErr result (AppendsPrefix text.old.items text.new.items
+        (spaced (owned_number (length target.now) owner ∷ target.now ∷ []) [])) }
 {
-    append_number(text, target.len() as u64)?;
+    append_owned(text, target.len() as u64, owner)?;
     append_field(text, target)
+}
+
+// Adds a number with an owner, and a space.
+fn append_owned(text: &mut Vec<u8>, number: u64, owner: Owner) -> Result<(), OutOfMemory>
+    ensures ok { OnOk result (text.new.items ≡ text.old.items ++ (owned_number number owner ++ 32 ∷ [])) }
+    ensures err { OnErr result (AppendsPrefix text.old.items text.new.items (owned_number number owner ++ 32 ∷ [])) }
+{
+    append_owned_number(text, number, owner)?;
+    append_bytes(text, b" ")
 }
 
 // Adds a field and a space.

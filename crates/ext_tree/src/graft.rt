@@ -14,6 +14,7 @@ use crate::entry::Entry;
 use crate::insertion_point::entry_of;
 use crate::slices::count_through;
 use crate::tree::{MOST_ENTRIES, Tree, TreeErr};
+use ext_attributes::Attributes;
 use ext_lines::{OutOfMemory, allocated};
 use ext_text::{Mode, Path, PathErr, PathRef};
 use std::alloc::Global;
@@ -111,7 +112,7 @@ fn directory_at<C>(path: &Path, count: usize) -> Result<(Path, Entry<C>), OutOfM
     ensures { IfOk result (λ entry. entry ≡ (take count path.now, made)) }
 {
     match Mode::new(MADE) {
-        Some(mode) => Ok((path.prefix(count)?, Entry::Dir(mode))),
+        Some(mode) => Ok((path.prefix(count)?, Entry::Dir(Attributes::of_mode(mode)))),
         None => unreachable!(),
     }
 }

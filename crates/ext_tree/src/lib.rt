@@ -27,8 +27,7 @@ pub use copy::append_pairs;
 pub use entry::{Entry, Held1};
 pub use entry_line::{LineContent, append_fields, append_line, entry_of_line, fields_of, path_of};
 pub use fields::{
-    append_digest, append_mode, append_number, append_stamp, split_digest, split_mode,
-    split_number, split_stamp,
+    append_digest, append_number, append_stamp, split_digest, split_number, split_stamp,
 };
 pub use following::may_follow;
 pub use joining::joined;

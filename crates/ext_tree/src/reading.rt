@@ -1,14 +1,14 @@
 // Reads tree texts line by line. What was read so far is known to be the start of a text, so each line is judged by the
 // entries before it alone, and the first line that may not stand there is the first faulty one.
-ghost use Rattle.std.specs.Prelude.{◌≡◌, ◌+◌, ◌<◌, ◌≤◌, ◌^◌, ◌↔◌, [], ◌∷◌, ◌++◌, length, true, ◌||◌, MatchOption, MatchResult, IfOk, IsTrue, OnOk};
+ghost use Rattle.std.specs.Prelude.{◌≡◌, ◌+◌, ◌<◌, ◌≤◌, ◌^◌, ◌↔◌, [], ◌∷◌, ◌++◌, length, MatchOption, MatchResult, IfOk, IsTrue, OnOk};
 ghost use Rattle.ext_tree.specs.declared.entry.Entry.{Entry};
 ghost use Rattle.ext_tree.specs.declared.stamp.Stamp.{Stamp};
 ghost use Rattle.ext_tree.specs.FirstFault.{ReadsTree, ReadsSequence};
-ghost use Rattle.ext_tree.specs.TreeText.{HasTreeLine, HasText, header, need_version_2, needs_version_2};
+ghost use Rattle.ext_tree.specs.TreeText.{HasTreeLine, HasText, IsVersion, header, needed_version, version_of};
 ghost use Rattle.ext_tree.specs.Reading.{Judges, BeginsBody, BodyFault, BeginsText, IsHeader, TextFault};
 
 use crate::Trees;
-use crate::entry::Entry;
+use crate::entry::{Entry, higher};
 use crate::entry_line::entry_of_line;
 use crate::following::may_follow;
 use crate::stamp::Stamp;
@@ -18,11 +18,14 @@ use ext_text::{ListOf, Path};
 use std::alloc::Global;
 use thiserror::Error;
 
-/// The first line of a text without lines `o` and `w`.
+/// The first line of a text that no entry needs more for.
 const HEADER_1: &[u8] = b"hostext-tree 1";
 
-/// The first line of a text with some.
+/// The first line of a text with lines `o` and `w`.
 const HEADER_2: &[u8] = b"hostext-tree 2";
+
+/// The first line of a text with owners or capabilities.
+const HEADER_3: &[u8] = b"hostext-tree 3";
 
 /// The last line of a tree text.
 const END: &[u8] = b"end";
@@ -77,7 +80,7 @@ struct Body<'a> {
 ///
 /// # Errors
 /// `BadTree` exactly where the bytes are no tree text. Its line, counted from 1, is the first with which no tree text
-/// begins, or the `end` line of a text of version 2 without lines `o` and `w`. Where the bytes stop early, it is the line
+/// begins, or the `end` line of a text of a version that no line of it needs. Where the bytes stop early, it is the line
 /// after their last newline, also where that line has begun. `OutOfMemory` may come at any time.
 pub fn read_tree(alloc: Global, bytes: &[u8]) -> Result<Tree<Stamp>, TreeTextErr>
     ensures { ReadsTree bytes.now result }
@@ -121,38 +124,41 @@ fn read_text(alloc: Global, bytes: &[u8], line: u64) -> Result<Body, TreeTextErr
         None => Err(TreeTextErr::BadTree { line }),
         Some((header, body)) => match version_of(header) {
             None => Err(TreeTextErr::BadTree { line }),
-            Some(two) => read_body(alloc, body, line + 1, two),
+            Some(version) => read_body(alloc, body, line + 1, version),
         },
     }
 }
 
-// Whether the version that a header tells is 2.
-fn version_of(line: &[u8]) -> Option<bool>
-    ensures { MatchOption result (¬ IsHeader line.now) (λ two. line.now ≡ header two) }
+// The version that a header tells.
+fn version_of(line: &[u8]) -> Option<u8>
+    ensures { MatchOption result (¬ IsHeader line.now) (λ version. IsVersion version × (line.now ≡ header version)) }
 {
     if line == HEADER_1 {
-        Some(false)
+        Some(1)
     } else if line == HEADER_2 {
-        Some(true)
+        Some(2)
+    } else if line == HEADER_3 {
+        Some(3)
     } else {
         None
     }
 }
 
 // The entries and the last line of a text at the start of the bytes; their first line has this number.
-fn read_body(alloc: Global, bytes: &[u8], first: u64, two: bool) -> Result<Body, TreeTextErr>
-    requires { first + length bytes.now < 2 ^ 64 }
-    ensures { MatchResult result (λ body. BeginsBody two bytes.now first body.entries.items body.rest.now body.line)
-        (BodyFault two bytes.now first) }
+fn read_body(alloc: Global, bytes: &[u8], first: u64, version: u8) -> Result<Body, TreeTextErr>
+    requires room { first + length bytes.now < 2 ^ 64 }
+    requires version { IsVersion version }
+    ensures { MatchResult result (λ body. BeginsBody version bytes.now first body.entries.items body.rest.now body.line)
+        (BodyFault version bytes.now first) }
 {
     let mut entries = Vec::new(alloc);
-    let mut needs = false;
+    let mut needed = 1;
     let mut rest = bytes;
     let mut line = first;
     'lines: loop {
         match split_line(rest) {
             None => return Err(TreeTextErr::BadTree { line }),
-            Some((text, after)) => match judge(alloc, entries.as_slice(), text, two, needs)? {
+            Some((text, after)) => match judge(alloc, entries.as_slice(), text, version, needed)? {
                 Line::Fault => return Err(TreeTextErr::BadTree { line }),
                 Line::End => {
                     // A sequence may hold very many small trees.
@@ -164,8 +170,8 @@ fn read_body(alloc: Global, bytes: &[u8], first: u64, two: bool) -> Result<Body,
                     });
                 }
                 Line::Item(path, entry) => {
-                    let still = needs_either(needs, &entry);
-                    needs = still;
+                    let more = higher(needed, entry.needed_version());
+                    needed = more;
                     push(&mut entries, (path, entry))?;
                     rest = after;
                     line += 1;
@@ -175,20 +181,20 @@ fn read_body(alloc: Global, bytes: &[u8], first: u64, two: bool) -> Result<Body,
     }
 }
 
-// What the line is after the lines of the entries, of which some need version 2 or none.
+// What the line is after the lines of the entries, which need that version.
 fn judge(
     alloc: Global,
     entries: &[(Path, Entry<Stamp>)],
     line: &[u8],
-    two: bool,
-    needs: bool,
+    version: u8,
+    needed: u8,
 ) -> Result<Line, OutOfMemory>
     requires text { HasText entries.now }
-    requires needs { needs ≡ need_version_2 entries.now }
-    ensures { IfOk result (Judges two entries.now line.now) }
+    requires needed { needed ≡ version_of entries.now }
+    ensures { IfOk result (Judges version entries.now line.now) }
 {
     if line == END {
-        if two != needs {
+        if version != needed {
             return Ok(Line::Fault);
         }
         return Ok(Line::End);
@@ -196,7 +202,7 @@ fn judge(
     match entry_of_line(alloc, line)? {
         None => Ok(Line::Fault),
         Some((path, entry)) => {
-            if !has_line(&entry, two) {
+            if !has_line(&entry, version) {
                 return Ok(Line::Fault);
             }
             if may_add(entries, &path) {
@@ -208,18 +214,11 @@ fn judge(
     }
 }
 
-// Whether some entries or one more need version 2.
-fn needs_either(needs: bool, entry: &Entry<Stamp>) -> bool
-    ensures { result ≡ (needs || needs_version_2 entry.now) }
-{
-    needs || entry.needs_version_2()
-}
-
 // Whether the version has a line for the entry.
-fn has_line(entry: &Entry<Stamp>, two: bool) -> bool
-    ensures { IsTrue result ↔ (needs_version_2 entry.now ≡ true → two ≡ true) }
+fn has_line(entry: &Entry<Stamp>, version: u8) -> bool
+    ensures { IsTrue result ↔ (needed_version entry.now ≤ version) }
 {
-    two || !entry.needs_version_2()
+    entry.needed_version() <= version
 }
 
 // Whether the entries with one more at this path still have a text.

@@ -1,8 +1,8 @@
-ghost use Rattle.std.specs.Prelude.{◌≡◌, ℕ, List, [], ◌∷◌, ◌++◌, false, IfOk, OnOk};
+ghost use Rattle.std.specs.Prelude.{◌≡◌, ℕ, List, [], ◌∷◌, ◌++◌, IfOk, OnOk};
 ghost use Rattle.ext_tree.specs.Tree.{all_shown, as_shown};
-ghost use Rattle.ext_tree.specs.TreeText.{AreWritable, HasText, IsTreeText, header, need_version_2, tree_line, tree_text};
+ghost use Rattle.ext_tree.specs.TreeText.{AreWritable, HasText, IsTreeText, IsVersion, header, needed_version, tree_line, tree_text, version_of};
 
-use crate::entry::Entry;
+use crate::entry::{Entry, higher};
 use crate::entry_line;
 use crate::stamp::Stamp;
 use crate::tree::Tree;
@@ -10,10 +10,12 @@ use ext_lines::OutOfMemory;
 use ext_text::{Path, Text};
 use std::alloc::Global;
 
-// The first line of a text without lines `o` and `w`, and that of a text with some.
+// The first lines of texts of the versions.
 const HEADER_1: &[u8] = b"hostext-tree 1\n";
 
 const HEADER_2: &[u8] = b"hostext-tree 2\n";
+
+const HEADER_3: &[u8] = b"hostext-tree 3\n";
 
 // The index of the version in them.
 const VERSION: usize = 13;
@@ -32,7 +34,7 @@ pub fn write_tree(alloc: Global, tree: &Tree<Stamp>) -> Result<Text, OutOfMemory
     ensures printed { IfOk result (λ text. text ≡ tree_text tree.now) }
     ensures text { AreWritable tree.now → IfOk result (λ text. IsTreeText text tree.now) }
 {
-    let mut text = Vec::from_slice(alloc, header(need_version_2(tree.pairs())))?;
+    let mut text = Vec::from_slice(alloc, header(version_of(tree.pairs())))?;
     for (path, entry) in tree.pairs() {
         append_line(&mut text, path, entry)?;
     }
@@ -66,43 +68,61 @@ pub fn write_entries_into(
     let mut text = buffer.into_vec();
     text.clear();
     text.extend_from_slice(HEADER_1)?;
-    let mut hides = false;
+    let mut version = 1;
     // One pass tells the version too, since entries are many and lie far apart.
     for entry in entries {
         append_shown(&mut text, &entry.0, &entry.1)?;
-        hides = hides || entry.1.is_hide();
+        version = higher(version, shown_version(&entry.1));
     }
-    tell_version(&mut text, hides);
+    tell_version(&mut text, version);
     text.extend_from_slice(END)?;
     Ok(Text::from_vec(text))
 }
 
-// Turns the header of version 1, with which a text begins, into that of version 2, where it is to tell this one.
-fn tell_version(text: &mut Vec<u8>, two: bool)
-    requires { (lines : List ℕ) × (text.old.items ≡ (header false ++ 10 ∷ []) ++ lines) }
-    ensures { (lines : List ℕ) → text.old.items ≡ (header false ++ 10 ∷ []) ++ lines → text.new.items ≡ (header two ++ 10 ∷ []) ++ lines }
+// Turns the header of version 1, with which a text begins, into that of this version.
+fn tell_version(text: &mut Vec<u8>, version: u8)
+    requires version { IsVersion version }
+    requires begun { (lines : List ℕ) × (text.old.items ≡ (header 1 ++ 10 ∷ []) ++ lines) }
+    ensures { (lines : List ℕ) → text.old.items ≡ (header 1 ++ 10 ∷ []) ++ lines → text.new.items ≡ (header version ++ 10 ∷ []) ++ lines }
 {
-    if two {
-        text[VERSION] = b'2';
-    }
+    text[VERSION] = b'0' + version;
 }
 
 // The first line of a text, with its newline.
-fn header(two: bool) -> &'static [u8]
-    ensures { result.now ≡ header two ++ 10 ∷ [] }
+fn header(version: u8) -> &'static [u8]
+    requires { IsVersion version }
+    ensures { result.now ≡ header version ++ 10 ∷ [] }
 {
-    if two { HEADER_2 } else { HEADER_1 }
+    if version == 1 {
+        HEADER_1
+    } else if version == 2 {
+        HEADER_2
+    } else {
+        HEADER_3
+    }
 }
 
-// Whether some entry has a line that only version 2 has.
-fn need_version_2(entries: &[(Path, Entry<Stamp>)]) -> bool
-    ensures { result ≡ need_version_2 entries.now }
+// The first version that has a line for each entry.
+fn version_of(entries: &[(Path, Entry<Stamp>)]) -> u8
+    ensures value { result ≡ version_of entries.now }
+    ensures known { IsVersion result }
 {
-    let mut needs = false;
+    let mut version = 1;
     for entry in entries {
-        needs = needs || entry.1.needs_version_2();
+        version = higher(version, entry.1.needed_version());
     }
-    needs
+    version
+}
+
+// The first version that has a line for the entry as it shows.
+fn shown_version(entry: &Entry<Stamp>) -> u8
+    ensures { result ≡ needed_version (as_shown entry.now) }
+{
+    match entry {
+        Entry::Opaque(attributes) => if attributes.is_plain() { 1 } else { 3 },
+        Entry::Dir(_) | Entry::File(_, _) | Entry::Link(_, _) | Entry::Hide =>
+            entry.needed_version(),
+    }
 }
 
 // Adds the line of an entry as it shows, with its newline.
@@ -110,8 +130,8 @@ fn append_shown(text: &mut Vec<u8>, path: &Path, entry: &Entry<Stamp>) -> Result
     ensures { OnOk result (text.new.items ≡ text.old.items ++ (tree_line (path.now, as_shown entry.now) ++ 10 ∷ [])) }
 {
     match entry {
-        Entry::Opaque(mode) => append_line(text, path, &Entry::Dir(*mode)),
-        Entry::Dir(_) | Entry::File(_, _) | Entry::Link(_) | Entry::Hide => {
+        Entry::Opaque(attributes) => append_line(text, path, &Entry::Dir(*attributes)),
+        Entry::Dir(_) | Entry::File(_, _) | Entry::Link(_, _) | Entry::Hide => {
             append_line(text, path, entry)
         }
     }

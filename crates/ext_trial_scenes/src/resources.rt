@@ -1,9 +1,9 @@
 // Resources of the depot, whose tree texts follow from their entries, and manifests that list files.
 use crate::acts::Files;
 use crate::scene::Scene;
+use ext_attributes::{Attributes, read_attributes, read_file_attributes, read_owned_number};
 use ext_case::{Trouble, append_line, name, one, one_and_more, path, written};
-use ext_lines::read_octal;
-use ext_text::{Digest, Mode, Path, Text};
+use ext_text::{Digest, Path, Text};
 use ext_tree::{Entry, Stamp, Tree, write_tree};
 use ext_trial_disks::{below, cut};
 use std::alloc::Global;
@@ -49,13 +49,13 @@ fn put_entry(
     at: &Path,
     entry: &Entry<Stamp>,
 ) -> Result<(), Trouble> {
-    let Some(mode) = mode_of(b"d") else {
-        return Err(Trouble::Unreadable("no mode"));
+    let Some(attributes) = directory_attributes(b"") else {
+        return Err(Trouble::Unreadable("no attributes"));
     };
     for depth in 1..at.depth() {
         let above = at.prefix(depth)?;
         if tree.get(&above).is_none() {
-            insert(tree, above, Entry::Dir(mode))?;
+            insert(tree, above, Entry::Dir(attributes))?;
         }
     }
     insert(tree, at.copy()?, entry.copy(alloc)?)
@@ -68,17 +68,43 @@ fn insert(tree: &mut Tree<Stamp>, at: Path, entry: Entry<Stamp>) -> Result<(), T
     }
 }
 
-// The mode that a word such as `d` or `d:700` gives.
-fn mode_of(word: &[u8]) -> Option<Mode> {
-    let bits = match word {
-        [b'f'] => Some(0o644),
-        [_] => Some(0o755),
-        [_, _, digits @ ..] => read_octal(digits, 0o7777),
-        [] => None,
+// The attributes of a directory that a word tells behind its letter, as `:700` or `:700:8:9`; a directory of root's where it
+// tells nothing.
+fn directory_attributes(told: &[u8]) -> Option<Attributes> {
+    match told {
+        [b':', field @ ..] => read_attributes(field),
+        _ => read_attributes(b"755"),
+    }
+}
+
+// A directory of these attributes, which may be opaque.
+fn directory_of(told: &[u8], is_opaque: bool) -> Result<Entry<Stamp>, Trouble> {
+    match directory_attributes(told) {
+        None => Err(Trouble::Unreadable("no attributes")),
+        Some(attributes) if is_opaque => Ok(Entry::Opaque(attributes)),
+        Some(attributes) => Ok(Entry::Dir(attributes)),
+    }
+}
+
+// A file of these bytes, with its attributes, likewise.
+fn file_of(alloc: Global, told: &[u8], bytes: &Text) -> Result<Entry<Stamp>, Trouble> {
+    let field = match told {
+        [b':', field @ ..] => field,
+        _ => b"644",
     };
-    match bits {
-        Some(bits) => Mode::new((bits & 0o7777) as u16),
-        None => None,
+    match read_file_attributes(alloc, field)? {
+        None => Err(Trouble::Unreadable("no attributes")),
+        Some(attributes) => Ok(Entry::File(attributes, stamp_of(bytes))),
+    }
+}
+
+// A link with this target, and its owner, told as `:8:9`.
+fn link_of(alloc: Global, told: &[u8], target: &Text) -> Result<Entry<Stamp>, Trouble> {
+    let mut field = written(alloc, b"1")?;
+    field.append(told)?;
+    match read_owned_number(field.bytes(), 1) {
+        None => Err(Trouble::Unreadable("no owner")),
+        Some((_, owner)) => Ok(Entry::Link(owner, target.copy()?)),
     }
 }
 
@@ -86,7 +112,7 @@ fn mode_of(word: &[u8]) -> Option<Mode> {
 pub(crate) fn is_entry(word: &str) -> bool {
     match word.as_bytes() {
         [kind] => b"dflow".contains(kind),
-        [kind, b':', ..] => b"dfo".contains(kind),
+        [kind, b':', ..] => b"dflo".contains(kind),
         _ => false,
     }
 }
@@ -108,8 +134,9 @@ fn keep(alloc: Global, scene: &mut Scene, resource: Resource) -> Result<(), Trou
     Ok(())
 }
 
-/// `f PATH BYTES`, `l PATH TARGET`, `d PATH`, `o PATH` or `w PATH`, of which the first and the last but one may have a mode as in
-/// `f:755`: an entry of the resource, in the place of one that stood there.
+/// `f PATH BYTES`, `l PATH TARGET`, `d PATH`, `o PATH` or `w PATH`: an entry of the resource, in the place of one that stood
+/// there. Attributes may follow the letter, as in `f:755`, `d:700:8:9` or `f:755:0:0:1:1024:0:0`, and a link's owner as in
+/// `l:8:9`.
 pub(crate) fn put(
     alloc: Global,
     scene: &mut Scene,
@@ -118,7 +145,7 @@ pub(crate) fn put(
 ) -> Result<(), Trouble> {
     let (at, rest) = one_and_more(arguments)?;
     let at = path(alloc, at)?;
-    let entry = entry_of(word.as_bytes(), rest)?;
+    let entry = entry_of(alloc, word.as_bytes(), rest)?;
     match scene.resource.take() {
         None => Err(Trouble::Unreadable("no resource was begun")),
         Some(resource) => put_into(alloc, scene, resource, at, entry, rest),
@@ -143,16 +170,13 @@ fn put_into(
 }
 
 // The entry of a word, and of what stands behind its path.
-fn entry_of(word: &[u8], rest: &[Text]) -> Result<Entry<Stamp>, Trouble> {
-    let Some(mode) = mode_of(word) else {
-        return Err(Trouble::Unreadable("no mode"));
-    };
-    match (word.first(), rest) {
-        (Some(b'f'), [bytes]) => Ok(Entry::File(mode, stamp_of(bytes))),
-        (Some(b'l'), [target]) => Ok(Entry::Link(target.copy()?)),
-        (Some(b'd'), []) => Ok(Entry::Dir(mode)),
-        (Some(b'o'), []) => Ok(Entry::Opaque(mode)),
-        (Some(b'w'), []) => Ok(Entry::Hide),
+fn entry_of(alloc: Global, word: &[u8], rest: &[Text]) -> Result<Entry<Stamp>, Trouble> {
+    match (word, rest) {
+        ([b'f', told @ ..], [bytes]) => file_of(alloc, told, bytes),
+        ([b'l', told @ ..], [target]) => link_of(alloc, told, target),
+        ([b'd', told @ ..], []) => directory_of(told, false),
+        ([b'o', told @ ..], []) => directory_of(told, true),
+        ([b'w'], []) => Ok(Entry::Hide),
         _ => Err(Trouble::Unreadable("an entry of another kind")),
     }
 }

@@ -3,6 +3,7 @@ use crate::asked::{Asked, MANY, Row, Said, Stop};
 use crate::laws::call_laws;
 use crate::paths::{path_at, sorted_paths};
 use crate::streams::{read_reader, write_vector, write_writer};
+use ext_attributes::Attributes;
 use ext_text::{Mode, Text};
 use ext_tree::{
     Entry, Stamp, Tree, TreeErr, TreeTextErr, after, read_tree, read_trees, write_entries_into,
@@ -88,7 +89,10 @@ fn insert(asked: Asked, tree: Tree<Stamp>) -> Said {
     let mut tree = tree;
     let mut text = Text::new(asked.alloc);
     for index in 1..asked.rest.len() {
-        text.append(refusal(tree.insert(path_at(asked, index)?, Entry::Dir(mode)))?)?;
+        text.append(refusal(tree.insert(
+            path_at(asked, index)?,
+            Entry::Dir(Attributes::of_mode(mode)),
+        ))?)?;
     }
     text.append(write_tree(asked.alloc, &tree)?.bytes())?;
     Ok(text)

@@ -92,8 +92,8 @@ pub image_served : (serves : HeldFile → Bool) (base : Entries HeldFile) (place
 image_served serves base place tree all is = subst (ServesAll serves) (sym is.below) below
   where
     below : ServesAll serves (part is.directory base)
-    below [] mode held at = absurd (false≢true (sym (ap is_some (root_part is.directory base)) ∙ ap is_some at))
-    below (n ∷ path) mode held at = all (is.directory ++ n ∷ path) mode held (sym (lookup_part is.directory n path base) ∙ at)
+    below [] attributes held at = absurd (false≢true (sym (ap is_some (root_part is.directory base)) ∙ ap is_some at))
+    below (n ∷ path) attributes held at = all (is.directory ++ n ∷ path) attributes held (sym (lookup_part is.directory n path base) ∙ at)
 
 -- an image of a name has one place
 pub one_place : (base : Entries HeldFile) (arch : Arch) → OneFound content_size → (name : List ℕ) (p q : List (List ℕ)) → FindsImage base arch name p → FindsImage base arch name q → p ≡ q

@@ -3,6 +3,8 @@ use Rattle.std.proofs.Common.{◌≡◌, ℕ, ◌++◌, List, [], ◌∷◌, ref
 use Rattle.std.specs.Prelude.{Contains}
 use mathlib.Core.Logic.{inl, inr}
 use Rattle.std.specs.List.{AllByRecursion}
+use Rattle.ext_attributes.specs.declared.attributes.Attributes.{Attributes}
+use Rattle.ext_attributes.specs.Attributes.{of_mode}
 use Rattle.ext_tree.specs.EntryLine.{IsWritable}
 use Rattle.ext_tree.specs.Tree.{Entries}
 use Rattle.ext_tree.specs.TreeText.{AreWritable, stamp_form}
@@ -22,10 +24,10 @@ use Rattle.ext_update.specs.Stages.{AreFilesFit, EntryFits}
 
 -- an entry whose file is in the depot fits where its path there does
 entry_fits : (res path : List (List ℕ)) (e : Entry Stamp) → bodies.FileFits res (path, e) → EntryFits (in_depot (res ++ path) e)
-entry_fits res path (Dir mode) fits = tt
-entry_fits res path (Opaque mode) fits = tt
-entry_fits res path (File mode stamp) fits = fits refl
-entry_fits res path (Link target) fits = tt
+entry_fits res path (Dir attributes) fits = tt
+entry_fits res path (Opaque attributes) fits = tt
+entry_fits res path (File attributes stamp) fits = fits refl
+entry_fits res path (Link owner target) fits = tt
 entry_fits res path Hide fits = tt
 
 pub files_fit : (res : List (List ℕ)) (es : Entries Stamp) → AllByRecursion (bodies.FileFits res) es → AreFilesFit (from_depot res es)
@@ -33,10 +35,10 @@ files_fit res [] all = tt
 files_fit res (x ∷ es) all = (entry_fits res x.0 x.1 all.0, files_fit res es all.1)
 
 entry_passes : (res path : List (List ℕ)) (e : Entry Stamp) → bodies.FilePasses res (path, e) → EntryFits (in_depot (res ++ path) e) → ⊥
-entry_passes res path (Dir mode) passes fits = cc (passes.0)
-entry_passes res path (Opaque mode) passes fits = cc (passes.0)
-entry_passes res path (File mode stamp) passes fits = passes.1 fits
-entry_passes res path (Link target) passes fits = cc (passes.0)
+entry_passes res path (Dir attributes) passes fits = cc (passes.0)
+entry_passes res path (Opaque attributes) passes fits = cc (passes.0)
+entry_passes res path (File attributes stamp) passes fits = passes.1 fits
+entry_passes res path (Link owner target) passes fits = cc (passes.0)
 entry_passes res path Hide passes fits = cc (passes.0)
 
 pub files_pass : (res : List (List ℕ)) (es : Entries Stamp) (x : List (List ℕ) × Entry Stamp) → Contains es x → bodies.FilePasses res x
@@ -58,10 +60,10 @@ not_from_depot res es tree_errors.Path why = files_pass res es why.0 why.1 why.2
 
 -- its entries are in the ranges of its text, and no store keeps them
 depot_entry : (path : List (List ℕ)) (e : Entry Stamp) → IsWritable stamp_form e → IsNewEntry (in_depot path e)
-depot_entry path (Dir mode) is = record { range = is; new = tt }
-depot_entry path (Opaque mode) is = record { range = is; new = tt }
-depot_entry path (File mode stamp) is = record { range = is; new = λ home kept. cc kept }
-depot_entry path (Link target) is = record { range = is; new = tt }
+depot_entry path (Dir attributes) is = record { range = is; new = tt }
+depot_entry path (Opaque attributes) is = record { range = is; new = tt }
+depot_entry path (File attributes stamp) is = record { range = is; new = λ home kept. cc kept }
+depot_entry path (Link owner target) is = record { range = is; new = tt }
 depot_entry path Hide is = record { range = is; new = tt }
 
 pub depot_new : (res : List (List ℕ)) (es : Entries Stamp) → AreWritable es
@@ -72,10 +74,10 @@ depot_new res (x ∷ es) all = (depot_entry (res ++ x.0) x.1 all.0, depot_new re
 abbrev pub AreNewEntries : Entries HeldFile → Type 0
 AreNewEntries es = AllByRecursion (λ (e : List (List ℕ) × Entry HeldFile). IsNewEntry e.1) es
 
-abbrev pub directory_with : List (List ℕ) → ℕ → Entries HeldFile → Piece HeldFile
-directory_with path mode part = record { path = path; top = Dir mode; part = part }
+abbrev pub directory_with : List (List ℕ) → Attributes → Entries HeldFile → Piece HeldFile
+directory_with path attributes part = record { path = path; top = Dir attributes; part = part }
 
 -- a directory with this part
-pub directory_is : (path : List (List ℕ)) (mode : ℕ) → mode ≡ 493 → (part same : Entries HeldFile) → part ≡ same
-    → directory_with path mode part ≡ directory_with path 493 same
-directory_is path mode is part same one = λ i. directory_with path (is i) (one i)
+pub directory_is : (path : List (List ℕ)) (attributes : Attributes) → attributes ≡ of_mode 493 → (part same : Entries HeldFile) → part ≡ same
+    → directory_with path attributes part ≡ directory_with path (of_mode 493) same
+directory_is path attributes is part same one = λ i. directory_with path (is i) (one i)

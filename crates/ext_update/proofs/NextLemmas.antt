@@ -10,6 +10,7 @@ use Rattle.std.proofs.lemmas.Bool.{and_parts, cases_lt, false≢true, true≢fal
 use Rattle.std.proofs.lemmas.List.Elements.{Contains-append_cases, Contains-append_left, Contains-append_right}
 use Rattle.std.proofs.lemmas.List.Sorted.{Contains-permutation, IsPermutation-sym}
 use Rattle.std.proofs.lemmas.List.Sums.{sum_by-append}
+use Rattle.ext_attributes.specs.Attributes.{OfFile}
 use Rattle.ext_text.specs.Order.{paths_total}
 use Rattle.ext_text.specs.Path.{are_related, is_prefix, is_proper_prefix, path_cmp}
 use Rattle.ext_text.specs.SortedPaths.{covers, is_among, meets}
@@ -145,7 +146,7 @@ same_ascending key xs ys first second there back =
 item_there : (es : Entries HeldFile) (a b : Manifest) → HasItems (λ q. lookup es q) a → HasItems (λ q. lookup es q) b → a.path ≡ b.path
     → (x : Item) → Contains a.items x → Contains b.items x
 item_there es a b first second same x at =
-    let has = all_contained (λ (y : Item). IsTrue (is_prefix a.path y.path) × ((mode : ℕ) × (held : HeldFile) × (lookup es y.path ≡ Some (File mode held)) × (held.stamp.digest ≡ y.digest))) a.items x first.each at in
+    let has = all_contained (λ (y : Item). IsTrue (is_prefix a.path y.path) × ((attributes : OfFile) × (held : HeldFile) × (lookup es y.path ≡ Some (File attributes held)) × (held.stamp.digest ≡ y.digest))) a.items x first.each at in
     let one : Contains b.items (record { path = x.path; digest = has.1.1.stamp.digest }) = second.whole x.path has.1.0 has.1.1 (subst (λ p. is_prefix p x.path ≡ true) same has.0) has.1.2 in
     let is : ◌≡◌ {A = Item} (record { path = x.path; digest = has.1.1.stamp.digest }) x = λ i. record { path = x.path; digest = has.1.3 i } in
     subst (Contains b.items) is one

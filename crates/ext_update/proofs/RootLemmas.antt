@@ -5,6 +5,8 @@ use mathlib.Core.Logic.{inl, inr}
 use Rattle.std.specs.List.{AllByRecursion, flat_map}
 use Rattle.std.proofs.lemmas.Bool.{cases_lt}
 use Rattle.std.proofs.lemmas.Option.{none-some, same_Some}
+use Rattle.ext_attributes.specs.Attributes.{OfFile}
+use Rattle.ext_attributes.proofs.ForCallers.{mode_in_range}
 use Rattle.ext_text.specs.Path.{is_prefix}
 use Rattle.ext_text.specs.SortedPaths.{covers}
 use Rattle.ext_tree.specs.EntryLine.{IsWritable}
@@ -76,7 +78,7 @@ module _ (host : Host) (root : Entries HeldFile) (removed : List (List (List ℕ
   pub root_in_range : AreInRange host.root → AreInRange root
   root_in_range range =
       each_contained (λ x. IsWritable held_form x.1) root (λ x at.
-      entry_holds (IsWritable held_form) host.root root removed pieces updated (omega arith)
+      entry_holds (IsWritable held_form) host.root root removed pieces updated (mode_in_range 493 (omega arith))
       (λ q e found. all_contained (λ y. IsWritable held_form y.1) host.root (q, e) range (found_contained host.root q e found))
       (λ piece among.
       let is = all_contained IsNewPiece pieces piece new among in (
@@ -87,21 +89,21 @@ module _ (host : Host) (root : Entries HeldFile) (removed : List (List (List ℕ
 
   -- a file that a store keeps is one of the host's
   abbrev FromHost : Entry HeldFile → Type 0
-  FromHost e = (mode : ℕ) (held : HeldFile) (home : Home) → e ≡ File mode held → held.body ≡ Kept home → HasFile host.root held
+  FromHost e = (attributes : OfFile) (held : HeldFile) (home : Home) → e ≡ File attributes held → held.body ≡ Kept home → HasFile host.root held
 
   not_from : (e : Entry HeldFile) → NotKept e → FromHost e
-  not_from (Dir m) not mode held home is kept = cc is
-  not_from (Opaque m) not mode held home is kept = cc is
-  not_from (File m h) not mode held home is kept =
+  not_from (Dir m) not attributes held home is kept = cc is
+  not_from (Opaque m) not attributes held home is kept = cc is
+  not_from (File m h) not attributes held home is kept =
       let same : h ≡ held = cc is in
       absurd (not home (ap (λ (x : HeldFile). x.body) same ∙ kept))
-  not_from (Link t) not mode held home is kept = cc is
-  not_from Hide not mode held home is kept = cc is
+  not_from (Link owner t) not attributes held home is kept = cc is
+  not_from Hide not attributes held home is kept = cc is
 
   from_host : (q : List (List ℕ)) (e : Entry HeldFile) → lookup root q ≡ Some e → FromHost e
   from_host q e found =
       entry_holds FromHost host.root root removed pieces updated (not_from made tt)
-      (λ r f stands mode held home is kept. record { path = r; mode = mode; stands = stands ∙ ap (λ (x : Entry HeldFile). Some x) is })
+      (λ r f stands attributes held home is kept. record { path = r; attributes = attributes; stands = stands ∙ ap (λ (x : Entry HeldFile). Some x) is })
       (λ piece among.
       let is = all_contained IsNewPiece pieces piece new among in (
         not_from piece.top is.top.new,
@@ -115,7 +117,7 @@ module _ (host : Host) (root : Entries HeldFile) (removed : List (List (List ℕ
   root_drawn : AreDrawnFrom (trees_of host) (root ∷ [])
   root_drawn held home kept file =
       let f = subst (λ tree. HasFile tree held) (only_tree root file.tree file.among) file.file in
-      record { tree = host.root; among = here host.root (host.lower ∷ flat_map (λ (p : Past). p.root ∷ p.lower ∷ []) host.past); file = from_host f.path (File f.mode held) f.stands f.mode held home refl kept }
+      record { tree = host.root; among = here host.root (host.lower ∷ flat_map (λ (p : Past). p.root ∷ p.lower ∷ []) host.past); file = from_host f.path (File f.attributes held) f.stands f.attributes held home refl kept }
 
   -- the host with the tree is drawn from the host
   pub next_is_drawn : (kept : List Manifest) → IsDrawnFrom host (record host { root = root; kept = kept })

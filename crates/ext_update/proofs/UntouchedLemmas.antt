@@ -1,5 +1,5 @@
 -- What is not touched stands as before.
-use Rattle.std.proofs.Common.{◌≡◌, ℕ, true, false, cond, not, ◌&&◌, List, ◌++◌, None, ap, ◌∙◌, sym, subst}
+use Rattle.std.proofs.Common.{◌≡◌, ℕ, true, false, cond, not, List, ◌++◌, None, ap, ◌∙◌, sym}
 use Rattle.std.specs.List.{list_any}
 use Rattle.std.proofs.lemmas.Bool.{and_parts, false_from_ne_true, or_right, true≢false}
 use Rattle.ext_text.specs.Path.{are_related, is_prefix, is_proper_prefix}

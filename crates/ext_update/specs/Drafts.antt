@@ -178,10 +178,10 @@ pub record IsLinkText (text : List ℕ) : Type 0 where
 
 -- no store keeps the bytes of a file
 abbrev pub NotKept : Entry HeldFile → Type 0
-NotKept (entries.Dir mode) = Unit {0}
-NotKept (entries.Opaque mode) = Unit {0}
-NotKept (entries.File mode held) = (home : Home) → held.body ≢ Kept home
-NotKept (entries.Link target) = Unit {0}
+NotKept (entries.Dir attributes) = Unit {0}
+NotKept (entries.Opaque attributes) = Unit {0}
+NotKept (entries.File attributes held) = (home : Home) → held.body ≢ Kept home
+NotKept (entries.Link owner target) = Unit {0}
 NotKept entries.Hide = Unit {0}
 
 -- an entry in the ranges of a tree's text whose bytes no store keeps

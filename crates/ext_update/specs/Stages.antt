@@ -75,10 +75,10 @@ UnlessLeast Holds refused Wants planned =
 
 -- the text of a link is within the limit of a path's
 abbrev pub LinkFits : Entry HeldFile → Type 0
-LinkFits (entries.Dir mode) = Unit {0}
-LinkFits (entries.Opaque mode) = Unit {0}
-LinkFits (entries.File mode held) = Unit {0}
-LinkFits (entries.Link text) = length text ≤ 4096
+LinkFits (entries.Dir attributes) = Unit {0}
+LinkFits (entries.Opaque attributes) = Unit {0}
+LinkFits (entries.File attributes held) = Unit {0}
+LinkFits (entries.Link owner text) = length text ≤ 4096
 LinkFits entries.Hide = Unit {0}
 
 -- where the bytes of a file are in the depot, its path there is within the limits
@@ -89,10 +89,10 @@ BodyFits (bodies.Depot path) = IsPath path
 
 -- the path of an entry's file in the depot is within the limits
 abbrev pub EntryFits : Entry HeldFile → Type 0
-EntryFits (entries.Dir mode) = Unit {0}
-EntryFits (entries.Opaque mode) = Unit {0}
-EntryFits (entries.File mode held) = BodyFits held.body
-EntryFits (entries.Link text) = Unit {0}
+EntryFits (entries.Dir attributes) = Unit {0}
+EntryFits (entries.Opaque attributes) = Unit {0}
+EntryFits (entries.File attributes held) = BodyFits held.body
+EntryFits (entries.Link owner text) = Unit {0}
 EntryFits entries.Hide = Unit {0}
 
 -- the files of a tree have paths within the limits in the depot, and those below a piece's path

@@ -6,6 +6,7 @@ use Rattle.std.specs.Prelude.{ℕ, ◌==◌, if◌then◌else◌, List, [], ◌�
 use Rattle.std.specs.List.{flat_map, range_with_len}
 use Rattle.std.specs.Option.{option_or}
 use Rattle.std.specs.Ordering.{eq_by_cmp}
+use Rattle.ext_attributes.specs.Attributes.{file_of_mode, root_owner}
 use Rattle.ext_text.specs.Absolute.{absolute}
 use Rattle.ext_text.specs.Path.{parent, path_cmp}
 use Rattle.ext_tree.specs.Graft.{made}
@@ -38,9 +39,9 @@ abbrev pub file_mode_of : Option Transfer → ℕ
 file_mode_of None = 420
 file_mode_of (Some transfer) = transfer.mode
 
--- a file that the depot has
+-- a file that the depot has, root's and without a capability
 abbrev pub file_top : ℕ → Stamp → List (List ℕ) → Entry HeldFile
-file_top mode stamp source = entries.File mode (record { stamp = stamp; body = Depot source })
+file_top mode stamp source = entries.File (file_of_mode mode) (record { stamp = stamp; body = Depot source })
 
 -- the entry of a resource of this content: such a file, or a directory
 abbrev pub top_of : ℕ → List (List ℕ) → Content → Entry HeldFile
@@ -83,7 +84,7 @@ link_text target link at = if eq_by_cmp path_cmp (parent link) target then last_
 
 -- the link to a path
 abbrev pub link_piece : List (List ℕ) → List (List ℕ) → List (List ℕ) → Piece HeldFile
-link_piece target at link = record { path = link; top = entries.Link (link_text target link at); part = [] }
+link_piece target at link = record { path = link; top = entries.Link root_owner (link_text target link at); part = [] }
 
 -- the link that is set, where there is a path to name and a link to set
 abbrev pub link_if : List (List ℕ) → Option (List (List ℕ)) → Option (List (List ℕ)) → List (Piece HeldFile)

@@ -13,6 +13,7 @@ ghost use Rattle.ext_update.specs.Writing.{file_top};
 
 use crate::draft::{Arrival, CurrentLink, Draft};
 use crate::link_texts::link_text;
+use ext_attributes::{Attributes, FileAttributes, Owner};
 use ext_host::{DepotPath, Held, from_depot};
 use ext_lines::allocated;
 use ext_resources::Content;
@@ -108,7 +109,7 @@ fn file_piece(
     let body = DepotPath::new(alloc, source)?;
     Ok(Piece {
         path,
-        top: Entry::File(mode, Held::depot(stamp, body)),
+        top: Entry::File(FileAttributes::of_mode(mode), Held::depot(stamp, body)),
         part: Tree::new(alloc),
     })
 }
@@ -125,7 +126,7 @@ fn directory_piece(
     ensures new { IfOk result IsNewPiece }
     ensures err { IfErr result (IsLongPath (¬ AreFilesFit (from_depot source.now tree))) }
 {
-    let top = Entry::Dir(directory_mode());
+    let top = Entry::Dir(Attributes::of_mode(directory_mode()));
     let part = from_depot(alloc, tree, source)?;
     Ok(Piece { path, top, part })
 }
@@ -172,7 +173,7 @@ fn link_piece(alloc: Global, link: CurrentLink) -> Result<Piece<Held>, TreeErr>
     } = link;
     Ok(Piece {
         path,
-        top: Entry::Link(text),
+        top: Entry::Link(Owner::root(), text),
         part: Tree::new(alloc),
     })
 }

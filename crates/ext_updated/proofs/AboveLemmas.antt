@@ -17,7 +17,7 @@ use Rattle.ext_tree.specs.Graft.{made}
 use Rattle.ext_tree.specs.Refusals.{is_root}
 use Rattle.ext_tree.specs.Tree.{Entries, lookup}
 use Rattle.ext_updated.specs.Pieces.{is_above, paths_of}
-use Rattle.ext_updated.specs.Putting.{is_beside, lacking_above, lacking_last, lacking_once, lacks, made_at, prefixes, prefixes_from}
+use Rattle.ext_updated.specs.Putting.{lacking_above, lacking_once, lacks, made_at, prefixes, prefixes_from}
 use Rattle.ext_updated.specs.declared.piece.Piece.{Piece}
 use Rattle.ext_updated.proofs.ClashLemmas.{among_filter}
 

@@ -1,6 +1,7 @@
 -- Manifests over many changes of a host, and what they say.
-use Rattle.std.proofs.Common.{◌≡◌, ℕ, true, cond, [], ◌∷◌, drop, length, None, Some, sym, ap, subst, ◌∙◌}
+use Rattle.std.proofs.Common.{◌≡◌, true, cond, [], ◌∷◌, drop, length, None, Some, sym, ap, subst, ◌∙◌}
 use Rattle.std.specs.Prelude.{IsTrue, Contains}
+use Rattle.ext_attributes.specs.Attributes.{OfFile}
 use Rattle.ext_text.specs.Path.{is_prefix}
 use Rattle.ext_text.proofs.ForCallers.{all_weaker}
 use Rattle.ext_tree.specs.Tree.{lookup}
@@ -36,10 +37,10 @@ added_kept host last (first ∷ before) after change manifest lead at alone = ad
 pub files_decide : FilesDecide
 files_decide old new manifest same has = record {
   each = all_weaker
-      (λ (item : Item). IsTrue (is_prefix manifest.path item.path) × ((mode : ℕ) × (held : HeldFile) × (old item.path ≡ Some (File mode held)) × (held.stamp.digest ≡ item.digest)))
-      (λ item. IsTrue (is_prefix manifest.path item.path) × ((mode : ℕ) × (held : HeldFile) × (new item.path ≡ Some (File mode held)) × (held.stamp.digest ≡ item.digest)))
+      (λ (item : Item). IsTrue (is_prefix manifest.path item.path) × ((attributes : OfFile) × (held : HeldFile) × (old item.path ≡ Some (File attributes held)) × (held.stamp.digest ≡ item.digest)))
+      (λ item. IsTrue (is_prefix manifest.path item.path) × ((attributes : OfFile) × (held : HeldFile) × (new item.path ≡ Some (File attributes held)) × (held.stamp.digest ≡ item.digest)))
       (λ item is. (is.0, (is.1.0, is.1.1, sym (same item.path is.0) ∙ is.1.2, is.1.3))) manifest.items has.each;
-  whole = λ path mode held below at. has.whole path mode held below (same path below ∙ at);
+  whole = λ path attributes held below at. has.whole path attributes held below (same path below ∙ at);
 }
 
 pub manifests_of_pieces : ManifestsOfPieces

@@ -9,6 +9,7 @@ use Rattle.std.specs.Ordering.{eq_by_cmp, is_eq, is_lt, ordering_reverse}
 use Rattle.std.specs.declared.cmp.Ordering.TheVariants.{Less}
 use Rattle.std.proofs.lemmas.Bool.{and_from, and_parts, false≢true, true≢false}
 use Rattle.std.proofs.lemmas.List.Elements.{Contains-append_left, Contains-append_right}
+use Rattle.ext_attributes.specs.Attributes.{OfFile}
 use Rattle.ext_text.specs.Order.{paths_total}
 use Rattle.ext_text.specs.Path.{is_prefix, is_proper_prefix, path_cmp}
 use Rattle.ext_text.proofs.ForCallers.{all_append, all_both, all_weaker, is_less, prefix_both, prefix_less, prefix_self, proper_first, same_path}
@@ -30,17 +31,17 @@ Paths items = map (λ item. item.path) items
 -- the order of the items
 
 after_more : (x p : List (List ℕ)) (e : Entry HeldFile) (items : List Item) → path_cmp x p ≡ Less → AllByRecursion (λ y. path_cmp x y ≡ Less) (Paths items) → AllByRecursion (λ y. path_cmp x y ≡ Less) (Paths (file_item p e ++ items))
-after_more x p (Dir mode) items here later = later
-after_more x p (Opaque mode) items here later = later
-after_more x p (File mode held) items here later = (here, later)
-after_more x p (Link target) items here later = later
+after_more x p (Dir attributes) items here later = later
+after_more x p (Opaque attributes) items here later = later
+after_more x p (File attributes held) items here later = (here, later)
+after_more x p (Link owner target) items here later = later
 after_more x p Hide items here later = later
 
 ascending_more : (p : List (List ℕ)) (e : Entry HeldFile) (items : List Item) → AllByRecursion (λ y. path_cmp p y ≡ Less) (Paths items) → AreAscending path_cmp (Paths items) → AreAscending path_cmp (Paths (file_item p e ++ items))
-ascending_more p (Dir mode) items after up = up
-ascending_more p (Opaque mode) items after up = up
-ascending_more p (File mode held) items after up = (after, up)
-ascending_more p (Link target) items after up = up
+ascending_more p (Dir attributes) items after up = up
+ascending_more p (Opaque attributes) items after up = up
+ascending_more p (File attributes held) items after up = (after, up)
+ascending_more p (Link owner target) items after up = up
 ascending_more p Hide items after up = up
 
 files_after : (x : List (List ℕ)) (es : Entries HeldFile) → below_all path_cmp x es ≡ true → AllByRecursion (λ y. path_cmp x y ≡ Less) (Paths (file_items es))
@@ -71,17 +72,17 @@ all_below p (e ∷ es) all = and_from _ _ (ap is_lt (proper_less p e.0 all.0)) (
 module _ (es : Entries HeldFile) (path : List (List ℕ)) where
   -- a file at or below the path
   abbrev IsFileThere : Item → Type 0
-  IsFileThere item = IsTrue (is_prefix path item.path) × ((mode : ℕ) × (held : HeldFile) × (lookup es item.path ≡ Some (File mode held)) × (held.stamp.digest ≡ item.digest))
+  IsFileThere item = IsTrue (is_prefix path item.path) × ((attributes : OfFile) × (held : HeldFile) × (lookup es item.path ≡ Some (File attributes held)) × (held.stamp.digest ≡ item.digest))
 
   -- an entry of the tree at or below the path
   abbrev IsThere : List (List ℕ) × Entry HeldFile → Type 0
   IsThere e = IsTrue (is_prefix path e.0) × (lookup es e.0 ≡ Some e.1)
 
   file_there : (p : List (List ℕ)) (e : Entry HeldFile) → IsThere (p, e) → AllByRecursion IsFileThere (file_item p e)
-  file_there p (Dir mode) there = tt
-  file_there p (Opaque mode) there = tt
-  file_there p (File mode held) there = ((there.0, (mode, held, there.1, refl)), tt)
-  file_there p (Link target) there = tt
+  file_there p (Dir attributes) there = tt
+  file_there p (Opaque attributes) there = tt
+  file_there p (File attributes held) there = ((there.0, (attributes, held, there.1, refl)), tt)
+  file_there p (Link owner target) there = tt
   file_there p Hide there = tt
 
   files_there : (fs : Entries HeldFile) → AllByRecursion IsThere fs → AllByRecursion IsFileThere (file_items fs)
@@ -94,25 +95,25 @@ module _ (es : Entries HeldFile) (path : List (List ℕ)) where
 
 -- and each file is an item
 
-file_contained : (p q : List (List ℕ)) (e : Entry HeldFile) (mode : ℕ) (held : HeldFile) → q ≡ p → e ≡ File mode held → Contains (file_item p e) (record { path = q; digest = held.stamp.digest })
-file_contained p q e mode held same is =
+file_contained : (p q : List (List ℕ)) (e : Entry HeldFile) (attributes : OfFile) (held : HeldFile) → q ≡ p → e ≡ File attributes held → Contains (file_item p e) (record { path = q; digest = held.stamp.digest })
+file_contained p q e attributes held same is =
     subst (λ x. Contains (file_item p x) (record { path = q; digest = held.stamp.digest })) (sym is)
-    (subst (λ x. Contains (file_item x (File mode held)) (record { path = q; digest = held.stamp.digest })) same (0, omega arith, refl))
+    (subst (λ x. Contains (file_item x (File attributes held)) (record { path = q; digest = held.stamp.digest })) same (0, omega arith, refl))
 
 same_entry : (e f : Entry HeldFile) → Some e ≡ Some f → e ≡ f
 same_entry e f is = cc is
 
-files_contained : (fs : Entries HeldFile) (q : List (List ℕ)) (mode : ℕ) (held : HeldFile) → lookup fs q ≡ Some (File mode held) → Contains (file_items fs) (record { path = q; digest = held.stamp.digest })
-files_contained [] q mode held at = absurd (false≢true (ap is_some at))
-files_contained (f ∷ fs) q mode held at =
-    elim (eq_by_cmp path_cmp q f.0) as (λ b. eq_by_cmp path_cmp q f.0 ≡ b → cond b (Some f.1) (lookup fs q) ≡ Some (File mode held) → Contains (file_item f.0 f.1 ++ file_items fs) (record { path = q; digest = held.stamp.digest })) [
-      | true ↦ λ tied here. Contains-append_left (file_item f.0 f.1) (file_items fs) _ (file_contained f.0 q f.1 mode held (same_path q f.0 tied) (same_entry f.1 (File mode held) here))
-      | false ↦ λ _ later. Contains-append_right (file_item f.0 f.1) (file_items fs) _ (files_contained fs q mode held later)
+files_contained : (fs : Entries HeldFile) (q : List (List ℕ)) (attributes : OfFile) (held : HeldFile) → lookup fs q ≡ Some (File attributes held) → Contains (file_items fs) (record { path = q; digest = held.stamp.digest })
+files_contained [] q attributes held at = absurd (false≢true (ap is_some at))
+files_contained (f ∷ fs) q attributes held at =
+    elim (eq_by_cmp path_cmp q f.0) as (λ b. eq_by_cmp path_cmp q f.0 ≡ b → cond b (Some f.1) (lookup fs q) ≡ Some (File attributes held) → Contains (file_item f.0 f.1 ++ file_items fs) (record { path = q; digest = held.stamp.digest })) [
+      | true ↦ λ tied here. Contains-append_left (file_item f.0 f.1) (file_items fs) _ (file_contained f.0 q f.1 attributes held (same_path q f.0 tied) (same_entry f.1 (File attributes held) here))
+      | false ↦ λ _ later. Contains-append_right (file_item f.0 f.1) (file_items fs) _ (files_contained fs q attributes held later)
     ] refl at
 
-top_contained : (p q : List (List ℕ)) (top : Option (Entry HeldFile)) (mode : ℕ) (held : HeldFile) → q ≡ p → top ≡ Some (File mode held) → Contains (top_items p top) (record { path = q; digest = held.stamp.digest })
-top_contained p q None mode held same is = absurd (false≢true (ap is_some is))
-top_contained p q (Some e) mode held same is = file_contained p q e mode held same (same_entry e (File mode held) is)
+top_contained : (p q : List (List ℕ)) (top : Option (Entry HeldFile)) (attributes : OfFile) (held : HeldFile) → q ≡ p → top ≡ Some (File attributes held) → Contains (top_items p top) (record { path = q; digest = held.stamp.digest })
+top_contained p q None attributes held same is = absurd (false≢true (ap is_some is))
+top_contained p q (Some e) attributes held same is = file_contained p q e attributes held same (same_entry e (File attributes held) is)
 
 -- the manifest
 
@@ -142,7 +143,7 @@ manifest_is es path manifest below_sorted path_is is = record {
   items = record {
     each = subst (λ p. AllByRecursion (IsFileThere es p) manifest.items) (sym path_is) (subst (λ items. AllByRecursion (IsFileThere es path) items) (sym is)
         (all_append (IsFileThere es path) (top_items path (lookup es path)) (file_items below) (top_there es path (lookup es path) refl) (files_there es path below there)));
-    whole = λ q mode held prefix at. subst (λ items. Contains items (record { path = q; digest = held.stamp.digest })) (sym is) (one q mode held (subst (λ p. is_prefix p q ≡ true) path_is prefix) at);
+    whole = λ q attributes held prefix at. subst (λ items. Contains items (record { path = q; digest = held.stamp.digest })) (sym is) (one q attributes held (subst (λ p. is_prefix p q ≡ true) path_is prefix) at);
   };
 }
   where
@@ -159,15 +160,15 @@ manifest_is es path manifest below_sorted path_is is = record {
           sym (lookup_where (is_proper_prefix path) e.0 es ∙ ap (λ b. cond b (lookup es e.0) None) both.0) ∙ both.1,
         )) below (all_both (λ (e : List (List ℕ) × Entry HeldFile). is_proper_prefix path e.0 ≡ true) (λ e. lookup below e.0 ≡ Some e.1) below proper (each_there below below_sorted))
 
-    one : (q : List (List ℕ)) (mode : ℕ) (held : HeldFile) → is_prefix path q ≡ true → lookup es q ≡ Some (File mode held) → Contains (top_items path (lookup es path) ++ file_items below) (record { path = q; digest = held.stamp.digest })
-    one q mode held prefix at =
+    one : (q : List (List ℕ)) (attributes : OfFile) (held : HeldFile) → is_prefix path q ≡ true → lookup es q ≡ Some (File attributes held) → Contains (top_items path (lookup es path) ++ file_items below) (record { path = q; digest = held.stamp.digest })
+    one q attributes held prefix at =
         elim (is_prefix q path) as (λ b. is_prefix q path ≡ b → Contains (top_items path (lookup es path) ++ file_items below) (record { path = q; digest = held.stamp.digest })) [
           | true ↦ λ back.
               let same = prefix_both q path back prefix in
-              Contains-append_left (top_items path (lookup es path)) (file_items below) _ (top_contained path q (lookup es path) mode held same (ap (lookup es) (sym same) ∙ at))
+              Contains-append_left (top_items path (lookup es path)) (file_items below) _ (top_contained path q (lookup es path) attributes held same (ap (lookup es) (sym same) ∙ at))
           | false ↦ λ out.
               Contains-append_right (top_items path (lookup es path)) (file_items below) _
-              (files_contained below q mode held (lookup_where (is_proper_prefix path) q es ∙ ap (λ b. cond b (lookup es q) None) (and_from _ _ prefix (ap not out)) ∙ at))
+              (files_contained below q attributes held (lookup_where (is_proper_prefix path) q es ∙ ap (λ b. cond b (lookup es q) None) (and_from _ _ prefix (ap not out)) ∙ at))
         ] refl
 
 -- the items, step by step

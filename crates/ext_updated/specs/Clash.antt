@@ -13,10 +13,10 @@ use Rattle.ext_updated.specs.declared.items.Items.{Items}
 
 -- a symbolic link
 abbrev pub is_link : {C : Type 0} → Entry C → Bool
-is_link (Dir mode) = false
-is_link (Opaque mode) = false
-is_link (File mode content) = false
-is_link (Link target) = true
+is_link (Dir attributes) = false
+is_link (Opaque attributes) = false
+is_link (File attributes content) = false
+is_link (Link owner target) = true
 is_link Hide = false
 
 -- something other than a link stands there

@@ -19,10 +19,10 @@ pub record IsManifestAt (es : Entries HeldFile) (path : List (List ℕ)) (manife
 
 -- a file as an item, and nothing for what is none
 abbrev pub file_item : List (List ℕ) → Entry HeldFile → List Item
-file_item path (Dir mode) = []
-file_item path (Opaque mode) = []
-file_item path (File mode held) = record { path = path; digest = held.stamp.digest } ∷ []
-file_item path (Link target) = []
+file_item path (Dir attributes) = []
+file_item path (Opaque attributes) = []
+file_item path (File attributes held) = record { path = path; digest = held.stamp.digest } ∷ []
+file_item path (Link owner target) = []
 file_item path Hide = []
 
 -- the file at the path, if there is one

@@ -132,7 +132,7 @@ fn is_non_link<C>(entry: Option<&Entry<C>>) -> bool
 fn is_link<C>(entry: &Entry<C>) -> bool
     ensures { result ≡ is_link entry.now }
 {
-    matches!(entry, Entry::Link(_))
+    matches!(entry, Entry::Link(_, _))
 }
 
 // Appends the path, if there is one.

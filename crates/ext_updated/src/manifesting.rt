@@ -61,6 +61,6 @@ fn append_file(items: &mut Vec<Item>, path: &Path, entry: &Entry<Held>) -> Resul
             items.push(Item { path, digest })?;
             Ok(())
         }
-        Entry::Dir(_) | Entry::Opaque(_) | Entry::Link(_) | Entry::Hide => Ok(()),
+        Entry::Dir(_) | Entry::Opaque(_) | Entry::Link(_, _) | Entry::Hide => Ok(()),
     }
 }

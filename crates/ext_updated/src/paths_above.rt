@@ -9,6 +9,7 @@ ghost use Rattle.ext_updated.specs.Pieces.{is_above};
 ghost use Rattle.ext_updated.specs.Putting.{is_beside, lacking_last, lacking_once, lacks, made_at, prefixes};
 
 use crate::piece::Piece;
+use ext_attributes::Attributes;
 use ext_text::{Mode, OutOfMemory, Path, PathRef, SortedPaths};
 use ext_tree::{Entry, Tree};
 use std::alloc::Global;
@@ -128,7 +129,7 @@ fn directory_at<C>(path: &Path) -> Result<(Path, Entry<C>), OutOfMemory>
     ensures { IfOk result (λ pair. pair ≡ (path.now, made)) }
 {
     match Mode::new(MADE) {
-        Some(mode) => Ok((path.copy()?, Entry::Dir(mode))),
+        Some(mode) => Ok((path.copy()?, Entry::Dir(Attributes::of_mode(mode)))),
         None => unreachable!(),
     }
 }

@@ -6,6 +6,7 @@ use Rattle.std.specs.Cmp.{tied_itself}
 use Rattle.std.specs.Ordering.{eq_by_cmp, is_eq}
 use Rattle.std.specs.FinMap.{is_sorted}
 use Rattle.std.specs.FinMap.Entries.{below_all}
+use Rattle.ext_attributes.specs.Attributes.{OfFile}
 use Rattle.ext_text.specs.Order.{paths_total}
 use Rattle.ext_text.specs.Path.{path_cmp}
 use Rattle.ext_text.proofs.ForCallers.{same_path}
@@ -47,24 +48,24 @@ module _ {C : Type 0} (P : Entry C → Type 0) where
 
 -- an entry in its ranges is in them as it shows
 pub shown_writable : {C : Type 0} (form : LineForm C) (e : Entry C) → IsWritable form e → IsWritable form (as_shown e)
-shown_writable form (Dir mode) h = h
-shown_writable form (Opaque mode) h = h
-shown_writable form (File mode content) h = h
-shown_writable form (Link target) h = h
+shown_writable form (Dir attributes) h = h
+shown_writable form (Opaque attributes) h = h
+shown_writable form (File attributes content) h = h
+shown_writable form (Link owner target) h = h
 shown_writable form Hide h = h
 
 -- what shows as a file is that file
-pub file_shown : {C : Type 0} (e : Entry C) (mode : ℕ) (content : C) → File mode content ≡ as_shown e → e ≡ File mode content
-file_shown (Dir m) mode content is = absurd (false≢true (sym (ap is_file is)))
-file_shown (Opaque m) mode content is = absurd (false≢true (sym (ap is_file is)))
-file_shown (File m c) mode content is = sym is
-file_shown (Link target) mode content is = absurd (false≢true (sym (ap is_file is)))
-file_shown Hide mode content is = absurd (false≢true (sym (ap is_file is)))
+pub file_shown : {C : Type 0} (e : Entry C) (attributes : OfFile) (content : C) → File attributes content ≡ as_shown e → e ≡ File attributes content
+file_shown (Dir m) attributes content is = absurd (false≢true (sym (ap is_file is)))
+file_shown (Opaque m) attributes content is = absurd (false≢true (sym (ap is_file is)))
+file_shown (File m c) attributes content is = sym is
+file_shown (Link owner target) attributes content is = absurd (false≢true (sym (ap is_file is)))
+file_shown Hide attributes content is = absurd (false≢true (sym (ap is_file is)))
 
 -- what is no whiteout shows as none, and as no opaque directory
 pub shown_plain : {C : Type 0} (e : Entry C) → not (is_hide e) ≡ true → (not (is_hide (as_shown e)) ≡ true) × (not (is_opaque (as_shown e)) ≡ true)
-shown_plain (Dir mode) h = (refl, refl)
-shown_plain (Opaque mode) h = (refl, refl)
-shown_plain (File mode content) h = (refl, refl)
-shown_plain (Link target) h = (refl, refl)
+shown_plain (Dir attributes) h = (refl, refl)
+shown_plain (Opaque attributes) h = (refl, refl)
+shown_plain (File attributes content) h = (refl, refl)
+shown_plain (Link owner target) h = (refl, refl)
 shown_plain Hide h = absurd (false≢true h)

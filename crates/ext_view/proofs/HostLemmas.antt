@@ -6,6 +6,7 @@ use Rattle.std.proofs.lemmas.Bool.{false≢true, true≢false}
 use Rattle.std.proofs.lemmas.List.Folds.{list_any-append}
 use Rattle.std.specs.List.{AllByRecursion, flat_map}
 use Rattle.std.specs.Ordering.{eq_by_cmp}
+use Rattle.ext_attributes.specs.Attributes.{OfFile}
 use Rattle.ext_lines.specs.ByteOrder.{bytes_cmp}
 use Rattle.ext_text.specs.Path.{is_prefix}
 use Rattle.ext_text.specs.declared.extension.Extension.{Extension}
@@ -189,10 +190,10 @@ only_tree : (es tree : Entries HeldFile) → Contains (es ∷ []) tree → tree 
 only_tree es tree (zero, lt, same) = sym same
 only_tree es tree (suc k, lt, same) = absurd (omega arith)
 
-tree_drawn : (host : Host) (es : Entries HeldFile) → ((p : List (List ℕ)) (mode : ℕ) (held : HeldFile) → lookup es p ≡ Some (File mode held) → HasHeld host held) → AreDrawnFrom (trees_of host) (es ∷ [])
+tree_drawn : (host : Host) (es : Entries HeldFile) → ((p : List (List ℕ)) (attributes : OfFile) (held : HeldFile) → lookup es p ≡ Some (File attributes held) → HasHeld host held) → AreDrawnFrom (trees_of host) (es ∷ [])
 tree_drawn host es comes held home kept file =
     let f = subst (λ tree. HasFile tree held) (only_tree es file.tree file.among) file.file in
-    elim (comes f.path f.mode held f.stands) [
+    elim (comes f.path f.attributes held f.stands) [
       | inl seen ↦ record { tree = host.root; among = (zero, omega arith, refl); file = seen }
       | inr under ↦ record { tree = host.lower; among = (suc zero, omega arith, refl); file = under }
     ]
@@ -208,13 +209,13 @@ all_among P (x ∷ xs) each = (each x (zero, omega arith, refl), all_among P xs 
 abbrev pub past_trees : Host → List (Entries HeldFile)
 past_trees host = flat_map (λ (past : Past). past.root ∷ past.lower ∷ []) host.past
 
-trees_drawn : (host : Host) (root lower : Entries HeldFile) → ((p : List (List ℕ)) (mode : ℕ) (held : HeldFile) → lookup root p ≡ Some (File mode held) → HasHeld host held) → ((p : List (List ℕ)) (mode : ℕ) (held : HeldFile) → lookup lower p ≡ Some (File mode held) → HasHeld host held) → AreDrawnFrom (trees_of host) (root ∷ lower ∷ flat_map (λ past. past.root ∷ past.lower ∷ []) host.past)
+trees_drawn : (host : Host) (root lower : Entries HeldFile) → ((p : List (List ℕ)) (attributes : OfFile) (held : HeldFile) → lookup root p ≡ Some (File attributes held) → HasHeld host held) → ((p : List (List ℕ)) (attributes : OfFile) (held : HeldFile) → lookup lower p ≡ Some (File attributes held) → HasHeld host held) → AreDrawnFrom (trees_of host) (root ∷ lower ∷ flat_map (λ past. past.root ∷ past.lower ∷ []) host.past)
 trees_drawn host root lower root_comes lower_comes =
     drawn_one_by_one (trees_of host) (root ∷ lower ∷ past_trees host) (tree_drawn host root root_comes, (tree_drawn host lower lower_comes, all_among (λ es. AreDrawnFrom (trees_of host) (es ∷ [])) (past_trees host) past_drawn))
   where
     past_drawn : (es : Entries HeldFile) → Contains (past_trees host) es → AreDrawnFrom (trees_of host) (es ∷ [])
     past_drawn es among = trees_are_drawn (trees_of host) (es ∷ []) (one_more host.root es (host.lower ∷ (past_trees host)) (one_more host.lower es (past_trees host) among), tt)
 
-pub drawn_with : (class : Extension) (host : Host) (names : Option (List (List ℕ))) (root lower : Entries HeldFile) → ((p : List (List ℕ)) (mode : ℕ) (held : HeldFile) → lookup root p ≡ Some (File mode held) → HasHeld host held) → ((p : List (List ℕ)) (mode : ℕ) (held : HeldFile) → lookup lower p ≡ Some (File mode held) → HasHeld host held) → IsDrawnFrom host (with_view class names root lower host)
+pub drawn_with : (class : Extension) (host : Host) (names : Option (List (List ℕ))) (root lower : Entries HeldFile) → ((p : List (List ℕ)) (attributes : OfFile) (held : HeldFile) → lookup root p ≡ Some (File attributes held) → HasHeld host held) → ((p : List (List ℕ)) (attributes : OfFile) (held : HeldFile) → lookup lower p ≡ Some (File attributes held) → HasHeld host held) → IsDrawnFrom host (with_view class names root lower host)
 drawn_with Sysext host names root lower root_comes lower_comes = trees_drawn host root lower root_comes lower_comes
 drawn_with Confext host names root lower root_comes lower_comes = trees_drawn host root lower root_comes lower_comes

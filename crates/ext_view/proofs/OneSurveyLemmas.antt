@@ -29,7 +29,7 @@ use Rattle.ext_view.specs.Image.{HasReleaseFile}
 use Rattle.ext_view.specs.Laws.{OneSurvey, RefreshGivesUnmergeThenMerge, TellsAll, host_after}
 use Rattle.ext_view.specs.Matched.{AreMatched}
 use Rattle.ext_view.specs.Merging.{IsRefreshed, PlansView, Refreshes}
-use Rattle.ext_view.specs.Surveying.{HasHostRelease, IsHostRelease, IsItemOf, IsJudged, IsKindOf, IsSurveyOf, MakesOf}
+use Rattle.ext_view.specs.Surveying.{HasHostRelease, IsHostRelease, IsItemOf, IsJudged, IsKindOf, MakesOf}
 use Rattle.ext_view.specs.View.{chosen, names_of}
 use Rattle.ext_view.specs.declared.outcome.Merge.{Merge}
 use Rattle.ext_view.specs.declared.surveyed.SurveyItem.{SurveyItem}

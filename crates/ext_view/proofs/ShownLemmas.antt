@@ -1,5 +1,5 @@
 -- What a host shows at the hierarchies of a class that is not merged is its base.
-use Rattle.std.proofs.Common.{◌≡◌, ℕ, Bool, true, false, cond, ◌||◌, List, Option, Some, None, is_some, refl, ap, ◌∙◌}
+use Rattle.std.proofs.Common.{◌≡◌, ℕ, true, false, cond, ◌||◌, List, Option, Some, None, is_some, refl, ap, ◌∙◌}
 use Rattle.std.proofs.lemmas.Bool.{true≢false}
 use Rattle.ext_text.specs.declared.extension.Extension.{Extension}
 use Rattle.ext_tree.specs.Tree.{lookup}
@@ -7,7 +7,7 @@ use Rattle.ext_host.specs.Host.{base_at, hierarchies_in, is_in, merged_names, pr
 use Rattle.ext_host.specs.Valid.{IsValidHost}
 use Rattle.ext_host.specs.declared.host.Host.{Host}
 use Rattle.ext_view.specs.Hierarchies.{hierarchies_at, is_merged}
-use Rattle.ext_view.proofs.HostLemmas.{in_merged, in_other, in_own, merged_either, other_apart}
+use Rattle.ext_view.proofs.HostLemmas.{in_other, merged_either, other_apart}
 
 -- no path is in the merged hierarchies of a class that is not merged
 in_none : (merged : Option (List (List ℕ))) (names : List (List ℕ)) (p : List (List ℕ)) → is_some merged ≡ false → is_in (where_merged merged names) p ≡ false

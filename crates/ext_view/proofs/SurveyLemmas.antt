@@ -118,8 +118,8 @@ surveys_of_base told old new host base class force (Err (errors.Limit which)) is
 
 -- a shelf that serves a host serves its base
 pub base_served : (serves : HeldFile → Bool) (host : Host) (base : Entries HeldFile) → ServesHost serves host → IsBase host base → ServesAll serves base
-base_served serves host base all is path mode held stands =
-    elim (is_in (merged_hierarchies (hierarchies_in host) (present host)) path) as (λ b. cond b (lookup host.lower path) (lookup host.root path) ≡ Some (File mode held) → serves held ≡ true) [
-      | true ↦ λ here. all.lower path mode held here
-      | false ↦ λ here. all.root path mode held here
+base_served serves host base all is path attributes held stands =
+    elim (is_in (merged_hierarchies (hierarchies_in host) (present host)) path) as (λ b. cond b (lookup host.lower path) (lookup host.root path) ≡ Some (File attributes held) → serves held ≡ true) [
+      | true ↦ λ here. all.lower path attributes held here
+      | false ↦ λ here. all.root path attributes held here
     ] (sym (is path) ∙ stands)

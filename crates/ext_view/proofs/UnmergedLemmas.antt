@@ -3,6 +3,7 @@ use Rattle.std.proofs.Common.{◌≡◌, ℕ, ◌+◌, ◌≤◌, true, false, c
 use mathlib.Core.Logic.{inl, inr}
 use Rattle.std.proofs.lemmas.Bool.{false≢true}
 use Rattle.std.specs.List.{sum_by}
+use Rattle.ext_attributes.specs.Attributes.{OfFile}
 use Rattle.ext_text.specs.declared.extension.Extension.{Extension}
 use Rattle.ext_tree.specs.Tree.{Entries, IsTree, IsTreeWithin, lookup}
 use Rattle.ext_tree.specs.EntryLine.{IsWritable}
@@ -129,18 +130,18 @@ module _ (class : Extension) (host : Host) where
                 ∙ valid.present.lower p (sym (ap is_some (own_lower p out)) ∙ there)
           ] refl
 
-      root_comes : (p : List (List ℕ)) (mode : ℕ) (held : HeldFile) → lookup unmerged_root p ≡ Some (File mode held) → HasHeld host held
-      root_comes p mode held stands =
+      root_comes : (p : List (List ℕ)) (attributes : OfFile) (held : HeldFile) → lookup unmerged_root p ≡ Some (File attributes held) → HasHeld host held
+      root_comes p attributes held stands =
           elim (is_in (hierarchies_at class host) p) as (λ b. is_in (hierarchies_at class host) p ≡ b → HasHeld host held) [
-            | true ↦ λ in_. inr (record { path = p; mode = mode; stands = sym (at_root p in_) ∙ stands })
-            | false ↦ λ out. inl (record { path = p; mode = mode; stands = sym (own_root p out) ∙ stands })
+            | true ↦ λ in_. inr (record { path = p; attributes = attributes; stands = sym (at_root p in_) ∙ stands })
+            | false ↦ λ out. inl (record { path = p; attributes = attributes; stands = sym (own_root p out) ∙ stands })
           ] refl
 
-      lower_comes : (p : List (List ℕ)) (mode : ℕ) (held : HeldFile) → lookup unmerged_lower p ≡ Some (File mode held) → HasHeld host held
-      lower_comes p mode held stands =
+      lower_comes : (p : List (List ℕ)) (attributes : OfFile) (held : HeldFile) → lookup unmerged_lower p ≡ Some (File attributes held) → HasHeld host held
+      lower_comes p attributes held stands =
           elim (is_in (hierarchies_at class host) p) as (λ b. is_in (hierarchies_at class host) p ≡ b → HasHeld host held) [
             | true ↦ λ in_. absurd (false≢true (sym (ap is_some (gone_lower p in_)) ∙ ap is_some stands))
-            | false ↦ λ out. inr (record { path = p; mode = mode; stands = sym (own_lower p out) ∙ stands })
+            | false ↦ λ out. inr (record { path = p; attributes = attributes; stands = sym (own_lower p out) ∙ stands })
           ] refl
 
       pub is_next : (next : Host) → next ≡ with_view class None unmerged_root unmerged_lower host → IsPlannedHost host next

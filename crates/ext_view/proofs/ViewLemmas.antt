@@ -5,6 +5,7 @@ use mathlib.Core.Logic.{inl, inr}
 use Rattle.std.proofs.lemmas.Bool.{false≢true}
 use Rattle.std.proofs.lemmas.List.{length-map}
 use Rattle.std.specs.List.{AllByRecursion, sum_by}
+use Rattle.ext_attributes.specs.Attributes.{OfFile}
 use Rattle.ext_text.specs.Order.{paths_total}
 use Rattle.ext_text.specs.Path.{path_cmp}
 use Rattle.ext_text.specs.declared.extension.Extension.{Extension}
@@ -167,11 +168,11 @@ module _ (class : Extension) (host : Host) (base : Entries HeldFile) (is_base : 
         | false ↦ λ here. all_at P host.root q e in_root here
       ] (sym (is_base.is_base q) ∙ stands)
 
-  base_held : (q : List (List ℕ)) (mode : ℕ) (held : HeldFile) → lookup base q ≡ Some (File mode held) → HasHeld host held
-  base_held q mode held stands =
-      elim (in_merged host q) as (λ b. cond b (lookup host.lower q) (lookup host.root q) ≡ Some (File mode held) → HasHeld host held) [
-        | true ↦ λ here. inr (record { path = q; mode = mode; stands = here })
-        | false ↦ λ here. inl (record { path = q; mode = mode; stands = here })
+  base_held : (q : List (List ℕ)) (attributes : OfFile) (held : HeldFile) → lookup base q ≡ Some (File attributes held) → HasHeld host held
+  base_held q attributes held stands =
+      elim (in_merged host q) as (λ b. cond b (lookup host.lower q) (lookup host.root q) ≡ Some (File attributes held) → HasHeld host held) [
+        | true ↦ λ here. inr (record { path = q; attributes = attributes; stands = here })
+        | false ↦ λ here. inl (record { path = q; attributes = attributes; stands = here })
       ] (sym (is_base.is_base q) ∙ stands)
 
   module _ (valid : IsValidHost host) where
@@ -197,20 +198,20 @@ module _ (class : Extension) (host : Host) (base : Entries HeldFile) (is_base : 
               | false ↦ λ out. all_at (IsWritable held_form) host.lower p e valid.present.limits.lower (sym (trees.lower_outside p out) ∙ stands)
             ] refl
 
-    root_comes : (p : List (List ℕ)) (mode : ℕ) (held : HeldFile) → lookup root p ≡ Some (File mode held) → HasHeld host held
-    root_comes p mode held stands =
+    root_comes : (p : List (List ℕ)) (attributes : OfFile) (held : HeldFile) → lookup root p ≡ Some (File attributes held) → HasHeld host held
+    root_comes p attributes held stands =
         elim (is_in (hierarchies_at class host) p) as (λ b. is_in (hierarchies_at class host) p ≡ b → HasHeld host held) [
           | true ↦ λ in_.
-              let v = visible_of_base p (File mode held) (trees.visible p (File mode held) in_ stands) in
-              base_held v.1.0 mode held (v.1.1 ∙ ap Some (file_shown v.0 mode held v.2))
-          | false ↦ λ out. inl (record { path = p; mode = mode; stands = sym (trees.root_outside p out) ∙ stands })
+              let v = visible_of_base p (File attributes held) (trees.visible p (File attributes held) in_ stands) in
+              base_held v.1.0 attributes held (v.1.1 ∙ ap Some (file_shown v.0 attributes held v.2))
+          | false ↦ λ out. inl (record { path = p; attributes = attributes; stands = sym (trees.root_outside p out) ∙ stands })
         ] refl
 
-    lower_comes : (p : List (List ℕ)) (mode : ℕ) (held : HeldFile) → lookup lower p ≡ Some (File mode held) → HasHeld host held
-    lower_comes p mode held stands =
+    lower_comes : (p : List (List ℕ)) (attributes : OfFile) (held : HeldFile) → lookup lower p ≡ Some (File attributes held) → HasHeld host held
+    lower_comes p attributes held stands =
         elim (is_in (hierarchies_at class host) p) as (λ b. is_in (hierarchies_at class host) p ≡ b → HasHeld host held) [
-          | true ↦ λ in_. base_held p mode held (sym (trees.base_lower p in_) ∙ stands)
-          | false ↦ λ out. inr (record { path = p; mode = mode; stands = sym (trees.lower_outside p out) ∙ stands })
+          | true ↦ λ in_. base_held p attributes held (sym (trees.base_lower p in_) ∙ stands)
+          | false ↦ λ out. inr (record { path = p; attributes = attributes; stands = sym (trees.lower_outside p out) ∙ stands })
         ] refl
 
     module _ (names : List (List ℕ)) where

@@ -1,5 +1,6 @@
 -- The release file of an image, after systemd-sysext(8).
 use Rattle.std.specs.Prelude.{◌≡◌, ℕ, true, List, Option, Some, None}
+use Rattle.ext_attributes.specs.Attributes.{OfFile}
 use Rattle.ext_text.specs.declared.extension.Extension.{Extension}
 use Rattle.ext_tree.specs.Part.{part}
 use Rattle.ext_tree.specs.Tree.{Entries, lookup}
@@ -37,4 +38,4 @@ IsFileThere es (Some path) = is_file_at (lookup es path) ≡ true
 -- a file of this content is there
 abbrev pub IsContentThere : {C : Type 0} → Entries C → Option (List (List ℕ)) → C → Type 0
 IsContentThere es None content = ⊥
-IsContentThere es (Some path) content = (mode : ℕ) × (lookup es path ≡ Some (File mode content))
+IsContentThere es (Some path) content = (attributes : OfFile) × (lookup es path ≡ Some (File attributes content))

@@ -1,6 +1,6 @@
 -- The view of a class, after systemd-sysext(8): what the chosen images show over the base at and below the hierarchies of
 -- their class. That the view is a tree which is written and kept, and not a mount, and that an image shows with all that it
--- has at a hierarchy, the directory's own mode and marks too, is this project's own choice.
+-- has at a hierarchy, the directory's own attributes and marks too, is this project's own choice.
 use Rattle.std.specs.Prelude.{◌≡◌, ℕ, Bool, true, false, List, [], ◌∷◌, ◌++◌, map, reverse, IsTrue, Option, Some, None}
 use Rattle.std.specs.List.{filter}
 use Rattle.ext_text.specs.declared.extension.Extension.{Extension}

@@ -42,7 +42,7 @@ fn held_of(entry: &Entry<Held>) -> Option<&Held>
 {
     match entry {
         Entry::File(_, held) => Some(held),
-        Entry::Dir(_) | Entry::Opaque(_) | Entry::Link(_) | Entry::Hide => None,
+        Entry::Dir(_) | Entry::Opaque(_) | Entry::Link(_, _) | Entry::Hide => None,
     }
 }
 

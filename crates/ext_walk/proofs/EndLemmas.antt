@@ -21,10 +21,10 @@ use Rattle.ext_walk.proofs.WalkLemmas.{from_some, no_some, one_end, step_idle, s
 
 directory_stands : {C : Type 0} (o : Option (Entry C)) → is_directory_at o ≡ true → is_standing o ≡ true
 directory_stands None is = absurd (false≢true is)
-directory_stands (Some (Dir mode)) is = refl
-directory_stands (Some (Opaque mode)) is = refl
-directory_stands (Some (File mode content)) is = absurd (false≢true is)
-directory_stands (Some (Link target)) is = absurd (false≢true is)
+directory_stands (Some (Dir attributes)) is = refl
+directory_stands (Some (Opaque attributes)) is = refl
+directory_stands (Some (File attributes content)) is = absurd (false≢true is)
+directory_stands (Some (Link owner target)) is = absurd (false≢true is)
 directory_stands (Some Hide) is = absurd (false≢true is)
 
 directory_end : {C : Type 0} (es : Entries C) (p : List (List ℕ)) → is_directory_or_root es p ≡ true → is_end es p ≡ true
@@ -61,10 +61,10 @@ module _ {C : Type 0} (es : Entries C) (tree : IsTree es) where
 
   entered : (o : Option (Entry C)) (at : List (List ℕ)) (name : List ℕ) (left : List (List ℕ)) (links : ℕ) → lookup es (at ++ name ∷ []) ≡ o → is_end es at ≡ true → may_be es (enter o at name left links)
   entered None at name left links is placed = tt
-  entered (Some (Dir mode)) at name left links is placed = child_end es at name (ap is_standing is)
-  entered (Some (Opaque mode)) at name left links is placed = child_end es at name (ap is_standing is)
-  entered (Some (File mode content)) at name left links is placed = child_end es at name (ap is_standing is)
-  entered (Some (Link target)) at name left links is placed = followed target at left links placed
+  entered (Some (Dir attributes)) at name left links is placed = child_end es at name (ap is_standing is)
+  entered (Some (Opaque attributes)) at name left links is placed = child_end es at name (ap is_standing is)
+  entered (Some (File attributes content)) at name left links is placed = child_end es at name (ap is_standing is)
+  entered (Some (Link owner target)) at name left links is placed = followed target at left links placed
   entered (Some Hide) at name left links is placed = tt
 
   stepped : (at left : List (List ℕ)) (links : ℕ) → is_end es at ≡ true → may_be es (step es (walk at left links))
@@ -142,19 +142,19 @@ module _ {C : Type 0} (es : Entries C) (image at here : List (List ℕ)) (is : h
       step_into (part image es) at name left links (tree_part image es tree) plain below ∙ ap (λ o. enter o at name left links) (child_part name ∙ none)
 
   pub turns_some : (name : List ℕ) (path : List (List ℕ)) (e : Entry C) (turn : Turn) → IsTree es → is_idle name ≡ false → is_up name ≡ false → path ≡ here ++ name ∷ [] → lookup es (here ++ name ∷ []) ≡ Some e → TurnsTo path e turn → Turns es image at name turn
-  turns_some name path (Dir mode) (Moved new) tree plain below named found to = (at ++ name ∷ [], to ∙ named ∙ child_names name, λ left links. step_into (part image es) at name left links (tree_part image es tree) plain below ∙ ap (λ o. enter o at name left links) (child_part name ∙ found))
-  turns_some name path (Dir mode) (Met target) tree plain below named found to = absurd to
-  turns_some name path (Dir mode) Barred tree plain below named found to = absurd to
-  turns_some name path (Opaque mode) (Moved new) tree plain below named found to = (at ++ name ∷ [], to ∙ named ∙ child_names name, λ left links. step_into (part image es) at name left links (tree_part image es tree) plain below ∙ ap (λ o. enter o at name left links) (child_part name ∙ found))
-  turns_some name path (Opaque mode) (Met target) tree plain below named found to = absurd to
-  turns_some name path (Opaque mode) Barred tree plain below named found to = absurd to
-  turns_some name path (File mode content) (Moved new) tree plain below named found to = (at ++ name ∷ [], to ∙ named ∙ child_names name, λ left links. step_into (part image es) at name left links (tree_part image es tree) plain below ∙ ap (λ o. enter o at name left links) (child_part name ∙ found))
-  turns_some name path (File mode content) (Met target) tree plain below named found to = absurd to
-  turns_some name path (File mode content) Barred tree plain below named found to = absurd to
-  turns_some name path (Link text) (Moved new) tree plain below named found to = absurd to
-  turns_some name path (Link text) (Met target) tree plain below named found to = λ left links.
+  turns_some name path (Dir attributes) (Moved new) tree plain below named found to = (at ++ name ∷ [], to ∙ named ∙ child_names name, λ left links. step_into (part image es) at name left links (tree_part image es tree) plain below ∙ ap (λ o. enter o at name left links) (child_part name ∙ found))
+  turns_some name path (Dir attributes) (Met target) tree plain below named found to = absurd to
+  turns_some name path (Dir attributes) Barred tree plain below named found to = absurd to
+  turns_some name path (Opaque attributes) (Moved new) tree plain below named found to = (at ++ name ∷ [], to ∙ named ∙ child_names name, λ left links. step_into (part image es) at name left links (tree_part image es tree) plain below ∙ ap (λ o. enter o at name left links) (child_part name ∙ found))
+  turns_some name path (Opaque attributes) (Met target) tree plain below named found to = absurd to
+  turns_some name path (Opaque attributes) Barred tree plain below named found to = absurd to
+  turns_some name path (File attributes content) (Moved new) tree plain below named found to = (at ++ name ∷ [], to ∙ named ∙ child_names name, λ left links. step_into (part image es) at name left links (tree_part image es tree) plain below ∙ ap (λ o. enter o at name left links) (child_part name ∙ found))
+  turns_some name path (File attributes content) (Met target) tree plain below named found to = absurd to
+  turns_some name path (File attributes content) Barred tree plain below named found to = absurd to
+  turns_some name path (Link owner text) (Moved new) tree plain below named found to = absurd to
+  turns_some name path (Link owner text) (Met target) tree plain below named found to = λ left links.
       step_into (part image es) at name left links (tree_part image es tree) plain below ∙ ap (λ o. enter o at name left links) (child_part name ∙ found) ∙ ap (λ t. follow t at left links) (sym to)
-  turns_some name path (Link text) Barred tree plain below named found to = absurd to
+  turns_some name path (Link owner text) Barred tree plain below named found to = absurd to
   turns_some name path Hide (Moved new) tree plain below named found to = absurd to
   turns_some name path Hide (Met target) tree plain below named found to = absurd to
   turns_some name path Hide Barred tree plain below named found to = λ left links. step_into (part image es) at name left links (tree_part image es tree) plain below ∙ ap (λ o. enter o at name left links) (child_part name ∙ found)

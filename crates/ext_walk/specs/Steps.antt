@@ -35,18 +35,18 @@ Stops es image at left rest Nowhere = (links : ℕ) (end : List (List ℕ)) → 
 
 -- what an entry does at a name
 abbrev pub TurnsTo : {C : Type 0} → List (List ℕ) → Entry C → Turn → Type 0
-TurnsTo path (Dir mode) (Moved new) = new ≡ path
-TurnsTo path (Dir mode) (Met target) = ⊥
-TurnsTo path (Dir mode) Barred = ⊥
-TurnsTo path (Opaque mode) (Moved new) = new ≡ path
-TurnsTo path (Opaque mode) (Met target) = ⊥
-TurnsTo path (Opaque mode) Barred = ⊥
-TurnsTo path (File mode content) (Moved new) = new ≡ path
-TurnsTo path (File mode content) (Met target) = ⊥
-TurnsTo path (File mode content) Barred = ⊥
-TurnsTo path (Link text) (Moved new) = ⊥
-TurnsTo path (Link text) (Met target) = target.now ≡ text
-TurnsTo path (Link text) Barred = ⊥
+TurnsTo path (Dir attributes) (Moved new) = new ≡ path
+TurnsTo path (Dir attributes) (Met target) = ⊥
+TurnsTo path (Dir attributes) Barred = ⊥
+TurnsTo path (Opaque attributes) (Moved new) = new ≡ path
+TurnsTo path (Opaque attributes) (Met target) = ⊥
+TurnsTo path (Opaque attributes) Barred = ⊥
+TurnsTo path (File attributes content) (Moved new) = new ≡ path
+TurnsTo path (File attributes content) (Met target) = ⊥
+TurnsTo path (File attributes content) Barred = ⊥
+TurnsTo path (Link owner text) (Moved new) = ⊥
+TurnsTo path (Link owner text) (Met target) = target.now ≡ text
+TurnsTo path (Link owner text) Barred = ⊥
 TurnsTo path Hide (Moved new) = ⊥
 TurnsTo path Hide (Met target) = ⊥
 TurnsTo path Hide Barred = Unit {0}

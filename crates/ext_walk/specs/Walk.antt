@@ -49,10 +49,10 @@ follow target at left links =
 -- what a name does, by what stands there: at a directory or a file the walk moves there, and past a whiteout nothing leads
 abbrev pub enter : {C : Type 0} → Option (Entry C) → List (List ℕ) → List ℕ → List (List ℕ) → ℕ → Option Walk
 enter None at name left links = None
-enter (Some (Dir mode)) at name left links = Some (walk (at ++ name ∷ []) left links)
-enter (Some (Opaque mode)) at name left links = Some (walk (at ++ name ∷ []) left links)
-enter (Some (File mode content)) at name left links = Some (walk (at ++ name ∷ []) left links)
-enter (Some (Link target)) at name left links = follow target at left links
+enter (Some (Dir attributes)) at name left links = Some (walk (at ++ name ∷ []) left links)
+enter (Some (Opaque attributes)) at name left links = Some (walk (at ++ name ∷ []) left links)
+enter (Some (File attributes content)) at name left links = Some (walk (at ++ name ∷ []) left links)
+enter (Some (Link owner target)) at name left links = follow target at left links
 enter (Some Hide) at name left links = None
 
 -- one step, where there is one: `..` and a name need a directory or the root
@@ -90,10 +90,10 @@ ResolvesIn es image names (Some at) = (end : List (List ℕ)) × (at ≡ image +
 -- a directory or a file stands there: no link and no whiteout
 abbrev pub is_standing : {C : Type 0} → Option (Entry C) → Bool
 is_standing None = false
-is_standing (Some (Dir mode)) = true
-is_standing (Some (Opaque mode)) = true
-is_standing (Some (File mode content)) = true
-is_standing (Some (Link target)) = false
+is_standing (Some (Dir attributes)) = true
+is_standing (Some (Opaque attributes)) = true
+is_standing (Some (File attributes content)) = true
+is_standing (Some (Link owner target)) = false
 is_standing (Some Hide) = false
 
 -- the root, or the path of a directory or a file

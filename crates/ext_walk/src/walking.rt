@@ -128,7 +128,7 @@ fn turn_to<'a, C>(path: &'a Path, entry: &'a Entry<C>) -> Turn<'a>
 {
     match entry {
         Entry::Dir(_) | Entry::Opaque(_) | Entry::File(_, _) => Turn::Moved(path.names()),
-        Entry::Link(target) => Turn::Met(target.bytes()),
+        Entry::Link(_, target) => Turn::Met(target.bytes()),
         Entry::Hide => Turn::Barred,
     }
 }

@@ -8,7 +8,7 @@ use ext_index::{index_size, write_index};
 use ext_text::{OutOfMemory, Text};
 use std::alloc::Global;
 
-/// The index of a host in a generation, as text 2.
+/// The index of a host in a generation, as it is written.
 ///
 /// # Errors
 /// Out of memory alone.

@@ -8,10 +8,10 @@ use Rattle.ext_host.proofs.ChangedLemmas.{tree_changed_within}
 use Rattle.ext_host.proofs.depot_bodies.from_depot.Goals as goal
 
 keeps : (res p : List (List ℕ)) (e : Entry Stamp) → is_directory (in_depot (res ++ p) e) ≡ is_directory e
-keeps res p (Dir mode) = refl
-keeps res p (Opaque mode) = refl
-keeps res p (File mode stamp) = refl
-keeps res p (Link target) = refl
+keeps res p (Dir attributes) = refl
+keeps res p (Opaque attributes) = refl
+keeps res p (File attributes stamp) = refl
+keeps res p (Link owner target) = refl
 keeps res p Hide = refl
 
 pub from_pairs-requires : goal.from_pairs-requires

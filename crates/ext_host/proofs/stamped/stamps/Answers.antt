@@ -8,10 +8,10 @@ use Rattle.ext_host.proofs.ChangedLemmas.{lookup_changed, tree_changed_within}
 use Rattle.ext_host.proofs.stamped.stamps.Goals as goal
 
 keeps : (p : List (List ℕ)) (e : Entry HeldFile) → is_directory (stamped_entry e) ≡ is_directory e
-keeps p (Dir mode) = refl
-keeps p (Opaque mode) = refl
-keeps p (File mode held) = refl
-keeps p (Link target) = refl
+keeps p (Dir attributes) = refl
+keeps p (Opaque attributes) = refl
+keeps p (File attributes held) = refl
+keeps p (Link owner target) = refl
 keeps p Hide = refl
 
 pub from_pairs-requires : goal.from_pairs-requires

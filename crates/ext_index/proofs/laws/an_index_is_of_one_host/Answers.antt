@@ -6,4 +6,4 @@ pub returns-clause-host : goal.returns-clause-host
 returns-clause-host c = one_host
 
 pub returns-clause-text : goal.returns-clause-text
-returns-clause-text c = λ two g host bytes other one more. one.text ∙ sym more.text
+returns-clause-text c = λ number g host bytes other one more. one.text ∙ sym more.text

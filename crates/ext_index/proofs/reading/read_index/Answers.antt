@@ -21,10 +21,10 @@ pub returns-in-None : goal.returns-in-None
 returns-in-None c =
     let range = c.ranges.generation.fits in
     let fits = c.if-bytes-gt-MOST_INDEX_BYTES.false in (
-      c.in_ok-said.said.two,
+      c.in_ok-said.said.text,
       c.text_number.ensures,
       index_said c.args.generation c.args.bytes.now c.in_ok-said.said (omega arith) (omega arith) c.in_ok-said.ensures
-          (subst (FindsWrong c.in_ok-said.said.two c.args.generation c.in_ok-said.said.host) c.in-None.is (c.wrong_line.ensures c.args.generation)),
+          (subst (FindsWrong c.in_ok-said.said.text c.args.generation c.in_ok-said.said.host) c.in-None.is (c.wrong_line.ensures c.args.generation)),
     )
 
 -- src/reading.rt:24:1
@@ -32,5 +32,5 @@ pub returns-in-Some : goal.returns-in-Some
 returns-in-Some c =
     let range = c.ranges.generation.fits in
     let fits = c.if-bytes-gt-MOST_INDEX_BYTES.false in
-    let found = subst (FindsWrong c.in_ok-said.said.two c.args.generation c.in_ok-said.said.host) c.in-Some.is (c.wrong_line.ensures c.args.generation) in
+    let found = subst (FindsWrong c.in_ok-said.said.text c.args.generation c.in_ok-said.said.host) c.in-Some.is (c.wrong_line.ensures c.args.generation) in
     inr (omega arith, inr (wrong_exactly c.args.generation c.args.bytes.now c.in_ok-said.said c.in-Some.line (omega arith) (omega arith) c.in_ok-said.ensures found))

@@ -40,11 +40,11 @@ attach_read-requires-clause-body g c =
     (record { tree = c.pairs-entries.ensures.tree.tree; is_base = c.in_ok-base.ensures }) c.args.ask.now.image c.in-Ok.body c.in-Ok.ensures.gives
 
 pub attach_read-requires-clause-serves : goal.attach_read-requires-clause-serves
-attach_read-requires-clause-serves g c = λ path mode held found.
+attach_read-requires-clause-serves g c = λ path attributes held found.
     g.met.H.Shelf.stays_laws.served c.args.shelf.now c.body_of.new.shelf held c.in-Ok.ensures.stays
     ∙ base_served (g.H.Shelf.serves c.args.shelf.now) c.args.start.now c.in_ok-base.base (record { tree = c.pairs-entries.ensures.tree.tree; is_base = c.in_ok-base.ensures })
     (subst (ServesHost (g.H.Shelf.serves c.args.shelf.now)) (sym c.requires.start) (serves_start (g.H.Shelf.serves c.args.shelf.now) c.args.again c.args.ask.now.image c.args.host.now c.requires.serves))
-    path mode held found
+    path attributes held found
 
 pub returns-clause-gives : goal.returns-clause-gives
 returns-clause-gives g c =

@@ -1,6 +1,6 @@
-use Rattle.std.proofs.Common.{◌≡◌, true, ◌+◌, ◌≤◌, ◌++◌, length}
+use Rattle.std.proofs.Common.{◌≡◌, ◌+◌, ◌≤◌, ◌++◌, length}
 use Rattle.std.specs.Prelude.{map}
-use Rattle.ext_tree.specs.TreeText.{HasText, need_version_2, tree_line}
+use Rattle.ext_tree.specs.TreeText.{HasText, tree_line, version_of}
 use Rattle.ext_lines.specs.Lines.{lines_text}
 use Rattle.ext_tree.proofs.reading.read_body.Given as goal
 
@@ -8,8 +8,8 @@ use Rattle.ext_tree.proofs.reading.read_body.Given as goal
 abbrev pub invariant-lines : goal.invariant-lines
 invariant-lines l = record {
   tree : HasText l.entries.items;
-  needs : l.needs ≡ need_version_2 l.entries.items;
-  version : need_version_2 l.entries.items ≡ true → l.fn.two ≡ true;
+  needed : l.needed ≡ version_of l.entries.items;
+  version : version_of l.entries.items ≤ l.fn.version;
   text : l.fn.bytes ≡ lines_text (map tree_line l.entries.items) ++ l.rest;
   counted : l.line ≡ l.fn.first + length l.entries.items;
   room : l.line + length l.rest ≤ l.fn.first + length l.fn.bytes;

@@ -9,4 +9,4 @@ returns-in-None-version_of c = no_header c.args.bytes.now c.in-Some.header.now c
 
 pub returns-in-Some-version_of : goal.returns-in-Some-version_of
 returns-in-Some-version_of c =
-    text_read (λ t. t.entries.items) (λ t. t.rest.now) (λ t. t.line) c.read_body.result c.in-Some-version_of.two c.args.bytes.now c.in-Some.body.now c.in-Some.header.now c.args.line c.in-Some.ensures c.in-Some-version_of.ensures c.read_body.ensures
+    text_read (λ t. t.entries.items) (λ t. t.rest.now) (λ t. t.line) c.read_body.result c.in-Some-version_of.version c.args.bytes.now c.in-Some.body.now c.in-Some.header.now c.args.line c.in-Some-version_of.ensures.0 c.in-Some.ensures c.in-Some-version_of.ensures.1 c.read_body.ensures

@@ -1,12 +1,12 @@
 use Rattle.std.proofs.Common.{sym, ap, ◌∙◌, arith}
-use Rattle.ext_tree.specs.TreeText.{need_version_2, tree_text}
+use Rattle.ext_tree.specs.TreeText.{version_of, tree_text}
 use Rattle.ext_tree.proofs.WritingLemmas.{all_printed}
 use Rattle.ext_tree.proofs.writing.write_tree.Goals as goal
 
 pub returns-clause-printed : goal.returns-clause-printed
 returns-clause-printed c =
     c.from_vec.ensures ∙ c.in_ok-extend_from_slice.ensures.items
-    ∙ all_printed c.pairs-path-items.result.now (need_version_2 c.args.tree.now) c.loop-path.path-index c.loop-path.text.items (omega arith) (ap need_version_2 (sym c.pairs-path-items.ensures.same)) c.loop-path.invariant
+    ∙ all_printed c.pairs-path-items.result.now (version_of c.args.tree.now) c.loop-path.path-index c.loop-path.text.items (omega arith) (ap version_of (sym c.pairs-path-items.ensures.same)) c.loop-path.invariant
     ∙ ap tree_text c.pairs-path-items.ensures.same
 
 pub returns-clause-text : goal.returns-clause-text

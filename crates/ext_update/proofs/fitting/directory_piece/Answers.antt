@@ -1,5 +1,7 @@
-use Rattle.std.proofs.Common.{sym, subst, arith}
+use Rattle.std.proofs.Common.{◌≡◌, ap, sym, subst, ◌∙◌, arith}
 use Rattle.std.proofs.lemmas.Result.{err_from_is_err_and}
+use Rattle.ext_attributes.specs.Attributes.{IsAttributes, of_mode}
+use Rattle.ext_attributes.proofs.ForCallers.{mode_in_range}
 use Rattle.ext_host.specs.DepotBodies.{from_depot}
 use Rattle.ext_update.specs.Stages.{AreFilesFit}
 use Rattle.ext_update.proofs.FittingLemmas.{AreNewEntries, depot_new, directory_is, files_fit, not_from_depot}
@@ -12,14 +14,16 @@ returns-in_err-part-clause-err c =
 
 pub returns-clause-ok : goal.returns-clause-ok
 returns-clause-ok c =
-    let gives = c.in_ok-part.ensures in (
-      directory_is c.args.path c.directory_mode.result c.directory_mode.ensures c.in_ok-part.part (from_depot c.args.source.now c.args.tree) gives.0,
+    let gives = c.in_ok-part.ensures in
+    let top : c.of_mode.result ≡ of_mode 493 = c.of_mode.ensures ∙ ap of_mode c.directory_mode.ensures in (
+      directory_is c.args.path c.of_mode.result top c.in_ok-part.part (from_depot c.args.source.now c.args.tree) gives.0,
       subst AreFilesFit (sym gives.0) (files_fit c.args.source.now c.args.tree gives.1),
     )
 
 pub returns-clause-new : goal.returns-clause-new
 returns-clause-new c =
-    let gives = c.in_ok-part.ensures in record {
-      top = record { range = omega (arith, c.directory_mode.ensures); new = tt };
+    let gives = c.in_ok-part.ensures in
+    let top : c.of_mode.result ≡ of_mode 493 = c.of_mode.ensures ∙ ap of_mode c.directory_mode.ensures in record {
+      top = record { range = subst IsAttributes (sym top) (mode_in_range 493 (omega arith)); new = tt };
       part = subst AreNewEntries (sym gives.0) (depot_new c.args.source.now c.args.tree c.requires);
     }

@@ -1,0 +1,4 @@
+pub mod AppendLemmas
+pub mod ForCallers
+pub mod MarksLemmas
+pub mod RangeLemmas
