@@ -1,7 +1,7 @@
 // What `--help` and `--version` print.
 
 /// The version; the kit that the program is proved with, as README and dist/x86_64-linux/made-from have it; and the licences.
-pub(crate) const VERSION: &str = "hostext 0.2.0
+pub(crate) const VERSION: &str = "hostext 0.3.0
 proved with rattle-kit-13f logic dac8208d650f15bf
 SPDX-License-Identifier: MIT OR Apache-2.0";
 
