@@ -1,5 +1,5 @@
 -- Held files: the stamp of a file's bytes, and where they are. This project's own.
-use Rattle.std.specs.Prelude.{◌≡◌, ℕ, Bool, true, false, List, length}
+use Rattle.std.specs.Prelude.{◌≡◌, ℕ, List, length}
 use Rattle.sha2.specs.Sha256.{sha256}
 use Rattle.ext_tree.specs.declared.stamp.Stamp.{Stamp}
 use Rattle.ext_host.specs.declared.body.Body.{Body}
@@ -20,9 +20,3 @@ abbrev pub HasStamp : Stamp → Body → Type 0
 HasStamp stamp (Here bytes) = IsStampOf bytes stamp
 HasStamp stamp (Kept home) = Unit {0}
 HasStamp stamp (Depot path) = Unit {0}
-
--- the bytes are here
-abbrev pub is_here : Body → Bool
-is_here (Here bytes) = true
-is_here (Kept home) = false
-is_here (Depot path) = false

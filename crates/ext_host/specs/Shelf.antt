@@ -1,12 +1,11 @@
 -- What a shelf means to contracts. This project's own device.
-use Rattle.std.specs.Prelude.{◌≡◌, ◌≢◌, ℕ, Bool, List, length, refl, Option, Some, None}
+use Rattle.std.specs.Prelude.{◌≡◌, ◌≢◌, ℕ, Bool, List, length, Option, Some, None}
 use Rattle.ext_text.specs.Causes.{Rose}
 use Rattle.ext_tree.specs.declared.stamp.Stamp.{Stamp}
-use Rattle.ext_host.specs.Held.{HeldFile, IsStampOf, is_here}
+use Rattle.ext_host.specs.Held.{HeldFile, IsStampOf}
 use Rattle.ext_host.specs.declared.home.Home.{Home}
 use Rattle.ext_host.specs.declared.body.Body.{Body}
-use Rattle.ext_host.specs.declared.body.Body.TheVariants.{Here, Kept, Depot}
-use Rattle.ext_host.specs.declared.here_shelf.HereShelf.{HereShelf}
+use Rattle.ext_host.specs.declared.body.Body.TheVariants.{Kept}
 use Rattle.ext_host.specs.declared.shelf.ShelfErr.{ShelfErr}
 use Rattle.ext_host.specs.declared.shelf.ShelfErr.TheVariants.{OutOfMemory, Fault, Damaged}
 
@@ -51,18 +50,3 @@ pub record IsStays {S : Type 0} (stays : S → S → Type 0) (serves : S → Hel
   pub through : (a b c : S) → stays a b → stays b c → stays a c
   pub served : (a b : S) (held : HeldFile) → stays a b → serves b held ≡ serves a held
   pub tells : (a b : S) (held : HeldFile) → stays a b → told b held ≡ told a held
-
--- what is told of a body by a shelf that has only what is here
-abbrev pub here_told : Body → Told
-here_told (Here bytes) = stored bytes
-here_told (Kept home) = untold
-here_told (Depot path) = untold
-
--- nothing changes such a shelf
-pub here_stays : IsStays {S = HereShelf} (λ _ _. Unit {0}) (λ _ held. is_here held.body) (λ _ held. here_told held.body)
-here_stays = record {
-  same = λ _. tt;
-  through = λ _ _ _ _ _. tt;
-  served = λ _ _ _ _. refl;
-  tells = λ _ _ _ _. refl;
-}

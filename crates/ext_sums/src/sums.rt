@@ -61,15 +61,6 @@ impl Sums {
         self.listed.as_slice()
     }
 
-    /// Those from the first on whose name does not come before this one: where names begin with a prefix, they come first.
-    /// It takes one search by halves.
-    pub fn listed_from(&self, name: &[u8]) -> &[Listed]
-        ensures same { entries_of result.now ≡ entries_from name.now self.now }
-        ensures sorted { IsTrue (is_sorted bytes_cmp self.now) }
-    {
-        names_from(self.listed.as_slice(), name)
-    }
-
     /// How many names are listed.
     pub fn len(&self) -> usize
         ensures { result ≡ length self.now }

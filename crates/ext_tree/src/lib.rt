@@ -35,7 +35,7 @@ pub use reading::{TreeTextErr, read_tree, read_trees};
 pub use slices::{after, cmp_child};
 pub use stamp::Stamp;
 pub use tree::{MOST_ENTRIES, Tree, TreeErr};
-pub use writing::{write_entries, write_entries_into, write_tree};
+pub use writing::{write_entries_into, write_tree};
 
 /// A list of trees whose files are known by their stamps.
 pub type Trees = ext_text::ListOf<Tree<Stamp>>;

@@ -1,5 +1,5 @@
-ghost use Rattle.std.specs.Prelude.{◌≡◌, ◌≤◌, nat_le, [], length, slice_get, OnOk, OnErr};
-ghost use Rattle.std.specs.Option.{option_copied, option_map};
+ghost use Rattle.std.specs.Prelude.{◌≡◌, ◌≤◌, nat_le, [], length, OnOk, OnErr};
+ghost use Rattle.std.specs.Option.{option_copied};
 ghost use Rattle.std.specs.FinMap.{put};
 ghost use Rattle.std.specs.List.{insert};
 ghost use Rattle.ext_text.specs.Path.{path_cmp};
@@ -120,14 +120,6 @@ impl<C> Tree<C> {
         ensures within { result ≤ most_entries }
     {
         self.entries.len() as u64
-    }
-
-    /// The entry with this index in path order, counted from 0, with its path; `None` exactly past the last.
-    pub fn at(&self, index: u64) -> Option<(&Path, &Entry<C>)>
-        ensures { option_map (λ x. (x.0.now, x.1.now)) result ≡ slice_get self.now index }
-    {
-        let (path, entry) = self.entries.get(index as usize)?;
-        Some((path, entry))
     }
 
     /// Where the entries have their memory.

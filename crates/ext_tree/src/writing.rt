@@ -43,18 +43,7 @@ pub fn write_tree(alloc: Global, tree: &Tree<Stamp>) -> Result<Text, OutOfMemory
 }
 
 /// The text of borrowed entries as they show, in their order: an opaque directory is a directory like others. Where they
-/// are those of a tree that has a text, it is that text.
-///
-/// # Errors
-/// Out of memory alone.
-pub fn write_entries(alloc: Global, entries: &[&(Path, Entry<Stamp>)]) -> Result<Text, OutOfMemory>
-    ensures printed { IfOk result (λ text. text ≡ tree_text (all_shown entries.now)) }
-    ensures text { HasText (all_shown entries.now) → IfOk result (λ text. IsTreeText text (all_shown entries.now)) }
-{
-    write_entries_into(Text::new(alloc), entries)
-}
-
-/// The text of borrowed entries, as `write_entries` gives it, in the memory of a buffer, whose bytes go.
+/// are those of a tree that has a text, it is that text. It stands in the memory of a buffer, whose bytes go.
 ///
 /// # Errors
 /// Out of memory alone.
