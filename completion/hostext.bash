@@ -1,4 +1,4 @@
-# Completes the words of hostext(1), hostext_publish(1) and the tools in bash. It needs nothing but bash 4 and awk; bash-completion reads it by itself
+# Completes the words of hostext(1), hostext_publish(1), hostext_erofs(1) and the tools in bash. It needs nothing but bash 4 and awk; bash-completion reads it by itself
 # where it is installed as share/bash-completion/completions/hostext, to which their names lead there, and otherwise a line `source` does.
 #
 # Names of a store and of a depot may have any byte that stands in a path, and bash breaks words at some of them. So the line is
@@ -72,13 +72,13 @@ _hostext_option() {
     compopt "$@" 2>/dev/null
 }
 
-# Runs a command over the store of the line, which takes no lock, by the program hostext beside the one that publishes. It ends by
+# Runs a command over the store of the line, which takes no lock, by the program hostext beside the others. It ends by
 # itself where STORE is no store.
 _hostext_run() {
     [[ -d ${words[1]} ]] || return
-    local limit=()
+    local limit=() program=${words[0]%_publish}
     ! command -v timeout >/dev/null || limit=(timeout 5)
-    HOSTEXT_LOCK=no "${limit[@]}" "${words[0]%_publish}" "${words[1]}" "${words[2]}" "$@" </dev/null 2>/dev/null
+    HOSTEXT_LOCK=no "${limit[@]}" "${program%_erofs}" "${words[1]}" "${words[2]}" "$@" </dev/null 2>/dev/null
 }
 
 # Writes the entries of the store's directory at a path: of each its kind and its name.
@@ -288,6 +288,35 @@ _hostext_publish() {
     esac
 }
 
+# Replies the options of the program that writes EROFS images, and after the first of them the marks of the store.
+_hostext_erofs_options() {
+    local mark
+    if [[ ${words[-1]} == --mark=* ]]; then
+        words=("${words[0]}" "${words[1]}" . "${words[-1]}")
+        while IFS= read -r mark; do
+            _hostext_reply "--mark=${mark%% *}"
+        done < <(_hostext_run history)
+        return
+    fi
+    [[ ${words[-2]} == --mark=* ]] || _hostext_reply --mark=
+    _hostext_reply --time=
+    _hostext_option -o nospace
+}
+
+_hostext_erofs() {
+    local words shared quote
+    COMPREPLY=()
+    _hostext_split
+    case ${#words[@]} in
+        2)
+            _hostext_option -o filenames -o dirnames
+            [[ ${words[1]} != -* ]] || _hostext_reply --help --version
+            ;;
+        3) _hostext_erofs_options ;;
+        4) [[ ${words[2]} != --mark=* || ${words[3]} == --mark=* ]] || _hostext_erofs_options ;;
+    esac
+}
+
 # Replies the options of a tool. A value that one has is the next word.
 _hostext_tool_options() {
     case $1 in
@@ -332,4 +361,5 @@ _hostext_tool() {
 
 complete -F _hostext hostext
 complete -F _hostext_publish hostext_publish
+complete -F _hostext_erofs hostext_erofs
 complete -F _hostext_tool hostext-{unpack,image-from-packages,pack,fetch,tree-text,update}

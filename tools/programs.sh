@@ -201,7 +201,7 @@ follow() {
 run_by_kit() {
     case $crate in
         ext_cli) rt run -- --version ;;
-        ext_pubcli) rt run -- --help ;;
+        ext_pubcli | ext_eroscli) rt run -- --help ;;
         ext_folder_probe) rt run -- disk . ;;
         *) rt run ;;
     esac

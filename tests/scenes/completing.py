@@ -31,6 +31,7 @@ while IFS= read -r COMP_LINE; do
     COMP_POINT=${#COMP_LINE}
     case $COMP_LINE in
         hostext_publish*) _hostext_publish ;;
+        hostext_erofs*) _hostext_erofs ;;
         hostext-*) _hostext_tool ;;
         *) _hostext ;;
     esac
@@ -236,6 +237,21 @@ def paths_and_folders_for_publishing_are_offered(place, folder):
         ("hostext_publish s d /usr ", ["images"]),
         ("hostext_publish s d /usr images/", ["images/a\\ b"]),
         *((f"hostext_publish {words}", []) for words in ("s d /usr images ", "s d /usr gone/", "s gone /usr ", "gone d /", "s d usr")),
+    )
+
+
+def options_and_marks_of_erofs_images_are_offered(place, folder):
+    """Marks of the store by the program hostext. Each option once, in their order."""
+    options = ["--mark=", "--time="]
+    offered(folder, ("hostext_erofs -", ["--help", "--version"]), ("hostext_erofs s --mark=", []), ("hostext_erofs s ", options))
+    place.expect(("mark", b"marked 2\n"), ("mark", b"marked 3\n"))
+    offered(
+        folder,
+        ("hostext_erofs s --m", ["--mark="]),
+        ("hostext_erofs s --mark=", ["2", "3"]),
+        ("hostext_erofs s --mark=3", ["3"]),
+        ("hostext_erofs s --mark=3 ", ["--time="]),
+        *((f"hostext_erofs {words}", []) for words in ("s --time=1 ", "s --time=", "s --mark=2 --mark=", "s --mark=2 --time=1 ", "gone --mark=")),
     )
 
 
@@ -463,7 +479,7 @@ def zsh_waits_for_no_store(place, folder):
 
 CALLS = [
     *(each_word_of_a_command_is_offered, paths_of_the_store_are_offered_by_their_kinds, names_are_quoted_as_the_word_was_begun),
-    *(resources_of_the_depot_and_components_are_offered, versions_that_an_update_may_install_are_offered, images_of_portable_services_are_offered_by_their_states, paths_and_folders_for_publishing_are_offered, options_and_places_of_tools_are_offered),
+    *(resources_of_the_depot_and_components_are_offered, versions_that_an_update_may_install_are_offered, images_of_portable_services_are_offered_by_their_states, paths_and_folders_for_publishing_are_offered, options_and_marks_of_erofs_images_are_offered, options_and_places_of_tools_are_offered),
     *(names_with_control_bytes_are_not_offered, nothing_of_a_name_is_run, the_store_may_stand_in_quotes_a_variable_or_the_home),
     *(a_store_that_is_none_or_is_locked_is_not_waited_for, a_program_that_does_not_end_is_not_waited_for),
     *(bash_completes_on_a_terminal, zsh_completes_on_a_terminal, zsh_waits_for_no_store),

@@ -140,6 +140,20 @@ def check_publishing(sources):
     same_rows("statuses of publishing", told, numbers, words)
 
 
+def check_erofs(sources):
+    """The same of the program that writes EROFS images."""
+    text = section(sources.text("docs/FORMATS.md"), "EROFS images")
+    refusals, statuses = (first_table(text[text.index(head) :]) for head in ("| number |", "| status of the process |"))
+    specs = sources.text("crates/ext_mount/specs/Replies.antt")
+    numbers = dict(re.findall(r"^image_refusal_number \(?(\w+)[^=]*= (\d+)$", specs, re.M))
+    words = dict(re.findall(r'^image_refusal_details \(?(\w+)[^=]*= codes "([a-z -]+?) ?"', specs, re.M))
+    same_rows("refusals of EROFS images", {(row[0], re.sub(r" [A-Z]+$", "", quoted(row[1])[0])) for row in refusals}, numbers, words)
+    numbers = dict(re.findall(r"^image_status_number \(?(\w+)[^=]*= (\d+)$", sources.text("crates/ext_mount/specs/Status.antt"), re.M))
+    words = {"Done": "", "Refused": "", **lines_of_statuses(sources.text("crates/ext_eroscli/src/ending.rt"))}
+    told = {(row[0], "".join(quoted(row[1])).removeprefix("hostext: ").removesuffix(" PLACE")) for row in statuses}
+    same_rows("statuses of EROFS images", told, numbers, words)
+
+
 def same_rows(what, rows, numbers, words):
     """That rows have these numbers with these words, and no other."""
     if not numbers or numbers.keys() != words.keys():
@@ -304,6 +318,7 @@ def each_refusal_status_and_command_is_told(program):
     check_statuses(Sources(), help_of(program))
     check_commands(Sources(), help_of(program))
     check_publishing(Sources())
+    check_erofs(Sources())
 
 
 def the_version_names_the_kit_of_the_documents(program):
@@ -349,6 +364,7 @@ def a_row_that_is_taken_away_is_missed(program):
         is_missed(check_refusals, "docs/FORMATS.md", begin)
     for begin in "| 34 | ", "| 36 | ", "| 6 | `hostext: out fault":
         is_missed(check_publishing, "docs/FORMATS.md", begin)
+    is_missed(check_erofs, "docs/FORMATS.md", "| 38 | `link PATH`")
     for path, begin in (("docs/FORMATS.md", "| 9 | `hostext"), ("docs/COMMANDS.md", "| 9 |"), ("docs/COMMANDS.md", "| 1 |")):
         is_missed(check_statuses, path, begin, shown)
     for path, begin in (("docs/FORMATS.md", "migrate"), ("docs/FORMATS.md", "| `cat`"), ("docs/COMMANDS.md", "| `remove"), ("docs/COMMANDS.md", "| `sysext")):

@@ -4,7 +4,7 @@ import re
 from pathlib import Path
 
 FORMATS = Path(__file__).resolve().parents[2] / "docs/FORMATS.md"
-TABLES = "\n### What helps\n", "What helps after a refusal comes as it does"
+TABLES = "\n### What helps\n", "What helps after a refusal comes as it does", "What helps after the refusal of an EROFS image"
 # The words that stand for what is meant.
 MEANT = r"\b(?:CLASS|FOLDER|PATH|PROFILE|PREFIX|COUNT)\b"
 

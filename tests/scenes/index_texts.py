@@ -35,7 +35,9 @@ class Index:
         if len(text) > MOST_INDEX_BYTES:
             raise Faulty(1)
         *self.lines, self.rest = text.split(b"\n")
-        self.at, self.generation, self.homes, self.past, self.tells = 0, generation, {}, [], False
+        self.at, self.generation, self.homes, self.tells = 0, generation, {}, False
+        # Past trees, and their generations.
+        self.past, self.marks = [], []
         self.hierarchies = {"sysext": [b"opt", b"usr"], "confext": [b"etc"]}
         self.read()
 
@@ -157,6 +159,7 @@ class Index:
             if len(self.past) == 16:
                 self.fault()
             last = self.number(b"g", last + 1, self.generation - 1)
+            self.marks.append(last)
             self.past.append(self.read_sections())
 
     def check_manifests(self, sections):

@@ -160,23 +160,29 @@ def on_another_machine_it_builds(repository):
     expect(repository.run("hostext"), (b"\n", b"hostext: the carried program doesn't run here\n" + BUILT_IT, 23))
 
 
-def the_program_that_publishes_is_launched_by_the_same_rules(repository):
-    """The kit runs it once it is built, and asks for its help."""
-    crate = b"ext_pubcli"
-    repository.write("crates/ext_pubcli/src/main.rt", crate)
-    repository.write("crates.txt", b"low:\next_cli: low\next_pubcli: low\n")
-    (repository.place / "crates/ext_pubcli/out").mkdir()
+def the_other_programs_are_launched_by_the_same_rules(repository):
+    """The kit runs each once it is built, and asks for its help."""
+    for name, crate in ("hostext_publish", b"ext_pubcli"), ("hostext_erofs", b"ext_eroscli"):
+        is_launched(repository, name, crate)
+
+
+def is_launched(repository, name, crate):
+    folder = f"crates/{crate.decode()}"
+    repository.write(f"{folder}/src/main.rt", crate)
+    repository.write("crates.txt", b"low:\next_cli: low\n%s: low\n" % crate)
+    (repository.place / folder / "out").mkdir()
     repository.tool("rt", f'echo "$@" >../../words\n{BUILDS.replace("ext_cli", crate.decode())}')
-    expect(repository.run("hostext_publish", "a", "b c"), (b"a b c\n", BUILT_IT.replace(b"ext_cli", crate), 23))
+    expect(repository.run(name, "a", "b c"), (b"a b c\n", BUILT_IT.replace(b"ext_cli", crate), 23))
     if (repository.place / "words").read_text() != "run -- --help\n":
         raise Failed("the kit ran it by other words")
-    shutil.rmtree(repository.place / "crates/ext_pubcli/out")
+    shutil.rmtree(repository.place / folder / "out")
     (repository.bin / "rt").unlink()
-    expect(repository.run("hostext_publish"), needs_the_kit(b"no program is carried here"))
-    carry_both(repository)
-    expect(repository.run("hostext_publish", "a"), (b"carried a\n", b"", 0))
-    repository.write("crates/ext_pubcli/src/main.rt", b"edited")
-    expect(repository.run("hostext_publish", "a"), needs_the_kit(OTHER_SOURCES))
+    expect(repository.run(name), needs_the_kit(b"no program is carried here"))
+    for one in "hostext", name:
+        repository.carry(one, ECHO)
+    expect(repository.run(name, "a"), (b"carried a\n", b"", 0))
+    repository.write(f"{folder}/src/main.rt", b"edited")
+    expect(repository.run(name, "a"), needs_the_kit(OTHER_SOURCES))
 
 
 def carry_both(repository):
@@ -209,12 +215,12 @@ def a_script_that_a_shell_reads_from_elsewhere_is_refused(repository):
     for folder in elsewhere, elsewhere.parent / "tools/tools":
         folder.mkdir(exist_ok=True)
         (folder / "programs.sh").write_text("echo ran\n")
-    for path in "hostext", "hostext_publish", "tools/program", "tools/carry":
+    for path in "hostext", "hostext_publish", "hostext_erofs", "tools/program", "tools/carry":
         for folder in elsewhere.parent, elsewhere:
             (folder / "sh").touch()
             with open(repository.place / path, "rb") as script:
                 child = subprocess.run(["sh"], stdin=script, cwd=folder, env=repository.around(), capture_output=True, timeout=SECONDS)
-            name = path.replace("_publish", "").removeprefix("tools/").encode()
+            name = path.partition("_")[0].removeprefix("tools/").encode()
             told = b"%s: it can't tell where it stands: call it by its path\n" % name
             expect((child.stdout, child.stderr, child.returncode), (b"", told, 125))
     link = repository.home / "link"
@@ -315,7 +321,7 @@ IN_A_SMALL_ONE = [
     *(the_built_program_goes_before_the_carried_one_where_it_is_of_these_sources, without_the_kit_two_lines_say_what_is_needed),
     *(nothing_is_run_whose_sum_was_not_compared, a_script_that_a_shell_reads_from_elsewhere_is_refused),
     *(the_program_has_the_input_and_the_folder_of_the_launch, on_another_machine_it_builds),
-    *(without_a_tool_that_tells_times_it_looks_each_time, the_program_that_publishes_is_launched_by_the_same_rules),
+    *(without_a_tool_that_tells_times_it_looks_each_time, the_other_programs_are_launched_by_the_same_rules),
 ]
 IN_A_CLONE = [
     *(a_clone_runs_the_carried_program_without_the_kit, a_clone_that_cannot_be_written_runs_it),

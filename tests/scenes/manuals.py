@@ -9,10 +9,10 @@ import tempfile
 from pathlib import Path
 
 from scenes.documents import Sources, cells_of, first_table, help_of, is_missed, quoted, rows_of, section
-from scenes.running import SECONDS, TOP, Failed, Skipped, named, publisher
+from scenes.running import SECONDS, TOP, Failed, Skipped, imager, named, publisher
 from scenes.sessions import commands_of, follow
 
-COMMANDS, FORMATS, PUBLISHING = "man/hostext.1", "man/hostext-formats.5", "man/hostext_publish.1"
+COMMANDS, FORMATS, PUBLISHING, EROFS = "man/hostext.1", "man/hostext-formats.5", "man/hostext_publish.1", "man/hostext_erofs.1"
 # The tools that have a page, by their names in tools.
 TOOLS = "image-from-packages", "pack", "tree-text", "unpack"
 RULES = "docs/FORMATS.md"
@@ -144,7 +144,15 @@ def check_refusals(sources):
 
 def check_publishing(sources):
     """The refusals in their order, the statuses, the option and the variables of the program that publishes."""
-    rules, manual = section(sources.text(RULES), "Publishing"), page(sources, PUBLISHING)
+    check_program(section(sources.text(RULES), "Publishing"), page(sources, PUBLISHING))
+
+
+def check_erofs(sources):
+    """The same of the program that writes EROFS images."""
+    check_program(section(sources.text(RULES), "EROFS images"), page(sources, EROFS))
+
+
+def check_program(rules, manual):
     refusals = first_table(rules[rules.index("| number |") :])
     same("the refusals", manual.items("REFUSALS"), [f"refused {row[0]} {quoted(row[1])[0]}" for row in refusals])
     statuses = first_table(rules[rules.index("| status of the process |") :])
@@ -271,7 +279,7 @@ def each_command_option_status_and_refusal_is_in_the_manual_and_no_other(program
     sources, shown = Sources(), help_of(program)
     check_commands(sources, shown)
     check_options(sources, shown)
-    for check in check_statuses, check_refusals, check_orders, check_words, check_publishing:
+    for check in check_statuses, check_refusals, check_orders, check_words, check_publishing, check_erofs:
         check(sources)
 
 
@@ -300,6 +308,8 @@ def what_the_manual_has_besides_is_told(program):
     is_told(check_publishing, PUBLISHING, "out\\-kind", "out\\-kinds")
     is_told(check_publishing, PUBLISHING, "-help", "-helps")
     is_told(check_publishing, PUBLISHING, "-version", "-versions")
+    is_told(check_erofs, EROFS, "no\\-mark", "no\\-marks")
+    is_told(check_erofs, EROFS, "-time", "-times")
     is_told(check_transfers, FORMATS, "&%a", "&%b")
     is_told(check_images, FORMATS, "/var/lib/confexts", "/var/lib/confext")
 
@@ -315,6 +325,7 @@ def a_line_of_the_manual_that_is_taken_away_is_missed(program):
         (check_orders, COMMANDS, ("Refused by 5", "Refused by 8, 4", "Refused by 32")),
         (check_words, COMMANDS, (".Li architecture", ".Li no\\-release", ".Cm generations")),
         (check_publishing, PUBLISHING, (".It Li refused 1 ", ".It Li refused 34", ".It 6", ".It Ev HOSTEXT_LOCK")),
+        (check_erofs, EROFS, (".It Li refused 1 ", ".It Li refused 38", ".It 8", ".It Ev HOSTEXT_EXPLAIN")),
         (check_forms, FORMATS, ("l LENGTH", "m HEX", "hierarchies K", ".It Pa next")),
         (check_patterns, FORMATS, (".It Cm adjacent", ".It Cm too")),
         (check_transfers, FORMATS, (".It Li Mode=", ".Li \\&%w", ".Li true", ".Pa /run/sysupdate.d", ".It Li [Source]")),
@@ -398,6 +409,10 @@ def the_examples_of_publishing_write_what_they_show(program):
     follow_examples(PUBLISHING, {"hostext": program, "hostext_publish": publisher()})
 
 
+def the_examples_of_erofs_images_write_what_they_show(program):
+    follow_examples(EROFS, {"hostext": program, "hostext_erofs": imager()})
+
+
 def follow_examples(path, programs):
     """With the programs and the tools on the PATH under the names that they are installed by. The file that is shown is put in its
     place where the examples come to it."""
@@ -419,5 +434,5 @@ scenes = named(
     *(each_command_option_status_and_refusal_is_in_the_manual_and_no_other, the_manual_of_formats_has_what_the_formats_are),
     *(a_line_of_the_manual_that_is_taken_away_is_missed, what_the_manual_has_besides_is_told, mandoc_has_nothing_to_say, the_pages_of_tools_have_the_options_and_statuses_of_their_help, each_page_that_is_named_and_ours_is_there),
     *(each_option_of_a_tool_is_in_its_manual_and_no_other, an_option_that_the_manual_of_a_tool_lacks_is_missed),
-    *(the_examples_write_what_they_show, the_examples_of_publishing_write_what_they_show),
+    *(the_examples_write_what_they_show, the_examples_of_publishing_write_what_they_show, the_examples_of_erofs_images_write_what_they_show),
 )

@@ -8,7 +8,7 @@ import tempfile
 from pathlib import Path
 
 from scenes.devices import become_nobody
-from scenes.running import SECONDS, TOP, Failed, Skipped, expect, named, publisher, shortened
+from scenes.running import SECONDS, TOP, Failed, Skipped, expect, imager, named, publisher, shortened
 from scenes.stores import digest
 from scenes.tools import limited_to
 
@@ -16,9 +16,9 @@ TOOLS = "fetch", "image-from-packages", "pack", "tree-text", "unpack", "update"
 RECORD = "share/hostext/installed"
 
 
-def install(program, *words, before=None, umask=0o022, tools=TOP, publishes=None):
+def install(program, *words, before=None, umask=0o022, tools=TOP, publishes=None, writes=None):
     """What the installation writes on both outputs, and its status."""
-    around = {**os.environ, "HOSTEXT": str(program), "HOSTEXT_PUBLISH": str(publishes or publisher())}
+    around = {**os.environ, "HOSTEXT": str(program), "HOSTEXT_PUBLISH": str(publishes or publisher()), "HOSTEXT_EROFS": str(writes or imager())}
     calls = lambda: (os.umask(umask), before and before())
     ended = subprocess.run([tools / "tools/install", *words], env=around, capture_output=True, timeout=SECONDS, preexec_fn=calls)
     return ended.stdout, ended.stderr, ended.returncode
@@ -29,7 +29,7 @@ DONE = b"", b"", 0
 
 def run(*words, **options):
     """What something that was installed writes. Nothing of its environment names the program, and it starts elsewhere."""
-    around = {name: value for name, value in os.environ.items() if name not in ("HOSTEXT", "HOSTEXT_PUBLISH")}
+    around = {name: value for name, value in os.environ.items() if name not in ("HOSTEXT", "HOSTEXT_PUBLISH", "HOSTEXT_EROFS")}
     ended = subprocess.run(words, **{"env": around, "cwd": "/", "capture_output": True, "timeout": SECONDS, **options})
     return ended.stdout, ended.stderr, ended.returncode
 
@@ -70,9 +70,9 @@ def files_wanted():
     pages = [path for path in (TOP / "man").iterdir()]
     documents = [path for path in (TOP / "README.md", TOP / "CHANGELOG.md", TOP / "SECURITY.md", TOP / "LICENSE", TOP / "LICENSE-MIT", TOP / "LICENSE-APACHE", *(TOP / "docs").glob("*.md"), *(TOP / "docs/figures").glob("*.svg")) if path.exists()]
     bash = "share/bash-completion/completions/hostext"
-    completions = [*(("hostext.bash", f"{bash}{name}") for name in ("", "_publish", *(f"-{tool}" for tool in TOOLS))), ("_hostext", "share/zsh/site-functions/_hostext")]
+    completions = [*(("hostext.bash", f"{bash}{name}") for name in ("", "_publish", "_erofs", *(f"-{tool}" for tool in TOOLS))), ("_hostext", "share/zsh/site-functions/_hostext")]
     return {
-        *("bin/hostext", "bin/hostext_publish", RECORD),
+        *("bin/hostext", "bin/hostext_publish", "bin/hostext_erofs", RECORD),
         *(f"bin/hostext-{name}" for name in tools),
         *(f"lib/hostext/{name}" for name in tools),
         *(f"lib/hostext/{name}" for name in modules_of(tools)),
@@ -88,7 +88,7 @@ def what_stands_in_the_repository_is_installed(program, folder):
     found = {path for path, (_, content) in stands(folder / "to").items() if content is not None}
     if found != files_wanted():
         raise Failed(f"besides there are {sorted(found - files_wanted())}, and there lack {sorted(files_wanted() - found)}")
-    for name, wanted in ("hostext", program), ("hostext_publish", publisher()):
+    for name, wanted in ("hostext", program), ("hostext_publish", publisher()), ("hostext_erofs", imager()):
         if (folder / "to/bin" / name).read_bytes() != wanted.read_bytes():
             raise Failed(f"{name} has other bytes")
 
@@ -109,6 +109,7 @@ def programs_and_tools_run_from_where_they_are_installed(program, folder):
         expect(run(place / "hostext", store, depot, *words), (b"done\n", b"", 0))
     expect(run(place / "hostext-unpack", store, "/", folder / "out"), DONE)
     expect(run(place / "hostext_publish", store, depot, "/usr", "sites", "own"), (b"published 1 3\n", b"", 0))
+    expect(run(place / "hostext_erofs", store), run(imager(), store))
     text = run(place / "hostext-tree-text", own)
     expect(run(place / "hostext-tree-text", folder / "out"), text)
     if text[2] or b" usr/a\n" not in text[0]:
@@ -207,12 +208,13 @@ def a_place_that_cannot_be_written_is_told(program, folder):
     copy_of_the_repository(copy)
     shutil.copy(program, copy / "program")
     shutil.copy(publisher(), copy / "publishes")
+    shutil.copy(imager(), copy / "writes")
     (prefix / "share").mkdir(parents=True)
     for path, mode in (folder, 0o755), (prefix, 0o755), (prefix / "share", 0o777):
         path.chmod(mode)
     before = stands(prefix)
     try:
-        _, told, status = install(copy / "program", prefix, before=become_nobody, tools=copy, publishes=copy / "publishes")
+        _, told, status = install(copy / "program", prefix, before=become_nobody, tools=copy, publishes=copy / "publishes", writes=copy / "writes")
     except PermissionError:
         raise Skipped("nobody can run python3 here") from None
     if b"python" in told and b"install:" not in told:

@@ -34,7 +34,7 @@ class Repository:
             if not found:
                 raise Skipped(f"there is no {tool}")
             (self.bin / tool).symlink_to(found)
-        for path in ("hostext", "hostext_publish", "tools/programs.sh", "tools/carry", "tools/exchange", "tools/program", "dist/programs"):
+        for path in ("hostext", "hostext_publish", "hostext_erofs", "tools/programs.sh", "tools/carry", "tools/exchange", "tools/program", "dist/programs"):
             shutil.copy(TOP / path, self.place / path)
 
     def tool(self, name, lines):

@@ -35,7 +35,10 @@ def found(name):
 
 
 def program_of(name):
-    """The file that is run for the name of a program: built here, or carried, or proved and built first."""
+    """The file that is run for the name of a program: the one that the environment names, as HOSTEXT_PUBLISH for hostext_publish; or
+    else the one that was built here, or is carried, or is proved and built first."""
+    if given := os.environ.get(name.upper()):
+        return Path(given).resolve()
     if found(name).returncode and not shutil.which("rt"):
         raise Skipped("there is no rt")
     if found(name).returncode:
@@ -44,9 +47,13 @@ def program_of(name):
 
 
 def publisher():
-    """The program that publishes: the one that HOSTEXT_PUBLISH names, or else as above."""
-    given = os.environ.get("HOSTEXT_PUBLISH")
-    return Path(given).resolve() if given else program_of("hostext_publish")
+    """The program that publishes."""
+    return program_of("hostext_publish")
+
+
+def imager():
+    """The program that writes EROFS images."""
+    return program_of("hostext_erofs")
 
 
 def named(*calls):

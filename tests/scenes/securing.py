@@ -8,7 +8,7 @@ import re
 from scenes.devices import become_nobody
 from scenes.documents import Sources, crates_of, is_missed, nothing_is_missing, quoted, rows_of, section
 from scenes.locks import ended, locked, start, waits
-from scenes.running import LICENCES, Failed, Skipped, expect, named, publisher, run, tree_text
+from scenes.running import LICENCES, Failed, Skipped, expect, imager, named, publisher, run, tree_text
 from scenes.stores import DONE, digest, in_a_place
 
 from citing import exported
@@ -79,7 +79,7 @@ def check_licences(sources):
 
 
 def the_licences_are_those_that_the_programs_name(program):
-    for one in program, publisher():
+    for one in program, publisher(), imager():
         if not run(one, [b"--version"])[0].endswith(b"\n" + LICENCES):
             raise Failed(f"{one} names other licences")
 

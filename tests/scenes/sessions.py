@@ -3,8 +3,8 @@
 A block between lines of three backquotes has commands where it has lines that begin with `$ `, and what stands below such a line
 is all that the command writes, on both outputs. A block without such lines isn't run: so the command that runs these tests
 stands in one. The blocks below one heading are one session: each goes on where the one before it ended, in one shell and one
-folder, which has the repository's examples and tools, and the programs under the names hostext and hostext_publish. A session is
-skipped where a tool that it starts is missing.
+folder, which has the repository's examples and tools, and the programs under the names hostext, hostext_publish and hostext_erofs. A
+session is skipped where a tool that it starts is missing.
 """
 import os
 import re
@@ -13,7 +13,7 @@ import subprocess
 import tempfile
 from pathlib import Path
 
-from scenes.running import SECONDS, TOP, Failed, Skipped, publisher, shortened
+from scenes.running import SECONDS, TOP, Failed, Skipped, imager, publisher, shortened
 from scenes.serving import around as without_proxies
 
 
@@ -51,7 +51,7 @@ def shell(commands, folder, more={}):
     """What each of the commands writes, on both outputs, in one shell. The environment may have more variables."""
     script = "".join(f"{command}\nprintf '\\0'\n" for command in commands)
     streams = {"stdin": subprocess.DEVNULL, "stdout": subprocess.PIPE, "stderr": subprocess.STDOUT}
-    programs = {"HOSTEXT": str(Path(folder, "hostext")), "HOSTEXT_PUBLISH": str(Path(folder, "hostext_publish"))}
+    programs = {name.upper(): str(Path(folder, name)) for name in ("hostext", "hostext_publish", "hostext_erofs")}
     around = {**without_proxies(), "LC_ALL": "C", "TMPDIR": str(folder), **programs, **more}
     return subprocess.run(["sh", "-c", script], cwd=folder, env=around, timeout=SECONDS, **streams).stdout.decode().split("\0")
 
@@ -77,8 +77,9 @@ def follow(session, folder, more={}):
 
 def in_a_folder(session, program):
     leads = {"examples": TOP / "examples", "tools": TOP / "tools", "hostext": program}
-    if any(word in command for command, _ in session for word in ("hostext_publish", "tools/install")):
-        leads["hostext_publish"] = publisher()
+    for name, found in ("hostext_publish", publisher), ("hostext_erofs", imager):
+        if any(word in command for command, _ in session for word in (name, "tools/install")):
+            leads[name] = found()
     with tempfile.TemporaryDirectory() as folder:
         for name, to in leads.items():
             os.symlink(to, Path(folder, name))

@@ -1,0 +1,10 @@
+pub mod Asked
+pub mod Reading
+pub mod Laws
+pub mod Replies
+pub mod Status
+pub mod Stopping
+pub mod Printed
+pub mod Asking
+pub mod StoreRead
+pub mod Printing
