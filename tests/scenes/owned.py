@@ -160,7 +160,9 @@ def a_tar_has_owners_and_capabilities_whoever_writes_it(place):
     if found != wanted:
         raise Failed(f"the tar has {shortened(found)}")
     read_by_nobody(place)
-    if tool_of_nobody(place, "unpack", "--tar", place.store, "/") != (written, b"", 0):
+    theirs, told, status = tool_of_nobody(place, "unpack", "--tar", place.store, "/")
+    expect((b"", told, status), FINE)
+    if theirs != written:
         raise Failed("another user writes another tar")
     out = beside(place, "unpacked")
     out.mkdir()
