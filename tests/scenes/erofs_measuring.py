@@ -2,15 +2,15 @@
 import os
 import subprocess
 import sys
-import time
 
 from scenes.erofs_trees import put_store, written_image
 from scenes.memory import STARTER
 from scenes.running import ABC, MOST_ENTRIES, SECONDS, Failed, imager, named
 from scenes.stores import in_a_place
 
-# Entries, and the seconds that their image may take.
-HOSTS = (14_009, 0.06), (MOST_ENTRIES, 1.0)
+# Entries, and the seconds of a processor that their image may take: some five times as many as docs/PERFORMANCE.md tells, since a
+# processor may be slow and what runs beside this makes it slower.
+HOSTS = (14_009, 0.2), (MOST_ENTRIES, 3.5)
 RUNS = 5
 # Of the bytes of the index.
 MOST_MEMORY, MOST_IMAGE = 3, 1.6
@@ -33,10 +33,11 @@ def host(count):
     return entries
 
 
-def seconds(words):
-    began = time.monotonic()
+def processor_seconds(words):
+    before = os.times()
     subprocess.run(words, stdin=subprocess.DEVNULL, stdout=subprocess.DEVNULL, check=True, timeout=SECONDS)
-    return time.monotonic() - began
+    after = os.times()
+    return after.children_user + after.children_system - before.children_user - before.children_system
 
 
 def peak(words):
@@ -52,9 +53,9 @@ def images_of_large_hosts_are_soon_written(place):
     for count, most in HOSTS:
         put_store(place, 1, host(count))
         words = [os.fspath(imager()), os.fspath(place.store)]
-        least = min(seconds(words) for _ in range(RUNS))
+        least = min(processor_seconds(words) for _ in range(RUNS))
         if least > most:
-            raise Failed(f"the image of {count:,} entries takes {least:.3f} s, and may take {most} s")
+            raise Failed(f"the image of {count:,} entries takes {least:.3f} s of a processor, and may take {most} s")
 
 
 def an_image_takes_little_more_than_its_index(place):
