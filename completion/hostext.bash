@@ -85,9 +85,9 @@ _hostext_run() {
 _hostext_entries() {
     _hostext_run tree "${1:-/}" | LC_ALL=C awk '
         { name = $0 }
-        /^[do] / { sub(/^[do] [0-7]+ /, "", name) }
-        /^f / { sub(/^f [0-7]+ [0-9]+ [0-9a-f]+ /, "", name) }
-        /^l / { sub(/^l [0-9]+ /, "", name); name = substr(name, $2 + 2) }
+        /^[do] / { sub(/^[do] [0-9:]+ /, "", name) }
+        /^f / { sub(/^f [0-9:]+ [0-9]+ [0-9a-f]+ /, "", name) }
+        /^l / { sub(/^l [0-9:]+ /, "", name); name = substr(name, $2 + 2) }
         /^[dofl] / && name !~ /\// { print ($1 == "o" ? "d" : $1), name }'
 }
 

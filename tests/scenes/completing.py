@@ -68,8 +68,9 @@ def fill(place):
     files = {f"usr/{name}": content_of(name) for name in NAMES}
     files |= {"usr/sub/dir/file": b"file\n", "usr/sub/dirt": b"dirt\n", "etc/sysupdate.web.d/x": b"x", "etc/sysupdate.w $e.d/x": b"x"}
     files |= {"etc/sysupdate.w $e.d/disk.transfer": DISKS, "etc/disks/disk_1": b"1"}
-    text = tree_of(files).decode().replace("d 755 usr/sub\n", "l 9 to/ no/is usr/sublink\nd 755 usr/sub\n")
-    lines = text.splitlines()
+    text = tree_of(files).decode().replace("d 755 usr/sub\n", "l 9:1000:50 to/ no/is usr/sublink\nd 755:1000:50 usr/sub\n")
+    lines = re.sub(r"(?m)^f 644 (.* usr/sub/dirt)$", r"f 644:1000:50:1:8192:0:0 \1", text).splitlines()
+    lines[0] = "hostext-tree 3"
     place.resource("host", "".join(f"{line}\n" for line in [lines[0], *sorted(lines[1:-1], key=path_of), lines[-1]]).encode(), files)
     for name in "images/tool 1", "images/tool$2", "other:x":
         place.resource(name, b"hostext-tree 1\nend\n")
@@ -354,8 +355,8 @@ def options_and_places_of_tools_are_offered(place, folder):
 
 def lists_of(path, adds):
     """The lists of words that stand in a file as they are."""
-    found = re.findall(rf"\b{adds} (?:-- )?((?:--)?[a-z][a-z0-9 -]*)", (TOP / path).read_text())
-    return {words.strip().removesuffix(" --component") for words in found}
+    found = re.findall(rf"\b{adds} (?:-S '' )?(?:-- )?((?:--)?[a-z][a-z0-9 -]*)", (TOP / path).read_text())
+    return {words.strip().removesuffix(" --component") for words in found} - {"--component"}
 
 
 def both_shells_have_the_same_words(_program):
@@ -438,7 +439,7 @@ def the_words_around_are_completed(shell):
     """Folders, commands, directories on the way, resources and components: each line is done once the words are completed."""
     shows(shell, "hostext sto\t dep\t che\t", "ok ")
     shows(shell, "hostext s d ca\t /us\t/su\t/dir/\t", "file")
-    shows(shell, "hostext s d tr\t /usr/su\t", "hostext-tree 1")
+    shows(shell, "hostext s d tr\t /usr/su\t", "hostext-tree 3")
     shows(shell, "hostext s d import-fs im\ttool\\ \t /sr", "done")
     shows(shell, "hostext s d sysext st\t", "unmerged")
     shows(shell, "hostext s d sysupdate --comp\tw\\ \t features", "")

@@ -4,17 +4,16 @@ import os
 import re
 from dataclasses import dataclass, field
 
-from scenes.erofs_trees import put_store
+from scenes.erofs_trees import HOME, STAMP, put_store
 from scenes.erofs_writing import image_of
 from scenes.failing import LINES, TOLD, TRIED_AGAIN, may_be_ignored, ways
 from scenes.helping import without_help
 from scenes.refusing import OUT_OF_MEMORY, Refused
-from scenes.running import ABC, Failed, shortened
+from scenes.running import Failed, shortened
 from scenes.sites import expected, standing
 from scenes.traces import calls_of, concerning, straced
 
 STATUSES = {"store": 5, "standard output": 4}
-STAMP = b"3", ABC.encode(), b"1", b"00000"
 GENERATION, MARK = 7, 3
 SMALL = {(b"d",): (b"d", (b"755:1:2",)), (b"d", b"f"): (b"f", (b"4755:0:0:1:8192:0:0", *STAMP)), (b"l",): (b"l", (b"70", b"t" * 70))}
 # Of which the image goes out in several pieces.
@@ -64,7 +63,7 @@ class Press:
     def lay(self, run):
         """The store as the run finds it."""
         if run.entries is not None:
-            put_store(self.place, GENERATION, run.entries, {(1, b"00000"): b"abc"}, run.marked and {MARK: run.marked})
+            put_store(self.place, GENERATION, run.entries, {HOME: b"abc"}, run.marked and {MARK: run.marked})
 
 
 class Tried:

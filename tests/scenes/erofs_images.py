@@ -9,7 +9,6 @@ from scenes.running import ABC, EMPTY, Failed, expect, named, tree_text
 from scenes.stores import DONE, in_a_place, merged_image
 
 SEED, TREES, MANY, LAST_TIME, LAST_GENERATION = 72, 300, 5_000, 2**63 - 1, 4_294_967_295
-STAMP = b"3", ABC.encode(), b"1", b"00000"
 
 
 def has_image(place, *words, time=0, mark=None):

@@ -3,9 +3,9 @@ import os
 import subprocess
 import sys
 
-from scenes.erofs_trees import put_store, written_image
+from scenes.erofs_trees import STAMP, put_store, written_image
 from scenes.memory import STARTER
-from scenes.running import ABC, MOST_ENTRIES, SECONDS, Failed, imager, named
+from scenes.running import MOST_ENTRIES, SECONDS, Failed, imager, named
 from scenes.stores import in_a_place
 
 # Entries, and the seconds of a processor that their image may take: some five times as many as docs/PERFORMANCE.md tells, since a
@@ -15,7 +15,6 @@ RUNS = 5
 # Of the bytes of the index.
 MOST_MEMORY, MOST_IMAGE = 3, 1.6
 OF_PACKAGE = 20
-STAMP = b"3", ABC.encode(), b"1", b"00000"
 
 
 def host(count):

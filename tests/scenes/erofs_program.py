@@ -15,7 +15,7 @@ import threading
 import time
 
 from scenes.devices import become_nobody
-from scenes.erofs_trees import index_of, index_text, put_store, random_tree, same_images, written_image
+from scenes.erofs_trees import HOME, STAMP, index_of, index_text, put_store, random_tree, same_images, written_image
 from scenes.erofs_writing import image_of
 from scenes.helping import rows
 from scenes.locks import REPLACED, WAITING, ended, exchanged, locked, only, start, waits
@@ -24,12 +24,11 @@ from scenes.running import ABC, SECONDS, VERSION, Failed, Skipped, directories, 
 from scenes.stores import DONE, EMPTY_INDEX, FAULTS, digest, in_a_place, what_stands
 
 HELP = b"hostext_erofs STORE [--mark=G] [--time=SECONDS]\n"
-WORDS = "the words are [--mark=G] [--time=SECONDS], where G is the number of a generation, and SECONDS is at most 9223372036854775807"
+WORDS = "the words are [--mark=G] [--time=SECONDS], in this order, where G is the number of a mark, and SECONDS one from 0 to 9223372036854775807"
 CALL = "it is called as hostext_erofs STORE [--mark=G] [--time=SECONDS], or with --help or --version alone"
-HELPS = "What helps after a refusal of an image"
+HELPS = "What helps after the refusal of an EROFS image"
 SEED, KILLS, ROUNDS, PIECE = 72, 40, 20, 65_536
 LONG = 4_096
-STAMP = b"3", ABC.encode(), b"1", b"00000"
 DIRECTORY, FILE = (b"d", (b"755",)), (b"f", (b"644", *STAMP))
 
 
@@ -106,12 +105,11 @@ def words_that_ask_nothing_are_usage(place):
 
 def words_without_a_store_are_usage(place):
     around = {name: value for name, value in os.environ.items() if name != "HOSTEXT_EXPLAIN"}
-    for words in [], ["--versions"], ["--mark=1"], [b"\xff"], ["store", b"\xff"], ["store", b"--mark=1\xff"]:
+    for words in [], [b"\xff"], ["store", b"\xff"], ["store", b"--mark=1\xff"]:
         child = subprocess.run([imager(), *words], env=around, stdin=subprocess.DEVNULL, capture_output=True, timeout=SECONDS, cwd=place.store)
         expect((child.stdout, child.stderr, child.returncode), (b"", b"hostext: usage 1\n", 2))
-    for words in [], ["--versions"], ["--mark=1"]:
-        child = subprocess.run([imager(), *words], env=EXPLAIN, stdin=subprocess.DEVNULL, capture_output=True, timeout=SECONDS)
-        explains((child.stderr.decode().splitlines(), child.returncode), "usage 1", CALL, 2)
+    child = subprocess.run([imager()], env=EXPLAIN, stdin=subprocess.DEVNULL, capture_output=True, timeout=SECONDS)
+    explains((child.stderr.decode().splitlines(), child.returncode), "usage 1", CALL, 2)
 
 
 def the_least_and_the_greatest_numbers_are_taken(place):
@@ -270,7 +268,7 @@ def a_store_that_is_none_is_told(place):
 
 def no_file_of_the_store_is_read_but_its_index(place):
     """Homes that are gone or damaged change nothing. Each piece that is written has at most 65,536 bytes."""
-    put_store(place, 1, {(b"%05d" % at,): FILE for at in range(5_000)}, {(1, b"00000"): b"abc"})
+    put_store(place, 1, {(b"%05d" % at,): FILE for at in range(5_000)}, {HOME: b"abc"})
     wanted = written_image(place)
     for damage in (lambda home: home.write_bytes(b"abd"), lambda home: home.chmod(0), lambda home: home.unlink(), lambda home: home.parent.rmdir()):
         damage(place.store / "g-1/000/00")
@@ -396,7 +394,7 @@ def who_waited_for_a_folder_that_was_replaced_writes_nothing(place):
 
 
 def a_kill_leaves_the_store_as_it_is_and_frees_it(place):
-    put_store(place, 3, {(b"%05d" % at,): FILE for at in range(20_000)}, {(1, b"00000"): b"abc"})
+    put_store(place, 3, {(b"%05d" % at,): FILE for at in range(20_000)}, {HOME: b"abc"})
     before, began = what_stands(place.store), time.monotonic()
     wanted = written_image(place)
     whole, chance, cut = time.monotonic() - began, random.Random(SEED), 0
