@@ -14,35 +14,77 @@ pub(crate) fn disk_answer(
     call: &[&str],
 ) -> anyhow::Result<String> {
     match call {
-        ["list", dir] => listed(alloc, disk.list(alloc, &path(alloc, dir)?)),
-        ["kind", at] => found(alloc, disk.kind(&path(alloc, at)?)),
-        ["read", file, at, room] => {
-            let (file, at) = (path(alloc, file)?, at.parse::<u64>()?);
-            let mut buf = vec![in alloc; b'?'; room.parse::<usize>()?]?;
-            let count = disk.read(&file, at, &mut buf);
-            read(alloc, count, &buf)
-        }
-        ["append", file, bytes] => done(alloc, disk.append(&path(alloc, file)?, bytes.as_bytes())),
-        ["rename", from, to] => done(alloc, disk.rename(&path(alloc, from)?, &path(alloc, to)?)),
-        [change, at] => done(alloc, changed(disk, change, &path(alloc, at)?)?),
+        ["list", dir] => list(alloc, disk, dir),
+        ["kind", at] => kind(alloc, disk, at),
+        ["read", file, at, room] => read(alloc, disk, file, at.parse::<u64>()?, room),
+        ["append", file, bytes] => append(alloc, disk, file, bytes),
+        ["rename", from, to] => rename(alloc, disk, from, to),
+        [change, at] => changed(alloc, disk, change, at),
         _ => bail!("no such call"),
     }
 }
 
+fn list(alloc: Global, disk: &mut FolderDisk<HostRuntime>, dir: &str) -> anyhow::Result<String> {
+    let dir = path(alloc, dir)?;
+    listed(alloc, disk.list(alloc, &dir))
+}
+
+fn kind(alloc: Global, disk: &mut FolderDisk<HostRuntime>, at: &str) -> anyhow::Result<String> {
+    let at = path(alloc, at)?;
+    found(alloc, disk.kind(&at))
+}
+
+fn read(
+    alloc: Global,
+    disk: &mut FolderDisk<HostRuntime>,
+    file: &str,
+    at: u64,
+    room: &str,
+) -> anyhow::Result<String> {
+    let file = path(alloc, file)?;
+    let mut buf = room_of(alloc, room)?;
+    let count = disk.read(&file, at, &mut buf);
+    told(alloc, count, &buf)
+}
+
+fn append(
+    alloc: Global,
+    disk: &mut FolderDisk<HostRuntime>,
+    file: &str,
+    bytes: &str,
+) -> anyhow::Result<String> {
+    let file = path(alloc, file)?;
+    done(alloc, disk.append(&file, bytes.as_bytes()))
+}
+
+fn rename(
+    alloc: Global,
+    disk: &mut FolderDisk<HostRuntime>,
+    from: &str,
+    to: &str,
+) -> anyhow::Result<String> {
+    let from = path(alloc, from)?;
+    let to = path(alloc, to)?;
+    done(alloc, disk.rename(&from, &to))
+}
+
 // What the disk answers to a call that has a path alone.
 fn changed(
+    alloc: Global,
     disk: &mut FolderDisk<HostRuntime>,
     change: &str,
-    at: &Path,
-) -> anyhow::Result<Result<(), Failed>> {
-    match change {
-        "make_dir" => Ok(disk.make_dir(at)),
-        "make_file" => Ok(disk.make_file(at)),
-        "sync_file" => Ok(disk.sync_file(at)),
-        "sync_dir" => Ok(disk.sync_dir(at)),
-        "remove" => Ok(disk.remove(at)),
+    at: &str,
+) -> anyhow::Result<String> {
+    let at = path(alloc, at)?;
+    let outcome = match change {
+        "make_dir" => disk.make_dir(&at),
+        "make_file" => disk.make_file(&at),
+        "sync_file" => disk.sync_file(&at),
+        "sync_dir" => disk.sync_dir(&at),
+        "remove" => disk.remove(&at),
         _ => bail!("no such call"),
-    }
+    };
+    done(alloc, outcome)
 }
 
 /// What the depot answers to a call.
@@ -52,15 +94,34 @@ pub(crate) fn depot_answer(
     call: &[&str],
 ) -> anyhow::Result<String> {
     match call {
-        ["size", file] => sized(alloc, depot.size(&path(alloc, file)?)),
-        ["read", file, at, room] => {
-            let (file, at) = (path(alloc, file)?, at.parse::<u64>()?);
-            let mut buf = vec![in alloc; b'?'; room.parse::<usize>()?]?;
-            let count = depot.read(&file, at, &mut buf);
-            read(alloc, count, &buf)
-        }
+        ["size", file] => size(alloc, depot, file),
+        ["read", file, at, room] => read_depot(alloc, depot, file, at.parse::<u64>()?, room),
         _ => bail!("no such call"),
     }
+}
+
+fn size(alloc: Global, depot: &mut FolderDepot<HostRuntime>, file: &str) -> anyhow::Result<String> {
+    let file = path(alloc, file)?;
+    sized(alloc, depot.size(&file))
+}
+
+fn read_depot(
+    alloc: Global,
+    depot: &mut FolderDepot<HostRuntime>,
+    file: &str,
+    at: u64,
+    room: &str,
+) -> anyhow::Result<String> {
+    let file = path(alloc, file)?;
+    let mut buf = room_of(alloc, room)?;
+    let count = depot.read(&file, at, &mut buf);
+    told(alloc, count, &buf)
+}
+
+// So many bytes to read into.
+fn room_of(alloc: Global, room: &str) -> anyhow::Result<Vec<u8>> {
+    let room = room.parse::<usize>()?;
+    Ok(vec![in alloc; b'?'; room]?)
 }
 
 fn path(alloc: Global, text: &str) -> anyhow::Result<Path> {
@@ -91,7 +152,7 @@ fn sized(alloc: Global, size: Result<Option<u64>, Failed>) -> anyhow::Result<Str
     }
 }
 
-fn read(alloc: Global, count: Result<usize, Failed>, buf: &[u8]) -> anyhow::Result<String> {
+fn told(alloc: Global, count: Result<usize, Failed>, buf: &[u8]) -> anyhow::Result<String> {
     match count {
         Ok(count) => {
             let bytes = str::from_utf8(buf.get(..count).unwrap_or(b""))?;
