@@ -128,7 +128,7 @@ def a_signal_leaves_nothing(_program):
         for number in signal.SIGINT, signal.SIGTERM:
             mounts = open("/proc/self/mounts").read()
             words = [sys.executable, TOP / "tests/systemd", "--part", "merges"]
-            child = subprocess.Popen(words, stdin=subprocess.DEVNULL, stdout=subprocess.PIPE, stderr=subprocess.STDOUT, text=True, env={**os.environ, "TMPDIR": room}, start_new_session=True, preexec_fn=lambda: signal.signal(number, signal.SIG_DFL))
+            child = subprocess.Popen(words, stdin=subprocess.DEVNULL, stdout=subprocess.PIPE, stderr=subprocess.STDOUT, text=True, env={**os.environ, "TMPDIR": room}, start_new_session=True)
             until = time.monotonic() + SECONDS / 2
             while not in_its_room(child.pid, room) and time.monotonic() < until:
                 time.sleep(0.05)
