@@ -128,30 +128,27 @@ def check_refusals(sources):
 
 def check_publishing(sources):
     """The refusals and the statuses of the program that publishes, as their definitions have them."""
-    text = section(sources.text("docs/FORMATS.md"), "Publishing")
-    refusals, statuses = (first_table(text[text.index(head) :]) for head in ("| number |", "| status of the process |"))
-    specs = sources.text("crates/ext_published/specs/Replies.antt")
-    numbers = dict(re.findall(r"^pub_refusal_number \(?(\w+)[^=]*= (\d+)$", specs, re.M))
-    words = dict(re.findall(r'^pub_refusal_details \(?(\w+)[^=]*= codes "([a-z -]+?) ?"', specs, re.M))
-    same_rows("refusals of publishing", {(row[0], re.sub(r" [A-Z]+$", "", quoted(row[1])[0])) for row in refusals}, numbers, words)
-    numbers = dict(re.findall(r"^pub_status_number \(?(\w+)[^=]*= (\d+)$", sources.text("crates/ext_publish/specs/Status.antt"), re.M))
-    words = {"Done": "", "Refused": "", **lines_of_statuses(sources.text("crates/ext_pubcli/src/ending.rt"))}
-    told = {(row[0], "".join(quoted(row[1])).removeprefix("hostext: ").removesuffix(" PLACE")) for row in statuses}
-    same_rows("statuses of publishing", told, numbers, words)
+    check_program(sources, "Publishing", "publishing", "pub", ("ext_published", "ext_publish", "ext_pubcli"))
 
 
 def check_erofs(sources):
     """The same of the program that writes EROFS images."""
-    text = section(sources.text("docs/FORMATS.md"), "EROFS images")
+    check_program(sources, "EROFS images", "EROFS images", "image", ("ext_mount", "ext_mount", "ext_eroscli"))
+
+
+def check_program(sources, title, what, begin, crates):
+    """The rows of a section, by the crates that define the refusals and the statuses, and that tell these. Names of definitions begin so."""
+    text = section(sources.text("docs/FORMATS.md"), title)
     refusals, statuses = (first_table(text[text.index(head) :]) for head in ("| number |", "| status of the process |"))
-    specs = sources.text("crates/ext_mount/specs/Replies.antt")
-    numbers = dict(re.findall(r"^image_refusal_number \(?(\w+)[^=]*= (\d+)$", specs, re.M))
-    words = dict(re.findall(r'^image_refusal_details \(?(\w+)[^=]*= codes "([a-z -]+?) ?"', specs, re.M))
-    same_rows("refusals of EROFS images", {(row[0], re.sub(r" [A-Z]+$", "", quoted(row[1])[0])) for row in refusals}, numbers, words)
-    numbers = dict(re.findall(r"^image_status_number \(?(\w+)[^=]*= (\d+)$", sources.text("crates/ext_mount/specs/Status.antt"), re.M))
-    words = {"Done": "", "Refused": "", **lines_of_statuses(sources.text("crates/ext_eroscli/src/ending.rt"))}
+    replies, status, ending = (f"crates/{crate}/{path}" for crate, path in zip(crates, ("specs/Replies.antt", "specs/Status.antt", "src/ending.rt")))
+    specs = sources.text(replies)
+    numbers = dict(re.findall(rf"^{begin}_refusal_number \(?(\w+)[^=]*= (\d+)$", specs, re.M))
+    words = dict(re.findall(rf'^{begin}_refusal_details \(?(\w+)[^=]*= codes "([a-z -]+?) ?"', specs, re.M))
+    same_rows(f"refusals of {what}", {(row[0], re.sub(r" [A-Z]+$", "", quoted(row[1])[0])) for row in refusals}, numbers, words)
+    numbers = dict(re.findall(rf"^{begin}_status_number \(?(\w+)[^=]*= (\d+)$", sources.text(status), re.M))
+    words = {"Done": "", "Refused": "", **lines_of_statuses(sources.text(ending))}
     told = {(row[0], "".join(quoted(row[1])).removeprefix("hostext: ").removesuffix(" PLACE")) for row in statuses}
-    same_rows("statuses of EROFS images", told, numbers, words)
+    same_rows(f"statuses of {what}", told, numbers, words)
 
 
 def same_rows(what, rows, numbers, words):
