@@ -9,10 +9,10 @@ from entries import Refused
 DOCUMENT, WORDS = "docs/DEFINITIONS.md", "tools/definitions.words"
 HEAD = """# Definitions
 
-The definitions that the contracts of exported calls cite, in plain words, by their crates from `ext_top::run` down. `tools/definitions` writes
-this from the comments over them. Those of the kit's standard library are not among them.
+The definitions that the contracts of exported calls cite, in plain words, by their crates from `ext_top::run` down and by their files, in which
+they stand in this order. Words that begin with `..` go on with those above them. `tools/definitions` writes this from the comments over the
+definitions. Those of the kit's standard library are not among them.
 """
-TABLE = "| plain words | name | file |\n|---|---|---|\n"
 MORE, GOES_ON = "..", "^"
 
 
@@ -60,35 +60,44 @@ def words_given(sources):
     return found
 
 
+def gone_on_from(one, comments):
+    """The definition with whose words those of another one go on: the one before it that has a comment of its own; or nothing."""
+    names = list(comments)
+    before = [name for name in names[: names.index(one.name)] if comments[name] not in ("", comments[one.name])]
+    return Definition(one.file, before[-1]) if before else None
+
+
 def words_of(one, comments, given):
     """The words for a definition, of the comments of its file in their order, and of what is given besides."""
     comment, more = comments.get(one.name, ""), given.get(one, "")
     if more == GOES_ON:
-        names = list(comments)
-        before = [name for name in names[: names.index(one.name)] if comments[name] not in ("", comment)]
-        return f"{words_of(Definition(one.file, before[-1]), comments, given)}; {comment}" if before else ""
+        before = gone_on_from(one, comments)
+        return f"{words_of(before, comments, given)}; {comment}" if before else ""
     return f"{comment}. {more.removeprefix(MORE).strip()}" if more.startswith(MORE) else more or comment
 
 
-def title_of(sources, crate):
-    """What the source of a crate says of it first."""
-    said = sources.text(f"crates/{crate}/src/lib.rt").splitlines()[0]
-    return said.removeprefix("//!").strip().rstrip(".")
+def rows_of(file, wanted, comments, given):
+    """The rows of a file: its definitions in their order. One that goes on with the words right above it doesn't repeat them."""
+    rows, last = [f"\n**{file}**\n\n"], None
+    for one in sorted((one for one in wanted if one.file == file), key=lambda one: [*comments, one.name].index(one.name)):
+        goes_on = given.get(one) == GOES_ON and last == gone_on_from(one, comments)
+        rows.append(f"- `{one.name}`: {f'{MORE} {comments[one.name]}' if goes_on else words_of(one, comments, given)}\n")
+        last = one
+    return "".join(rows)
 
 
 def document(sources):
     """The text of docs/DEFINITIONS.md."""
     wanted = sorted(Definition(file, name) for name, file in cited(sources))
     given = words_given(sources)
-    comments = {file: comments_of(sources.text(f"crates/{file}")) for file in {one.file for one in wanted}}
-    words = {one: words_of(one, comments[one.file], given) for one in wanted}
-    reasons = [f"{one.name} of {one.file} has no comment, and {WORDS} has no words for it" for one in wanted if not words[one]]
-    reasons += [f"{WORDS} has words for {one.name} of {one.file}, which no contract of an exported call cites" for one in given if one not in words]
+    comments = {file: comments_of(sources.text(f"crates/{file}")) for file in sorted({one.file for one in wanted})}
+    wordless = [one for one in wanted if not words_of(one, comments[one.file], given)]
+    reasons = [f"{one.name} of {one.file} has no comment, and {WORDS} has no words for it" for one in wordless]
+    reasons += [f"{WORDS} has words for {one.name} of {one.file}, which no contract of an exported call cites" for one in given if one not in wanted]
     if reasons:
         raise Refused(*reasons)
     parts = [HEAD]
     for crate in reversed(crates_of(sources)):
-        rows = "".join(f"| {words[one].replace('|', chr(92) + '|')} | `{one.name}` | `{one.file}` |\n" for one in wanted if one.file.startswith(f"{crate}/"))
-        if rows:
-            parts.append(f"\n## {crate}\n\n{title_of(sources, crate)}.\n\n{TABLE}{rows}")
+        if files := [file for file in comments if file.startswith(f"{crate}/")]:
+            parts += [f"\n## {crate}\n", *(rows_of(file, wanted, comments[file], given) for file in files)]
     return "".join(parts)

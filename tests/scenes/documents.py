@@ -259,15 +259,17 @@ def the_definitions_are_those_of_the_sources(_program):
     if comment not in text:
         raise Failed(f"{edited} hasn't {comment!r}")
     other = {f"crates/{edited}": text.replace(comment, "-- another number\n")}
-    if "| another number | `status_number` |" not in document(Sources(instead=other)):
+    if "- `status_number`: another number\n" not in document(Sources(instead=other)):
         raise Failed("the comment over a definition isn't what its row has")
     refused(Sources(instead={f"crates/{edited}": text.replace(comment, "")}), f"status_number of {edited} has no comment, and {WORDS} has no words for it")
     given = {f"crates/{edited}": text.replace(comment, ""), WORDS: f"{words}{edited} status_number: a status\n"}
-    if "| a status | `status_number` |" not in document(Sources(instead=given)):
+    if "- `status_number`: a status\n" not in document(Sources(instead=given)):
         raise Failed("given words aren't what the row has")
     more = {WORDS: f"{words}{edited} status_number: .. It is small\n"}
-    if "| the number that the process ends with. It is small | `status_number` |" not in document(Sources(instead=more)):
+    if "- `status_number`: the number that the process ends with. It is small\n" not in document(Sources(instead=more)):
         raise Failed("given words don't follow the comment")
+    if "\n- `AfterSomeIsOnTheWay`: .. and each such state" not in sources.text(DOCUMENT):
+        raise Failed("what goes on with the words above it repeats them")
     refused(Sources(instead={WORDS: f"{words}{edited} nothing: words\n"}), f"{WORDS} has words for nothing of {edited}, which no contract of an exported call cites")
     line = words.count("\n") + 1
     for wrong in "status_number: words", words.splitlines()[-1]:
@@ -290,6 +292,11 @@ def the_promises_are_the_heads_of_the_crates(_program):
     first = source.splitlines(keepends=True)[0]
     if promises(Sources(instead={edited: source.replace(first, "//! What [`judge`](ext_match::judge) says.\n")})).count("\nWhat `judge` says.\n") != 1:
         raise Failed("the head of a crate isn't what its part has")
+    told = source.replace(first, f"{first}//!\n//! It is small. Whoever judges stands on this.\n")
+    if promises(Sources(instead={edited: told})) != written.replace(first.removeprefix("//! "), f"{first.removeprefix('//! ')}\nIt is small.\n", 1):
+        raise Failed("who stands on a crate is told")
+    if "#### ext_match\n" not in written or "#### ext_case\n" in written:
+        raise Failed("the rooms aren't those whose crates promise something")
     changed = {PROMISES: written.replace("# Promises\n", "# Promised\n")}
     if promises(Sources(instead=changed)) != changed[PROMISES]:
         raise Failed("what stands above the crates doesn't stay")
@@ -347,7 +354,7 @@ def is_missed(check, path, begin, *given):
 
 def a_row_that_is_taken_away_is_missed(program):
     shown = help_of(program)
-    is_missed(check_definitions, DOCUMENT, "| what a command wants of a store |")
+    is_missed(check_definitions, DOCUMENT, "- `WantsOf`: what a command wants of a store")
     for crate in "ext_lines", "ext_trial", "ext_cli":
         is_missed(check_crates, "docs/ARCHITECTURE.md", f"| `{crate}` |")
     for crate in "ext_match", "ext_trial":
