@@ -9,9 +9,9 @@ from entries import Refused
 DOCUMENT, WORDS = "docs/DEFINITIONS.md", "tools/definitions.words"
 HEAD = """# Definitions
 
-The definitions that the contracts of exported calls cite, in plain words, by their crates from `ext_top::run` down and by their files, in which
-they stand in this order. Words that begin with `..` go on with those above them. `tools/definitions` writes this from the comments over the
-definitions. Those of the kit's standard library are not among them.
+The definitions that the contracts of exported calls cite, in plain words, by their crates from `ext_top::run` down and by their files, in
+which they stand in this order. Words that begin with `..` go on with those above them. `tools/definitions` writes this from the comments
+over the definitions. Those of the kit's standard library are not among them.
 """
 MORE, GOES_ON = "..", "^"
 
