@@ -14,6 +14,8 @@ from entries import Refused
 from house import rooms_of
 from promising import PROMISES, promises
 
+MOST_WORDS = {"README.md": 2500, PROMISES: 5000}
+
 
 def cells_of(line):
     return [cell.strip() for cell in re.split(r"(?<!\\)\|", line.strip().strip("|"))]
@@ -304,6 +306,18 @@ def the_promises_are_the_heads_of_the_crates(_program):
     refused(Sources(instead={PROMISES: "# Promises\n"}), f"{PROMISES} has no heading 'Crate by crate'", promises)
 
 
+def too_long(sources):
+    """The documents that have more words than somebody reads; of PROMISES what is written by hand counts."""
+    return {path for path, most in MOST_WORDS.items() if len(sources.text(path).partition("\n## Crate by crate\n")[0].split()) > most}
+
+
+def what_is_read_first_stays_short(_program):
+    nothing_is_missing("too long", too_long(Sources()))
+    for path, most in MOST_WORDS.items():
+        if too_long(Sources(instead={path: "word " * (most + 1)})) != {path}:
+            raise Failed(f"nobody sees that {path} has more than {most} words")
+
+
 def the_pictures_are_those_of_the_sources(_program):
     check_pictures(Sources())
     text, rooms = Sources().text(PARTS_TEXT), Sources().text("docs/ARCHITECTURE.md")
@@ -384,6 +398,6 @@ def a_row_that_is_taken_away_is_missed(program):
 scenes = named(
     *(the_definitions_are_those_of_the_sources, each_crate_is_in_the_map_and_on_its_floor, the_pictures_are_those_of_the_sources),
     each_refusal_status_and_command_is_told,
-    the_promises_are_the_heads_of_the_crates,
+    *(the_promises_are_the_heads_of_the_crates, what_is_read_first_stays_short),
     *(the_version_names_the_kit_of_the_documents, each_decision_begins_with_a_question_and_stands_in_its_room, a_row_that_is_taken_away_is_missed),
 )
