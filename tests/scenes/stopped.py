@@ -14,9 +14,10 @@ from scenes.traces import straced
 WATCHED = "openat,creat,mkdir,mkdirat,write,pwrite64,writev,fsync,fdatasync,ftruncate,rename,renameat,renameat2,unlink,unlinkat,rmdir"
 WATCHED += ",link,linkat,symlink,symlinkat,close"
 LINE = re.compile(r"\d+ +(\w+)\((.*)\) += (\d+)")
-SECONDS = 300
-# How many folders are built and looked at together, and how many where the first that shows something ends it.
-PIECE, FEW = 400, 20
+# How long a look may take.
+SECONDS = 30
+# How many folders are looked at where the first that shows something ends it.
+FEW = 20
 # Why a sync can be left out, and no stop shows it. The first is the one with which a store is opened: a command before may have
 # been killed between its switch and the sync after it, so that a stop leads back to the store before that. A change syncs the store
 # folder once more before it switches and replies, and a refused command doesn't.
@@ -175,7 +176,7 @@ def folders(story, shapes, draws, seed):
     return found
 
 
-def left_out(story, shapes, trial, good, at, draws, seed):
+def left_out(story, shapes, good, at, draws, seed):
     """Whether a look finds something where the sync of this number is left out, and how many folders were looked at. Those that
     stops leave anyway are known to be good. The last moments come first, since in them the least else isn't durable."""
     fresh, rng = {}, random.Random(seed)
@@ -184,77 +185,45 @@ def left_out(story, shapes, trial, good, at, draws, seed):
         fresh.update(((shape, moment.told), number) for shape in left if (shape, moment.told) not in good)
     keys = sorted(fresh, key=lambda key: (-fresh[key], key))
     for start in range(0, len(keys), FEW):
-        if looked(story, shapes, trial, keys[start : start + FEW]):
+        if looked(story, shapes, keys[start : start + FEW]):
             return True, min(start + FEW, len(keys))
     return False, len(keys)
 
 
-def escaped(content):
-    """Bytes as a word or a line of a case."""
-    text = "".join(chr(byte) if 32 < byte < 127 and byte not in b"\\$" else f"\\x{byte:02x}" for byte in content)
-    return text or "\\e"
+def lines_of(use):
+    """The lines of a batch that runs what a look runs."""
+    for command in use.commands:
+        yield use.source if command == "batch" else f"{command}\n".encode()
 
 
-def wanted(written, status):
-    """The lines of a case that expect this."""
-    lines = written.split(b"\n")
-    yield from (f"> {escaped(line)}" if line else ">" for line in lines[:-1])
-    if lines[-1]:
-        yield f">| {escaped(lines[-1])}"
-    if status:
-        yield f"status {status}"
-
-
-def case(story, place, depot, name, state):
-    """A case that looks at a folder, in which this state has to stand."""
-    yield from (f"case {name}", f"folder {place} {depot}", *([f"input {escaped(story.use.source)}"] if story.use.source else []))
-    for at, command in enumerate(story.use.commands):
-        yield f"$ {command}"
-        written, status = story.states[state][at]
-        if len(written) < 400:
-            yield from wanted(written, status)
-        else:
-            yield f"> $text-{list(story.states).index(state)}-{at}" if written.endswith(b"\n") else f">| {escaped(written)}"
-
-
-def texts(story):
-    """The long texts that cases expect, defined before all cases."""
-    for number, looks in enumerate(story.states.values()):
-        for at, (written, _) in enumerate(looks):
-            if len(written) >= 400 and written.endswith(b"\n"):
-                name = f"text-{number}-{at}"
-                yield from (f"text {name}", *(escaped(line) for line in written.split(b"\n")[:-1]), f"end of {name}")
-
-
-def looked(story, shapes, trial, batch):
+def looked(story, shapes, batch):
     """Builds folders, and gives what was other than it had to be, by the shape and how many steps were told by then."""
-    folder, depot = story.room.folder / "stopped", story.room.place.depot
-    folder.mkdir()
-    try:
-        lines = [*texts(story)]
-        for at, (number, told) in enumerate(batch):
-            shapes.build(number, folder / str(at))
-            lines += case(story, folder / str(at), depot, at, story.state(shapes, number, told))
-        file = folder / "looks.cases"
-        file.write_text("".join(f"{line}\n" for line in lines))
-        ended = subprocess.run([trial, file], capture_output=True, timeout=SECONDS)
-        failed = judged(batch, ended.stdout.decode(errors="replace").splitlines(), ended)
-        for at, key in enumerate(batch):
-            if key not in failed and (found := stray(folder / str(at))):
-                failed[key] = f"at the end are left over {', '.join(found)}"
-        return failed
-    finally:
-        shutil.rmtree(folder)
-
-
-def judged(batch, lines, ended):
-    """The cases that failed. Each has to be counted."""
     failed = {}
-    for line in lines[:-1]:
-        found = re.match(r".*?looks\.cases:\d+: (\d+): (.*)", line)
-        if not found:
-            raise Failed(f"ext_trial tells {line}")
-        failed[batch[int(found[1])]] = found[2]
-    if not lines or lines[-1] != f"{len(batch) - len(failed)} passed, {len(failed)} failed":
-        raise Failed(f"ext_trial ends with {ended.returncode}: {shortened(lines[-1:])} {shortened(ended.stderr)}")
+    for number, told in batch:
+        folder = story.room.folder / "stopped"
+        shapes.build(number, folder)
+        try:
+            if why := wrong(story, folder, story.state(shapes, number, told)):
+                failed[number, told] = why
+        finally:
+            shutil.rmtree(folder)
     return failed
+
+
+def wrong(story, folder, state):
+    """What is wrong with a store folder in which this state has to stand. One process runs all commands, each of which by itself wrote
+    what the state has."""
+    words = [story.room.place.program, folder, story.room.place.depot, "batch"]
+    ended = subprocess.run(words, input=b"".join(lines_of(story.use)), capture_output=True, timeout=SECONDS)
+    looks = story.states[state]
+    wanted = b"".join(written for written, _ in looks)
+    if (ended.stdout, ended.returncode) != (wanted, 0):
+        return f"a look ends with {ended.returncode} and {shortened(differing(ended.stdout, wanted))}"
+    return f"at the end are left over {', '.join(left)}" if (left := stray(folder)) else None
+
+
+def differing(found, wanted):
+    """Two texts from the line on in which they differ."""
+    at = next((at for at, pair in enumerate(zip(found, wanted)) if pair[0] != pair[1]), min(len(found), len(wanted)))
+    start = found.rfind(b"\n", 0, at) + 1
+    return found[start:], wanted[start:]
