@@ -320,6 +320,7 @@ _hostext_erofs() {
 # Replies the options of a tool. A value that one has is the next word.
 _hostext_tool_options() {
     case $1 in
+        activate) _hostext_reply --help ;;
         unpack) _hostext_reply --tar --erofs --squashfs --mtime --keep-setid --no-setid --quiet --help ;;
         image-from-packages) _hostext_reply --release --confext --root-owned --public --quiet --help ;;
         pack) _hostext_reply --format --image --layers --most-bytes --without --leave-out-special --usr-merge --keep-owners --root-owned --strict --public --quiet --help ;;
@@ -327,6 +328,26 @@ _hostext_tool_options() {
         tree-text) _hostext_reply --keep-owners --root-owned --quiet --help ;;
         update) _hostext_reply --help ;;
     esac
+}
+
+# Replies the options of a command that shows a generation, and the marks of the store after the one that names a mark.
+_hostext_activate_options() {
+    local mark
+    if [[ ${words[-1]} == --mark=* ]]; then
+        words=("${words[0]%-activate}" "${places[0]}" . "${words[-1]}")
+        while IFS= read -r mark; do
+            _hostext_reply "--mark=${mark%% *}"
+        done < <(_hostext_run history)
+        return
+    fi
+    case ${places[1]} in
+        make) _hostext_reply --mark= && _hostext_reply --no-check ;;
+        mount) _hostext_reply --mark= --path= && _hostext_reply --no-check --no-suid ;;
+        switch) _hostext_reply --root= --mark= && _hostext_reply --confext --no-check --no-suid --even-without ;;
+        back | boot) _hostext_reply --even-without ;;
+        status) _hostext_reply --json ;;
+    esac
+    [[ ${COMPREPLY[*]} != *= ]] || _hostext_option -o nospace
 }
 
 # Completes the words of a tool, which tells by its name where something else than a path stands: at ABS of a store, and at RES of a
@@ -346,8 +367,14 @@ _hostext_tool() {
         _hostext_reply folder tar layer oci docker deb squashfs erofs disk
     elif [[ $last == --@(mtime|image|most-bytes|jobs) ]]; then
         return
+    elif [[ $tool == activate && ${words[-1]} == -* && ${#places[@]} -gt 1 ]]; then
+        _hostext_activate_options
     elif [[ ${words[-1]} == -* ]]; then
         _hostext_tool_options "$tool"
+    elif [[ $tool:${#places[@]} == activate:1 ]]; then
+        _hostext_reply make mount umount switch back off status boot
+    elif [[ $tool == activate && ${#places[@]} -gt 1 ]]; then
+        [[ ${places[1]} != @(mount|umount) || ${#places[@]} -gt 2 ]] || _hostext_option -o dirnames
     elif [[ $tool:${#places[@]} == unpack:1 ]]; then
         words=("${words[0]%-unpack}" "${places[0]}" . "${words[-1]}")
         _hostext_paths d
@@ -362,4 +389,4 @@ _hostext_tool() {
 complete -F _hostext hostext
 complete -F _hostext_publish hostext_publish
 complete -F _hostext_erofs hostext_erofs
-complete -F _hostext_tool hostext-{unpack,image-from-packages,pack,fetch,tree-text,update}
+complete -F _hostext_tool hostext-{activate,unpack,image-from-packages,pack,fetch,tree-text,update}

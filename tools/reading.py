@@ -19,17 +19,17 @@ SIDE_BY_SIDE = max(2, min(8, os.cpu_count() or 1))
 LINES, LINES_AT_ONCE = "lines", 8_192
 
 
-def program():
-    """The file that is run for hostext. What is told while it is built goes to standard error."""
-    named = os.environ.get("HOSTEXT")
+def program(name="hostext"):
+    """The file that is run for a program. What is told while it is built goes to standard error."""
+    named = os.environ.get(name.upper())
     if named:
         return named
     here = os.path.dirname(os.path.realpath(__file__))
     finder = os.path.join(here, "program")
     if not os.path.exists(finder):
         # tools/install puts this module into lib/hostext
-        return os.path.join(os.path.dirname(os.path.dirname(here)), "bin/hostext")
-    found = subprocess.run([finder, "hostext"], stdout=subprocess.PIPE)
+        return os.path.join(os.path.dirname(os.path.dirname(here)), "bin", name)
+    found = subprocess.run([finder, name], stdout=subprocess.PIPE)
     if found.returncode:
         raise Refused("there is no program to read the store with")
     return found.stdout.rstrip(b"\n")

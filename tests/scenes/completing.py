@@ -251,6 +251,7 @@ def options_and_marks_of_erofs_images_are_offered(place, folder):
         ("hostext_erofs s --m", ["--mark="]),
         ("hostext_erofs s --mark=", ["2", "3"]),
         ("hostext_erofs s --mark=3", ["3"]),
+        *((f"hostext-activate s {words} --mark=", ["2", "3"]) for words in ("make", "mount", "switch --confext")),
         ("hostext_erofs s --mark=3 ", ["--time="]),
         *((f"hostext_erofs {words}", []) for words in ("s --time=1 ", "s --time=", "s --mark=2 --mark=", "s --mark=2 --time=1 ", "gone --mark=")),
     )
@@ -337,6 +338,19 @@ def formats_of_pack():
     return re.search(r"^  --format \{([a-z,]+)\}", shown, re.M)[1].split(",")
 
 
+# The options of each command of hostext-activate, in order.
+COMMANDS_OF_ACTIVATE = {
+    "make": ["--mark=", "--no-check"],
+    "mount": ["--mark=", "--no-check", "--no-suid", "--path="],
+    "umount": [],
+    "switch": ["--confext", "--even-without", "--mark=", "--no-check", "--no-suid", "--root="],
+    "back": ["--even-without"],
+    "off": [],
+    "status": ["--json"],
+    "boot": ["--even-without"],
+}
+
+
 def options_and_places_of_tools_are_offered(place, folder):
     offered(
         folder,
@@ -349,6 +363,9 @@ def options_and_places_of_tools_are_offered(place, folder):
         *((f"hostext-pack {words} im", ["images"]) for words in ("x d", "--layers - d", "--format tar --image a --most-bytes 5 --without b x d")),
         *((f"hostext-pack {words}", []) for words in ("im", "x im", "x d images/x im", "--image ", "--most-bytes ", "--without im")),
         ("hostext-pack --format ", formats_of_pack()),
+        *(("hostext-activate -", ["--help"]), ("hostext-activate s ", sorted(COMMANDS_OF_ACTIVATE)), ("hostext-activate s swi", ["switch"])),
+        *((f"hostext-activate s {command} -", options) for command, options in COMMANDS_OF_ACTIVATE.items()),
+        *((f"hostext-activate s {words}", []) for words in ("make ", "status ", "umount /x ")),
         ("hostext-pack --strict --format s", ["squashfs"]),
     )
 

@@ -12,7 +12,7 @@ from scenes.running import SECONDS, TOP, Failed, Skipped, expect, imager, named,
 from scenes.stores import digest
 from scenes.tools import limited_to
 
-TOOLS = "fetch", "image-from-packages", "pack", "tree-text", "unpack", "update"
+TOOLS = "activate", "fetch", "image-from-packages", "pack", "tree-text", "unpack", "update"
 RECORD = "share/hostext/installed"
 
 
