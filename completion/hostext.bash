@@ -325,6 +325,7 @@ _hostext_tool_options() {
         image-from-packages) _hostext_reply --release --confext --root-owned --public --quiet --help ;;
         pack) _hostext_reply --format --image --layers --most-bytes --without --leave-out-special --usr-merge --keep-owners --root-owned --strict --public --quiet --help ;;
         fetch) _hostext_reply --keyring --allow-older --public --quiet --jobs --help ;;
+        tend) _hostext_reply --root --help ;;
         tree-text) _hostext_reply --keep-owners --root-owned --quiet --help ;;
         update) _hostext_reply --help ;;
     esac
@@ -358,10 +359,10 @@ _hostext_tool() {
     _hostext_split
     tool=${words[0]##*hostext-}
     for word in "${words[@]:1:${#words[@]}-2}"; do
-        [[ $last == --@(erofs|squashfs|mtime|release|format|image|most-bytes|without|keyring|jobs) || $word == -?* ]] || places+=("$word")
+        [[ $last == --@(erofs|squashfs|mtime|release|format|image|most-bytes|without|keyring|jobs|root) || $word == -?* ]] || places+=("$word")
         last=$word
     done
-    if [[ $last == --@(erofs|squashfs|release|without|keyring) ]]; then
+    if [[ $last == --@(erofs|squashfs|release|without|keyring|root) ]]; then
         _hostext_option -o default
     elif [[ $last == --format ]]; then
         _hostext_reply folder tar layer oci docker deb squashfs erofs disk
@@ -378,6 +379,8 @@ _hostext_tool() {
     elif [[ $tool:${#places[@]} == unpack:1 ]]; then
         words=("${words[0]%-unpack}" "${places[0]}" . "${words[-1]}")
         _hostext_paths d
+    elif [[ $tool:${#places[@]} == tend:1 ]]; then
+        _hostext_reply settings fetch update switch health
     elif [[ $tool:${#places[@]} == @(image-from-packages:1|pack:2) ]]; then
         words=("${words[0]}" . "${places[-1]}" "${words[-1]}")
         _hostext_publish_folders
@@ -389,4 +392,4 @@ _hostext_tool() {
 complete -F _hostext hostext
 complete -F _hostext_publish hostext_publish
 complete -F _hostext_erofs hostext_erofs
-complete -F _hostext_tool hostext-{activate,unpack,image-from-packages,pack,fetch,tree-text,update}
+complete -F _hostext_tool hostext-{activate,unpack,image-from-packages,pack,fetch,tend,tree-text,update}

@@ -338,6 +338,12 @@ def formats_of_pack():
     return re.search(r"^  --format \{([a-z,]+)\}", shown, re.M)[1].split(",")
 
 
+def commands_of_tend():
+    """The commands that the help of hostext-tend lists."""
+    shown = subprocess.run([TOP / "tools/tend", "--help"], stdout=subprocess.PIPE, check=True, timeout=SECONDS).stdout.decode()
+    return re.search(r"^  \{([a-z,]+)\}", shown, re.M)[1].split(",")
+
+
 # The options of each command of hostext-activate, in order.
 COMMANDS_OF_ACTIVATE = {
     "make": ["--mark=", "--no-check"],
@@ -354,7 +360,7 @@ COMMANDS_OF_ACTIVATE = {
 def options_and_places_of_tools_are_offered(place, folder):
     offered(
         folder,
-        *((f"hostext-{name} -", options_of(name)) for name in ("fetch", "image-from-packages", "pack", "tree-text", "unpack", "update")),
+        *((f"hostext-{name} -", options_of(name)) for name in ("fetch", "image-from-packages", "pack", "tend", "tree-text", "unpack", "update")),
         *((f"hostext-unpack {words} /us", ["/usr"]) for words in ("s", "--tar s", "--erofs x s", "--mtime 5 --quiet s", "--keep-setid --squashfs 'a b' s")),
         ("hostext-unpack s /usr/s", ["/usr/sub"]),
         *((f"hostext-unpack {words}", []) for words in ("--erofs ", "--mtime ", "s /usr /us", "gone /us", "/us")),
@@ -363,6 +369,8 @@ def options_and_places_of_tools_are_offered(place, folder):
         *((f"hostext-pack {words} im", ["images"]) for words in ("x d", "--layers - d", "--format tar --image a --most-bytes 5 --without b x d")),
         *((f"hostext-pack {words}", []) for words in ("im", "x im", "x d images/x im", "--image ", "--most-bytes ", "--without im")),
         ("hostext-pack --format ", formats_of_pack()),
+        *((f"hostext-tend {words}", commands_of_tend()) for words in ("s ", "--root /r s ")),
+        ("hostext-tend s sw", ["switch"]),
         *(("hostext-activate -", ["--help"]), ("hostext-activate s ", sorted(COMMANDS_OF_ACTIVATE)), ("hostext-activate s swi", ["switch"])),
         *((f"hostext-activate s {command} -", options) for command, options in COMMANDS_OF_ACTIVATE.items()),
         *((f"hostext-activate s {words}", []) for words in ("make ", "status ", "umount /x ")),

@@ -37,7 +37,7 @@ within dpkg --install --force-depends /tmp/hostext.deb >&2
 within hostext --version
 within hostext . . compare 1 2
 if within dpkg --status python3 >/dev/null 2>&1; then
-    for tool in activate fetch pack tree-text unpack update; do within "hostext-$tool" --help >/dev/null; done
+    for tool in activate fetch pack tend tree-text unpack update; do within "hostext-$tool" --help >/dev/null; done
 fi
 within dpkg --purge hostext >&2
 rm "$root/tmp/hostext.deb"

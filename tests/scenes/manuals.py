@@ -14,7 +14,7 @@ from scenes.sessions import commands_of, follow
 
 COMMANDS, FORMATS, PUBLISHING, EROFS = "man/hostext.1", "man/hostext-formats.5", "man/hostext_publish.1", "man/hostext_erofs.1"
 # The tools that have a page, by their names in tools.
-TOOLS = "activate", "image-from-packages", "pack", "tree-text", "unpack"
+TOOLS = "activate", "image-from-packages", "pack", "tend", "tree-text", "unpack"
 RULES = "docs/FORMATS.md"
 MACRO = re.compile(r"[A-Z][a-z]")
 DELIMITERS = ",", ".", ";", ":"
@@ -383,7 +383,7 @@ def each_option_of_a_tool_is_in_its_manual_and_no_other(_program):
 
 
 def an_option_that_the_manual_of_a_tool_lacks_is_missed(_program):
-    for name, begin in ("activate", ".It Fl -even"), ("activate", ".It Ev HOSTEXT_LOCK"), ("pack", ".It Fl -public"), ("unpack", ".It Fl -keep"), ("unpack", ".It Fl -squashfs"), ("unpack", ".It Ev TMPDIR"), ("image-from-packages", ".It Fl -confext"), ("tree-text", ".It Fl -quiet"), ("unpack", ".It Ev HOSTEXT\n"):
+    for name, begin in ("activate", ".It Fl -even"), ("activate", ".It Ev HOSTEXT_LOCK"), ("pack", ".It Fl -public"), ("unpack", ".It Fl -keep"), ("unpack", ".It Fl -squashfs"), ("unpack", ".It Ev TMPDIR"), ("image-from-packages", ".It Fl -confext"), ("tree-text", ".It Fl -quiet"), ("tend", ".It Fl -root"), ("tend", ".It Ev HOSTEXT_ACTIVATE"), ("unpack", ".It Ev HOSTEXT\n"):
         is_missed(lambda sources: check_tool(sources, name), f"man/hostext-{name}.1", begin)
 
 

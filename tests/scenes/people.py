@@ -12,7 +12,7 @@ from scenes.running import SECONDS, TOP, Failed, Skipped, expect, imager, named,
 from scenes.stores import digest
 from scenes.tools import limited_to
 
-TOOLS = "activate", "fetch", "image-from-packages", "pack", "tree-text", "unpack", "update"
+TOOLS = "activate", "fetch", "image-from-packages", "pack", "tend", "tree-text", "unpack", "update"
 RECORD = "share/hostext/installed"
 
 
@@ -282,9 +282,10 @@ def a_package_is_written_below_its_folder(program, folder):
         raise Failed(f"there stand {sorted(stands(folder))}")
     for unit in (place / "lib/systemd/system").glob("*.service"):
         starts = [line for line in unit.read_text().splitlines() if line.startswith("ExecStart=")]
-        program_of_it = "hostext" if unit.name.startswith("hostext-check@") else "hostext-update"
-        if len(starts) != 1 or f":/usr/local/bin/{program_of_it} " not in starts[0]:
-            raise Failed(f"{unit.name} starts {starts}")
+        others = [line for line in unit.read_text().splitlines() if re.match("Exec.*/usr/bin/", line)]
+        program_of_it = {"check": "hostext", "activate": "hostext-activate"}.get(re.match(r"hostext-(\w+)@", unit.name)[1], "hostext-tend")
+        if others or len(starts) != 1 or f":/usr/local/bin/{program_of_it} " not in starts[0]:
+            raise Failed(f"{unit.name} starts {starts} and {others}")
     expect(install(program, "--remove", f"DESTDIR={folder}/package", "/usr/local"), DONE)
     if os.listdir(folder):
         raise Failed(f"there stand {sorted(stands(folder))}")

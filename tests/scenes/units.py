@@ -1,5 +1,5 @@
-"""The units that check and update a store each day: what systemd-analyze(1) says of them as they are installed, and that their
-commands need nothing that they keep from them. No manager starts them here."""
+"""The units that check, update and show a store: what systemd-analyze(1) says of them as they are installed, and that their commands need
+nothing that they keep from them. No manager starts them here."""
 import os
 import re
 import shutil
@@ -12,13 +12,22 @@ from scenes.installing import begin, offer
 from scenes.installing import TOOL as TRANSFER
 from scenes.people import DONE, in_a_folder, install
 from scenes.running import SECONDS, TOP, Failed, Skipped, expect, named, shortened
+from scenes.serving import serving
 from scenes.stores import DONE as WROTE_DONE
 from scenes.stores import HOST, in_a_place
+from scenes.tending import Host, escaped
 from scenes.uses import tree_of
 
 CHECK, UPDATE = "hostext-check@", "hostext-update@"
+FETCH, SWITCH, HEALTH, ACTIVATE = "hostext-fetch@", "hostext-switch@", "hostext-health@", "hostext-activate@"
+# The program that each starts, and those that have a timer.
+STARTED = {CHECK: "hostext", UPDATE: "hostext-tend", FETCH: "hostext-tend", SWITCH: "hostext-tend", HEALTH: "hostext-tend", ACTIVATE: "hostext-activate"}
+TIMED = CHECK, UPDATE
 UNITS = "lib/systemd/system"
-MOST_EXPOSURE = 2.0
+# How far the units are exposed at most that are kept from most. One that mounts where all see it can't be kept from that.
+MOST_EXPOSURE = {CHECK: 2.0, UPDATE: 2.0, FETCH: 2.0, SWITCH: 5.0}
+# What makes a namespace of mounts, in which nobody else would see what is mounted.
+MOUNTS = re.compile(r"(Private(Devices|IPC|Mounts|Tmp|Users)|Protect\w+|ProcSubset|(ReadWrite|ReadOnly|Inaccessible|Exec|NoExec)Paths|Bind\w*Paths|Temporary\w+|Root\w+|Mount\w+|DynamicUser|\w+Credential\w*|LogNamespace|Extension\w+)")
 
 
 def analyze(*words):
@@ -34,7 +43,12 @@ def verified(root, *units):
 
 
 def instances(name, escaped):
-    return f"{name}{escaped}.service", f"{name}{escaped}.timer"
+    return [f"{name}{escaped}.{kind}" for kind in ("service", "timer")[: 1 + (name in TIMED)]]
+
+
+def standing():
+    """The units whose program this repository has."""
+    return [name for name, program in STARTED.items() if (TOP / "tools" / program.removeprefix("hostext-")).exists() or program == "hostext"]
 
 
 def systemd_has_nothing_to_say_of_the_units(program, folder):
@@ -46,25 +60,30 @@ def systemd_has_nothing_to_say_of_the_units(program, folder):
         if prefix != "/usr":
             shutil.copytree(f"{root}{prefix}/{UNITS}", units)
         for escaped in "srv-host", "srv-a\\x20b", "-":
-            for name in CHECK, UPDATE:
+            for name in standing():
                 if (found := verified(root, *instances(name, escaped))) != ("", 0):
                     raise Failed(f"with {prefix} it says {shortened(found)}")
-        for name, program_of_it in (CHECK, "hostext"), (UPDATE, "hostext-update"):
+        for program_of_it in set(map(STARTED.get, standing())):
             Path(f"{root}{prefix}/bin/{program_of_it}").rename(root / "gone")
-            if "not executable" not in verified(root, instances(name, "srv-host")[0])[0]:
-                raise Failed(f"with {prefix} the program isn't looked for")
+            for name in (name for name in standing() if STARTED[name] == program_of_it):
+                if "not executable" not in verified(root, instances(name, "srv-host")[0])[0]:
+                    raise Failed(f"with {prefix} the program of {name} isn't looked for")
 
 
 def what_they_may_reach_is_little(program, folder):
-    for name in CHECK, UPDATE:
+    for name, most in MOST_EXPOSURE.items():
         unit = folder / f"{name}.service"
         shutil.copy(TOP / "systemd" / unit.name, unit)
         said = analyze("security", "--offline=yes", "--no-pager", unit).stdout.decode()
         found = re.search(r"Overall exposure level for \S+: ([\d.]+)", said)
         if not found:
             raise Skipped("this systemd-analyze has no look at files")
-        if float(found[1]) > MOST_EXPOSURE:
+        if float(found[1]) > most:
             raise Failed(f"the exposure of {unit.name} is {found[1]}")
+
+
+# With it systemd refuses each openat2(2), by which a tool opens what it mounts at.
+BARS_OPENAT2 = "RestrictSUIDSGID"
 
 
 def settings(text):
@@ -86,16 +105,47 @@ def the_units_say_what_is_promised(_program):
     }
     check = {**both, "ExecStart": [":/usr/bin/hostext /%I . check"], "ReadWritePaths": None}
     update = {
-        **{**both, "ExecStart": [":/usr/bin/hostext-update /%I ."]},
-        **{"ReadWritePaths": ["/%I"], "WorkingDirectory": ["/%I.depot"]},
+        **{**both, "ExecStart": [":/usr/bin/hostext-tend /%I update %t/hostext-update/%i"], "ReadWritePaths": ["/%I"]},
+        **{"ExecStartPre": ["+:/usr/bin/hostext-tend /%I settings %t/hostext-update/%i"], "RuntimeDirectory": ["hostext-update/%i"]},
+        **{"Wants": ["hostext-fetch@%i.service"], "After": ["hostext-fetch@%i.service"], "OnSuccess": ["hostext-switch@%i.service"]},
     }
-    for name, wanted in (CHECK, check), (UPDATE, update):
-        service, timer = unit_of(name), unit_of(name, "timer")
+    fetch = {
+        **{"ExecStart": [":/usr/bin/hostext-tend /%I fetch %t/hostext-fetch/%i"], "RuntimeDirectory": ["hostext-fetch/%i"], "RuntimeDirectoryMode": ["0700"]},
+        **{"ExecStartPre": ["+:/usr/bin/hostext-tend /%I settings %t/hostext-fetch/%i"], "StateDirectory": ["hostext/%i"], "DynamicUser": ["yes"]},
+        **{"InaccessiblePaths": ["-/%I"], "CapabilityBoundingSet": [""], "PrivateNetwork": None, "ReadWritePaths": None},
+    }
+    switch = {"ExecStart": [":/usr/bin/hostext-tend /%I switch"], "OnSuccess": ["hostext-health@%i.service"], "ConditionPathExists": ["/%I/active/now"]}
+    health = {"ExecStart": [":/usr/bin/hostext-tend /%I health"], "WantedBy": ["multi-user.target"]}
+    for name, wanted in (CHECK, check), (UPDATE, update), (FETCH, fetch), (SWITCH, switch), (HEALTH, health):
+        service = unit_of(name)
         for key, values in wanted.items():
             if service.get(key) != values:
                 raise Failed(f"{key} of {name} is {service.get(key)}, and not {values}")
+    for name in TIMED:
+        timer = unit_of(name, "timer")
         if timer["OnCalendar"] != ["daily"] or not timer.get("RandomizedDelaySec"):
             raise Failed(f"the timer of {name} has {timer}")
+
+
+def what_is_shown_at_boot_stands_before_units_look_at_it(_program):
+    """It is ordered as systemd-sysext.service is, in systemd's own repository."""
+    unit = unit_of(ACTIVATE)
+    wanted = {
+        **{"DefaultDependencies": ["no"], "After": ["local-fs.target"], "RequiresMountsFor": ["/%I"], "WantedBy": ["sysinit.target"]},
+        **{"Before": ["sysinit.target systemd-tmpfiles-setup.service", "shutdown.target initrd-switch-root.target"]},
+        **{"Conflicts": ["shutdown.target initrd-switch-root.target"], "RemainAfterExit": ["yes"], "ExecStop": None},
+        **{"ExecStart": [":/usr/bin/hostext-activate /%I boot"], "ExecReload": [":/usr/bin/hostext-tend /%I switch"]},
+    }
+    if found := {key: unit.get(key) for key, values in wanted.items() if unit.get(key) != values}:
+        raise Failed(f"it has {found}")
+
+
+def what_mounts_has_no_mounts_of_its_own(_program):
+    for name in SWITCH, HEALTH, ACTIVATE:
+        if found := [key for key in unit_of(name) if MOUNTS.fullmatch(key) or key == BARS_OPENAT2]:
+            raise Failed(f"{name} has {found}")
+    if not any(MOUNTS.fullmatch(key) for key in unit_of(UPDATE)):
+        raise Failed("no such key is known")
 
 
 def calls_of(name, sets):
@@ -118,19 +168,36 @@ def allowed_calls(name):
 
 def words_of(place, start):
     """A command of a unit over a store, with the program or the tool that it names."""
-    named = {":/usr/bin/hostext": place.program, ":/usr/bin/hostext-update": TOP / "tools/update"}
+    named = {":/usr/bin/hostext": place.program, ":/usr/bin/hostext-tend": TOP / "tools/tend"}
     first, *others = start.split()
-    return [named[first], *(str(place.store) if word == "/%I" else word for word in others)]
+    copy = place.store.with_name("copy")
+    given = {"/%I": place.store, "%t/hostext-update/%i": copy, "%t/hostext-fetch/%i": copy}
+    if not copy.exists():
+        put_settings(place, f"Depot={place.depot}")
+    return [named[first], *(str(given.get(word, word)) for word in others)]
 
 
-def started(place, name):
-    """The lines of strace of the commands that a unit starts one after another, over a store and a depot, with what they write."""
+def put_settings(place, *lines):
+    """What a host says of the store, for a command of a unit to read: these lines, and its health checks if it has some."""
+    root, copy = place.store.with_name("root"), place.store.with_name("copy")
+    own = root / "etc/hostext"
+    own.mkdir(parents=True, exist_ok=True)
+    (own / f"{escaped(place.store)}.conf").write_text("".join(f"{line}\n" for line in ("[Store]", *lines)))
+    copy.mkdir()
+    words = [TOP / "tools/tend", "--root", root, place.store, "settings", copy]
+    expect((subprocess.run(words, stdin=subprocess.DEVNULL, timeout=SECONDS).returncode,), (0,))
+
+
+def started(place, name, *options):
+    """The lines of strace of the commands that a unit starts one after another, over a store and a depot, with what they write. A tool may
+    get options before its other words."""
     if not shutil.which("strace"):
         raise Skipped("there is no strace")
     told, lines, written = place.store.with_name("calls"), [], b""
     for start in unit_of(name)["ExecStart"]:
         around = {**os.environ, "HOSTEXT": str(place.program), "HOSTEXT_EXPLAIN": "yes"}
-        ended = subprocess.run(["strace", "-f", "-qq", "-y", "-o", told, *words_of(place, start)], env=around, cwd=place.depot, capture_output=True, timeout=SECONDS)
+        first, *others = words_of(place, start)
+        ended = subprocess.run(["strace", "-f", "-qq", "-y", "-o", told, first, *options, *others], env=around, cwd=place.depot, capture_output=True, timeout=SECONDS)
         if b"ptrace" in ended.stderr.lower():
             raise Skipped("strace may not trace here")
         expect((b"", ended.stderr, ended.returncode), (b"", b"", 0))
@@ -163,9 +230,36 @@ def an_update_makes_no_call_that_its_unit_refuses(place):
         if version == 1:
             place.expect(("sysext merge", b"merged 1\ntool-1\n"))
         writes = [line for line in lines if re.search(r"O_WRONLY|O_RDWR|O_CREAT|(?:mkdir|rename|unlink|rmdir)\w*\(", line)]
-        outside = [line for line in writes if f'"{place.store}/' not in line and f"<{place.store}/" not in line]
-        if outside or not writes:
-            raise Failed(f"it writes outside of the store: {shortened(outside)}")
+        check_writes(place, writes)
+
+
+def check_writes(place, writes):
+    known = f'"{place.store}/', f"<{place.store}/", f"<{place.store}>", '"/dev/null"'
+    outside = [line for line in writes if not any(path in line for path in known)]
+    if outside or not writes:
+        raise Failed(f"it writes outside of the store: {shortened(outside)}")
+
+
+def an_update_with_health_checks_makes_no_call_that_its_unit_refuses(place):
+    Host(place)
+    offer(place, 1, 2)
+    lines, written = started(place, UPDATE)
+    expect((written,), (b"marked 4\nupdated 2\nmerged 2\ntool-1\ntool-2\n",))
+    check_writes(place, [line for line in lines if re.search(r"O_WRONLY|O_RDWR|O_CREAT|(?:mkdir|rename|unlink|rmdir)\w*\(", line)])
+
+
+def a_fetch_makes_no_call_that_its_unit_refuses(place):
+    """It opens nothing of the store. What it brings goes into the depot, which stands elsewhere here."""
+    offer(place, 1, 2)
+    with serving(place.depot) as served:
+        put_settings(place, f"URL={served.url}/images", "Unsigned=yes")
+        there = place.store.with_name("there")
+        lines, written = started(place, FETCH, "--root", there)
+    expect((written,), (b"",))
+    if found := [line for line in lines if f'"{place.store}' in line and "execve(" not in line]:
+        raise Failed(f"it opens of the store: {shortened(found)}")
+    if not (there / "var/lib/hostext" / escaped(place.store) / "SHA256SUMS").exists():
+        raise Failed("nothing has come")
 
 
 def in_turn(place):
@@ -264,8 +358,9 @@ def update_of(program, *words):
 
 scenes = named(
     *map(in_a_folder, (systemd_has_nothing_to_say_of_the_units, what_they_may_reach_is_little)),
-    the_units_say_what_is_promised,
+    *(the_units_say_what_is_promised, what_is_shown_at_boot_stands_before_units_look_at_it, what_mounts_has_no_mounts_of_its_own),
     *map(in_a_place, (a_check_makes_no_call_that_its_unit_refuses, an_update_makes_no_call_that_its_unit_refuses)),
+    *map(in_a_place, (an_update_with_health_checks_makes_no_call_that_its_unit_refuses, a_fetch_makes_no_call_that_its_unit_refuses)),
     *map(in_a_place, (three_runs_without_a_new_version_make_no_generation, what_was_unmerged_is_not_merged_by_an_update)),
     *map(in_a_place, (after_an_update_that_was_refused_the_next_one_does_all, the_tool_that_updates_ends_with_the_first_status_that_is_not_0)),
     *map(in_a_place, (the_tool_that_updates_is_ended_between_two_commands,)),
