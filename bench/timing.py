@@ -10,14 +10,14 @@ began = time.monotonic()
 quiet = [(os.POSIX_SPAWN_OPEN, 1, os.devnull, os.O_WRONLY, 0)]
 child = os.posix_spawnp(sys.argv[1], sys.argv[1:], os.environ, file_actions=quiet)
 _, status, usage = os.wait4(child, 0)
-print(status, time.monotonic() - began, usage.ru_maxrss)
+print(status, time.monotonic() - began, usage.ru_utime + usage.ru_stime, usage.ru_maxrss)
 """
 
 
-def timed(words, **options):
-    """The seconds that a command takes whose output goes nowhere, and the peak of its memory in MiB."""
+def timed(words, by_processor=False, **options):
+    """The seconds that a command takes whose output goes nowhere, of the clock or of the processor, and the peak of its memory in MiB."""
     starter = [sys.executable, "-I", "-S", "-c", STARTER, *(os.fspath(word) for word in words)]
-    status, seconds, peak = subprocess.run(starter, stdout=subprocess.PIPE, check=True, **options).stdout.split()
+    status, by_clock, busy, peak = subprocess.run(starter, stdout=subprocess.PIPE, check=True, **options).stdout.split()
     if int(status):
         sys.exit(f"{words} ended with {os.waitstatus_to_exitcode(int(status))}")
-    return float(seconds), int(peak) / 1024
+    return float(busy if by_processor else by_clock), int(peak) / 1024

@@ -16,13 +16,13 @@ from contextlib import contextmanager
 from typing import NamedTuple
 
 import notes
+from asking import MOST_GENERATION
 from entries import FOLDER_ONLY, Refused, shown
 
 ACTIVE, LINKS = "active", "files"
 MODE = 0o700
 NOW, BEFORE = "now", "before"
 OTHERS_WRITE = stat.S_IWGRP | stat.S_IWOTH
-MOST_GENERATION = 4_294_967_295
 ROOT = "/"
 
 

@@ -25,7 +25,7 @@ LOOP_CONFIGURE, LOOP_CTL_GET_FREE = 0x4C0A, 0x4C82
 LO_FLAGS = 1 | 4
 TRIES = 100
 MOST_TOLD = 65_536
-# Names of generations that are shown, and of those that are mounted at a folder.
+# What the sources of mounts have of generations that are shown, and of those that are mounted at a folder.
 SHOWN, AT = b"g", b"at"
 SOURCE = re.compile(rb"hostext-(g|at)-([1-9][0-9]{0,9})-([0-9a-f]+-[0-9a-f]+)")
 ESCAPED = re.compile(rb"\\([0-7]{3})")
