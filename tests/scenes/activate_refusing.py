@@ -396,11 +396,28 @@ def a_host_that_shows_itself_goes_on(place, root):
     run("switch", "--even-without", says=b"shown 10\n/opt\n/usr\n")
 
 
-def fill(host, place):
-    """A root with what the tool needs to run."""
+def library_of_python():
+    """The library of the Python that runs this, which a root has at the same path."""
     library = Path(sysconfig.get_paths()["stdlib"])
     if library.parent != Path("/usr/lib"):
         raise Skipped(f"the Python that runs this has its library in {library}, and not below /usr/lib")
+    return library
+
+
+def with_a_library(scene):
+    """The scene where a root can have the Python that runs this."""
+
+    def checked(program):
+        library_of_python()
+        scene(program)
+
+    checked.__name__ = scene.__name__
+    return checked
+
+
+def fill(host, place):
+    """A root with what the tool needs to run."""
+    library = library_of_python()
     for name in "usr/bin", "usr/lib", "opt", "etc", "dev", "tmp", "usr/lib/hostext", "usr/lib64":
         (host / name).mkdir(parents=True, exist_ok=True)
     for name in "bin", "lib", "lib64":
@@ -440,6 +457,7 @@ CALLS = [
     *(a_second_root_is_refused, what_another_store_shows_is_left_alone, no_link_leads_to_a_target, no_link_of_a_tree_leads_a_path_elsewhere),
     *(a_folder_active_of_somebody_else_is_refused, links_in_active_lead_nowhere, another_user_reads_what_the_modes_let_it),
     *(setuid_counts_but_for_an_option, a_damaged_file_is_not_made, a_store_without_a_host_is_told, another_store_in_its_place_is_made_anew),
-    *(no_index_ends_it_with_a_traceback, a_host_that_shows_itself_goes_on),
+    no_index_ends_it_with_a_traceback,
 ]
-scenes = named(*map(in_a_memory, CALLS), *map(in_a_place, (who_may_not_mount_is_told_so, hostext_leaves_active_alone)))
+OF_A_HOST = with_a_library(in_a_memory(a_host_that_shows_itself_goes_on))
+scenes = named(*map(in_a_memory, CALLS), OF_A_HOST, *map(in_a_place, (who_may_not_mount_is_told_so, hostext_leaves_active_alone)))
